@@ -1,0 +1,2 @@
+pub mod LogicLaws
+pub mod TextLaws

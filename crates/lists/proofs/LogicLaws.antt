@@ -1,0 +1,31 @@
+-- Laws of tests. Assumes nothing.
+use mathlib.Core.Path.{_≡_, refl}
+use mathlib.Core.Bool.{Bool, true, false}
+use Prim.Native.Nat.{ℕ, _<_, _≤_}
+use native.Mathlib.Omega.{arith}
+use borrow.Author.Tests.{le-leb, lt-leb, leb-true}
+use lib.Dec.{leb}
+use Rattle.lists.specs.Logic.{both, within}
+
+pub both-false : (a : Bool) → both a false ≡ false
+both-false true = refl
+both-false false = refl
+
+pub both-true : (a b : Bool) → both a b ≡ true → (a ≡ true) × (b ≡ true)
+both-true true b e = (refl, e)
+both-true false b e = absurd (let z : _≡_ {A = ℕ} 0 1 = cc in omega arith)
+
+module _ (lo hi x : ℕ) where
+  pub in-range : lo ≤ x → x ≤ hi → within lo hi x ≡ true
+  in-range h k = rw (le-leb lo x h, le-leb x hi k)
+
+  pub below-range : x < lo → within lo hi x ≡ false
+  below-range h = rw (lt-leb lo x h)
+
+  pub above-range : hi < x → within lo hi x ≡ false
+  above-range h = rw (lt-leb x hi h) (both-false (leb lo x))
+
+  pub within-true : within lo hi x ≡ true → (lo ≤ x) × (x ≤ hi)
+  within-true e =
+      let b = both-true (leb lo x) (leb x hi) e in
+      (leb-true lo x (b .0), leb-true x hi (b .1))
