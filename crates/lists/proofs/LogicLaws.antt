@@ -5,7 +5,7 @@ use Prim.Native.Nat.{ℕ, _<_, _≤_}
 use native.Mathlib.Omega.{arith}
 use borrow.Author.Tests.{le-leb, lt-leb, leb-true}
 use lib.Dec.{leb}
-use Rattle.lists.specs.Logic.{both, within}
+use Rattle.lists.specs.Logic.{both, either, within}
 
 pub both-false : (a : Bool) → both a false ≡ false
 both-false true = refl
@@ -29,3 +29,11 @@ module _ (lo hi x : ℕ) where
   within-true e =
       let b = both-true (leb lo x) (leb x hi) e in
       (leb-true lo x (b .0), leb-true x hi (b .1))
+
+pub either-false : (a b : Bool) → either a b ≡ false → (a ≡ false) × (b ≡ false)
+either-false true b e = absurd (let z : _≡_ {A = ℕ} 0 1 = cc in omega arith)
+either-false false b e = (refl, e)
+
+pub either-true : (a : Bool) → either a true ≡ true
+either-true true = refl
+either-true false = refl
