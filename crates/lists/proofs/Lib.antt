@@ -1,2 +1,12 @@
 pub mod LogicLaws
+pub mod EachLaws
 pub mod TextLaws
+pub mod PartLaws
+pub mod OverLaws
+pub mod ReadLaws
+pub mod TurnLaws
+pub mod RowLaws
+pub mod StoreLaws
+pub mod BackLaws
+pub mod BigEndianLaws
+pub mod NumberTurnLaws

@@ -1,2 +1,6 @@
 pub mod Logic
+pub mod Each
 pub mod Text
+pub mod Part
+pub mod Rows
+pub mod BigEndian

@@ -1,0 +1,65 @@
+-- From stored bytes back to rows, and stores one after another. Assumes nothing.
+use mathlib.Core.Path.{_≡_, refl, sym, ap, _∙_}
+use mathlib.Core.List.{List, [], _∷_, _++_, append-assoc, append-nil}
+use Prim.Native.Nat.{ℕ, zero, suc, _+_, _*_, _-_, _≤_}
+use native.Mathlib.Nat.{suc-mul, zero-mul, add-mul, add-comm, mul-le-mul-right}
+use native.Mathlib.Omega.{arith}
+use lib.ListN.{length, drop, replicate, length-append, length-take, length-drop, length-replicate, replicate-append-replicate}
+use lib.Seq.{take-at, drop-at}
+use Rattle.lists.specs.Part.{onto}
+use Rattle.lists.specs.Rows.{rowsOf, flat, store, Wide}
+use Rattle.lists.proofs.OverLaws.{length-onto, onto-split, onto-longer, onto-front}
+
+pub wide-rowsOf : (w n : ℕ) (t : List ℕ) → n * w ≤ length t → Wide w (rowsOf w n t)
+unfolding rowsOf
+wide-rowsOf w zero t h = tt
+wide-rowsOf w (suc n) t h =
+    let k : n * w + w ≤ length t = rw suc-mul at h in
+    (simp length-take (omega arith), wide-rowsOf w n (drop w t) (simp length-drop (omega arith)))
+
+pub length-flat : (w : ℕ) (rs : List (List ℕ)) → Wide w rs → length (flat rs) ≡ length rs * w
+unfolding flat
+length-flat w [] h = sym (zero-mul w)
+length-flat w (r ∷ rs) h = length-append r (flat rs) ∙ ap (λ (n : ℕ). length r + n) (length-flat w rs (h .1)) ∙ rw (suc-mul, h .0) (add-comm w (length rs * w))
+
+pub rowsOf-flat : (w : ℕ) (rs : List (List ℕ)) (z : List ℕ) → Wide w rs → rowsOf w (length rs) (flat rs ++ z) ≡ rs
+unfolding flat rowsOf
+rowsOf-flat w [] z h = refl
+rowsOf-flat w (r ∷ rs) z h = rw (append-assoc r (flat rs) z, take-at r (flat rs ++ z) w (h .0), drop-at r (flat rs ++ z) w (h .0)) (ap (λ (l : List (List ℕ)). r ∷ l) (rowsOf-flat w rs z (h .1)))
+
+-- the rows that were stored are read back
+pub rowsOf-store : (w n : ℕ) (rs : List (List ℕ)) (t : List ℕ) → Wide w rs → length rs * w ≤ length t → rowsOf w (length rs) (store w n rs t) ≡ rs
+unfolding store
+rowsOf-store w n rs t h f =
+    let k : length (flat rs) ≤ length t = rw (length-flat w rs h) f in
+    rw (onto-split (flat rs) (replicate ((n - length rs) * w) 0) t k) (rowsOf-flat w rs _ h)
+
+pub length-store : (w n : ℕ) (rs : List (List ℕ)) (t : List ℕ) → length (store w n rs t) ≡ length t
+unfolding store
+length-store w n rs t = length-onto (flat rs ++ replicate ((n - length rs) * w) 0) t
+
+module _ (w n : ℕ) (rs qs : List (List ℕ)) (t : List ℕ) (hr : Wide w rs) (hq : Wide w qs) where
+  -- where rows only come
+  pub store-grows : n ≤ length rs → length rs ≤ length qs → store w (length rs) qs (store w n rs t) ≡ store w n qs t
+  unfolding store
+  store-grows a b =
+      let x : n - length rs ≡ 0 = omega arith in
+      let y : length rs - length qs ≡ 0 = omega arith in
+      let z : n - length qs ≡ 0 = omega arith in
+      let l : length (flat rs) ≤ length (flat qs) = rw (length-flat w rs hr, length-flat w qs hq) (mul-le-mul-right w b) in
+      rw (x, y, z, zero-mul, append-nil (flat rs), append-nil (flat qs)) (onto-longer (flat rs) (flat qs) t l)
+
+  -- where rows only leave
+  pub store-shrinks : length qs ≤ length rs → length rs ≤ n → store w (length rs) qs (store w n rs t) ≡ store w n qs t
+  unfolding store
+  store-shrinks a b =
+      let p = (length rs - length qs) * w in
+      let q = (n - length rs) * w in
+      let m : p + q ≡ (n - length qs) * w =
+      let e : (length rs - length qs) + (n - length rs) ≡ n - length qs = omega arith in
+      sym (add-mul (length rs - length qs) (n - length rs) w) ∙ ap (λ (k : ℕ). k * w) e in
+      let l : length (flat rs) ≡ length (flat qs ++ replicate p 0) =
+      let e : length qs + (length rs - length qs) ≡ length rs = omega arith in
+      length-flat w rs hr ∙ sym (length-append (flat qs) (replicate p 0) ∙ rw (length-flat w qs hq, length-replicate) (sym (add-mul (length qs) (length rs - length qs) w) ∙ ap (λ (k : ℕ). k * w) e)) in
+      onto-front (flat rs) (flat qs ++ replicate p 0) (replicate q 0) t l
+      ∙ ap (λ (k : List ℕ). onto k t) (append-assoc (flat qs) (replicate p 0) (replicate q 0) ∙ ap (λ (k : List ℕ). flat qs ++ k) (replicate-append-replicate {A = ℕ} p q 0 ∙ ap (λ (k : ℕ). replicate k 0) m))
