@@ -2,13 +2,14 @@
 use mathlib.Core.Path.{_≡_, refl, sym, ap, _∙_}
 use mathlib.Core.List.{List, [], _∷_, _++_, append-assoc, append-nil}
 use Prim.Native.Nat.{ℕ, zero, suc, _+_, _*_, _-_, _≤_}
-use native.Mathlib.Nat.{suc-mul, zero-mul, add-mul, add-comm, mul-le-mul-right}
+use native.Mathlib.Nat.{zero-add, suc-mul, zero-mul, add-mul, add-comm, mul-le-mul-right}
 use native.Mathlib.Omega.{arith}
 use lib.ListN.{length, drop, replicate, length-append, length-take, length-drop, length-replicate, replicate-append-replicate}
 use lib.Seq.{take-at, drop-at}
-use Rattle.lists.specs.Part.{onto}
+use Rattle.lists.specs.Part.{part, onto, over}
 use Rattle.lists.specs.Rows.{rowsOf, flat, store, Wide}
-use Rattle.lists.proofs.OverLaws.{length-onto, onto-split, onto-longer, onto-front}
+use Rattle.lists.proofs.ReadLaws.{drop-behind}
+use Rattle.lists.proofs.OverLaws.{length-onto, onto-fits, onto-split, onto-longer, onto-front}
 
 pub wide-rowsOf : (w n : ℕ) (t : List ℕ) → n * w ≤ length t → Wide w (rowsOf w n t)
 unfolding rowsOf
@@ -37,6 +38,30 @@ rowsOf-store w n rs t h f =
 pub length-store : (w n : ℕ) (rs : List (List ℕ)) (t : List ℕ) → length (store w n rs t) ≡ length t
 unfolding store
 length-store w n rs t = length-onto (flat rs ++ replicate ((n - length rs) * w) 0) t
+
+module _ (w n : ℕ) (rs : List (List ℕ)) (t : List ℕ) (h : Wide w rs) where
+  -- the bytes behind the m rows that were written or cleared keep their contents
+  pub store-behind : (m : ℕ) → n ≤ m → length rs ≤ m → drop (m * w) (store w n rs t) ≡ drop (m * w) t
+  unfolding store over
+  store-behind m a b =
+      let k : length rs + (n - length rs) ≤ m = omega arith in
+      drop-behind (m * w) 0 (flat rs ++ replicate ((n - length rs) * w) 0) t
+      (rw (zero-add, length-append, length-flat w rs h, length-replicate, ← (add-mul (length rs) (n - length rs) w)) (mul-le-mul-right w k))
+
+  -- the rows that are gone are zero
+  pub store-freed : length rs ≤ n → n * w ≤ length t → part (length rs * w) ((n - length rs) * w) (store w n rs t) ≡ replicate ((n - length rs) * w) 0
+  unfolding store part
+  store-freed a b =
+      let l : length (flat rs) ≡ length rs * w = length-flat w rs h in
+      let k = (n - length rs) * w in
+      let e : length rs + (n - length rs) ≡ n = omega arith in
+      let f : length rs * w + k ≡ n * w = sym (add-mul (length rs) (n - length rs) w) ∙ ap (λ (m : ℕ). m * w) e in
+      let zeros = replicate {A = ℕ} k 0 in
+      let d = drop (length (flat rs)) t in
+      let g : length zeros ≤ length d = rw (length-replicate, length-drop) (omega arith) in
+      let o : onto (flat rs ++ zeros) t ≡ flat rs ++ (zeros ++ drop (length zeros) d) =
+      onto-split (flat rs) zeros t (omega arith) ∙ ap (λ (r : List ℕ). flat rs ++ r) (onto-fits zeros d g) in
+      rw (o, drop-at (flat rs) (zeros ++ drop (length zeros) d) (length rs * w) l) (take-at zeros (drop (length zeros) d) k (length-replicate k 0))
 
 module _ (w n : ℕ) (rs qs : List (List ℕ)) (t : List ℕ) (hr : Wide w rs) (hq : Wide w qs) where
   -- where rows only come

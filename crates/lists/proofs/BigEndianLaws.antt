@@ -1,13 +1,19 @@
 -- Laws of numbers as bytes, over any width. Assumes nothing.
 use mathlib.Core.Path.{_≡_, refl, sym, ap, _∙_}
+use mathlib.Core.Bool.{Bool, true, false}
 use mathlib.Core.List.{List, [], _∷_, _++_}
 use Prim.Native.Nat.{ℕ, zero, suc, _+_, _*_, _/_, _%_, _^_, _≤_, _<_}
-use native.Mathlib.Nat.{add-zero, zero-add, zero-mul, suc-mul, add-mul, mul-assoc, mul-comm, mul-le-mul-right, mod-lt, mod-one, mod-eq-of-lt, div-eq-of-lt, div-add-mod', mul-add-div-right, mul-add-mod-self-right, pow-suc, one-le-pow}
+use native.Mathlib.Nat.{add-zero, zero-add, zero-mul, suc-mul, add-mul, mul-assoc, mul-comm, mul-le-mul-right, mod-lt, mod-one, mod-eq-of-lt, div-eq-of-lt, div-add-mod', mul-add-div-right, mul-add-mod-self-right, pow-suc, one-le-pow, le-of-lt, le-antisymm}
 use native.Mathlib.Omega.{arith}
+use borrow.Author.Tests.{lt-ltb, le-ltb, ltb-true, ltb-false}
+use lib.Dec.{ltb}
 use lib.Pow.{pow-add}
 use lib.ListN.{length, length-append}
+use Rattle.lists.specs.Logic.{on}
 use Rattle.lists.specs.Each.{Bytes}
-use Rattle.lists.specs.BigEndian.{number, spelled}
+use Rattle.lists.specs.Part.{part, over}
+use Rattle.lists.specs.BigEndian.{number, spelled, precedes}
+use Rattle.lists.proofs.ReadLaws.{part-written}
 
 power-positive : (w : ℕ) → 0 < 256 ^ w
 power-positive w = one-le-pow w 256 (omega arith)
@@ -119,3 +125,32 @@ module _ (l m : List ℕ) (e : length l ≡ length m) (h : Bytes l) where
 pub number-rest : (l m : List ℕ) (a : ℕ) → length l ≡ length m → number l < number m → number (a ∷ l) < number (a ∷ m)
 unfolding number
 number-rest l m a e h = rw e (omega arith)
+
+ltb-raised : (c x y : ℕ) → ltb (c + x) (c + y) ≡ ltb x y
+ltb-raised c x y = go (ltb x y) refl
+  where
+    go : (t : Bool) → ltb x y ≡ t → ltb (c + x) (c + y) ≡ t
+    go true e = let h = ltb-true x y e in lt-ltb (c + x) (c + y) (omega arith)
+    go false e = let h = ltb-false x y e in le-ltb (c + x) (c + y) (omega arith)
+
+by-first : (x y : ℕ) (l m : List ℕ) → length l ≡ length m → Bytes l → Bytes m → (t u : Bool) → ltb x y ≡ t → ltb y x ≡ u →
+    precedes l m ≡ ltb (number l) (number m) → on t true (on u false (precedes l m)) ≡ ltb (number (x ∷ l)) (number (y ∷ m))
+by-first x y l m e h k true u p q r = sym (lt-ltb _ _ (number-first l m e h x y (ltb-true x y p)))
+by-first x y l m e h k false true p q r = sym (le-ltb _ _ (le-of-lt (number-first m l (sym e) k y x (ltb-true y x q))))
+by-first x y l m e h k false false p q r =
+    let s : x ≡ y = le-antisymm (ltb-false y x q) (ltb-false x y p) in
+    r ∙ sym (rw (s, number-cons y l, number-cons y m, e) (ltb-raised (y * 256 ^ length m) (number l) (number m)))
+
+pub precedes-number : (l m : List ℕ) → length l ≡ length m → Bytes l → Bytes m → precedes l m ≡ ltb (number l) (number m)
+unfolding precedes number
+precedes-number [] [] e h k = refl
+precedes-number [] (y ∷ m) e h k = absurd (omega arith)
+precedes-number (x ∷ l) [] e h k = absurd (omega arith)
+precedes-number (x ∷ l) (y ∷ m) e h k = by-first x y l m (omega arith) (h .1) (k .1) (ltb x y) (ltb y x) refl refl (precedes-number l m (omega arith) (h .1) (k .1))
+
+-- a number that was written is read back
+pub number-written : (at w v : ℕ) (s : List ℕ) → at + w ≤ length s → v < 256 ^ w → number (part at w (over at (spelled w v) s)) ≡ v
+number-written at w v s h k =
+    let l = length-spelled w v in
+    let p : part at w (over at (spelled w v) s) ≡ spelled w v = rw l at (part-written at (spelled w v) s (omega arith)) in
+    ap number p ∙ number-spelled w v k

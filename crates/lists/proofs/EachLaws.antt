@@ -39,3 +39,6 @@ module _ {A : Type 0} (P : A → Type 0) where
 pub bytes-part : (at n : ℕ) (l : List ℕ) → Bytes l → Bytes (part at n l)
 unfolding part
 bytes-part at n l h = each-take (λ (b : ℕ). b < 256) n (drop at l) (each-drop (λ (b : ℕ). b < 256) at l h)
+
+pub bytes-known : (l : List ℕ) → ((i : ℕ) → getD l i 0 < 256) → Bytes l
+bytes-known l f = each-known (λ (b : ℕ). b < 256) l 0 f

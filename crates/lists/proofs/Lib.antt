@@ -10,3 +10,6 @@ pub mod StoreLaws
 pub mod BackLaws
 pub mod BigEndianLaws
 pub mod NumberTurnLaws
+pub mod Promise
+pub mod Determined
+pub mod Claims

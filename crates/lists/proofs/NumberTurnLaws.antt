@@ -6,11 +6,13 @@ use native.Mathlib.Nat.{sub-self, add-zero, div-one, div-div-eq-div-mul, lt-of-l
 use native.Mathlib.Numerals.{add-one}
 use native.Mathlib.Omega.{arith}
 use lib.ListN.{length, getD, set}
+use Rattle.lists.specs.Each.{Bytes}
 use Rattle.lists.specs.Part.{part, over}
 use Rattle.lists.specs.BigEndian.{number, spelled}
-use Rattle.lists.proofs.PartLaws.{part-zero, part-snoc}
+use Rattle.lists.proofs.EachLaws.{bytes-part}
+use Rattle.lists.proofs.PartLaws.{part-zero, part-snoc, length-part}
 use Rattle.lists.proofs.OverLaws.{over-nil, over-cons}
-use Rattle.lists.proofs.BigEndianLaws.{number-nil, number-snoc, spelled-suc, spelled-zero}
+use Rattle.lists.proofs.BigEndianLaws.{number-nil, number-snoc, number-below, spelled-suc, spelled-zero}
 
 -- ---- reading: n is the number of the i bytes passed
 
@@ -20,11 +22,12 @@ read-start at s = sym (ap number (part-zero at s) ∙ number-nil)
 pub read-turn : (at i n : ℕ) (s : List ℕ) → n ≡ number (part at i s) → at + i < length s → n * 256 + getD s (at + i) 0 ≡ number (part at (i + 1) s)
 read-turn at i n s e h = rw (part-snoc at i s h, number-snoc, e)
 
-pub read-below : (i n b : ℕ) → n < 256 ^ i → b < 256 → n * 256 + b < 256 ^ (i + 1)
-read-below i n b h k = rw (add-one, pow-suc) (omega arith)
-
-pub read-fits : (i n : ℕ) → n < 256 ^ i → i ≤ 3 → n < 256 ^ 3
-read-fits i n h k = lt-of-lt-of-le h (pow-le-pow-right {n = 256} (omega arith) k)
+-- up to three bytes leave room for one more in 32 bits
+pub read-fits : (at i n : ℕ) (s : List ℕ) → n ≡ number (part at i s) → Bytes s → at + i ≤ length s → i ≤ 3 → n < 256 ^ 3
+read-fits at i n s e b h k =
+    let l = length-part at i s h in
+    let f : number (part at i s) < 256 ^ i = rw l at (number-below (part at i s) (bytes-part at i s b)) in
+    rw e (lt-of-lt-of-le f (pow-le-pow-right {n = 256} (omega arith) k))
 
 -- ---- writing: i bytes are still to be written, and `rest` is what of v is left for them
 

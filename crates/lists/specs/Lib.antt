@@ -4,3 +4,5 @@ pub mod Text
 pub mod Part
 pub mod Rows
 pub mod BigEndian
+pub mod Claims
+pub mod Cases

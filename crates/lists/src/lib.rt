@@ -64,11 +64,11 @@ pub fn shift_down(s: &mut [u8], a: usize, n: usize, by: usize)
     requires { ⌜ a + by + n ≤ length (now s) ⌝ }
     ensures { λ _. ⌜ now (s .exit) ≡ over a (part (a + by) n (now (s .entry))) (now (s .entry)) ⌝ }
 {
-    let mut i = 0;
-    while i < n {
-        let p = a + i;
+    let mut done = 0;
+    while done < n {
+        let p = a + done;
         s[p] = s[p + by];
-        i += 1;
+        done += 1;
     }
 }
 
@@ -80,7 +80,8 @@ pub fn get_number(s: &[u8], at: usize, w: usize) -> u32
     let mut n: u32 = 0;
     let mut i = 0;
     while i < w {
-        n = n * 256 + s[at + i] as u32;
+        let b = s[at + i] as u32;
+        n = n * 256 + b;
         i += 1;
     }
     n

@@ -11,10 +11,10 @@ use Rattle.lists.proofs.shift_down.Statement.{statement}
 use Rattle.lists.proofs.shift_down.Tie as tie
 
 abbrev Inv-loop : tie.InvT-loop
-Inv-loop s₀ a n by i₀ s i = (i ≤ n) × (length s ≡ length s₀) × (s ≡ over a (part (a + by) i s₀) s₀)
+Inv-loop s₀ a n by done₀ s done = (done ≤ n) × (length s ≡ length s₀) × (s ≡ over a (part (a + by) done s₀) s₀)
 
 abbrev μ-loop : tie.MeasureT-loop
-μ-loop s₀ a n by i₀ s i = n - i
+μ-loop s₀ a n by done₀ s done = n - done
 
 loop-holds : tie.Need-loop-holds Inv-loop μ-loop
 loop-holds c = (search needs, refl, rw part-zero (sym (over-nil _ _)))
@@ -31,14 +31,14 @@ slice-read-s c = search needs
 slice-write-s : tie.Need-slice-write-s Inv-loop μ-loop
 slice-write-s c = search needs
 
-add-i : tie.Need-add-i Inv-loop μ-loop
-add-i c = search needs
+add-done : tie.Need-add-done Inv-loop μ-loop
+add-done c = search needs
 
 loop-less : tie.Need-loop-less Inv-loop μ-loop
 loop-less c = search needs
 
 loop-again : tie.Need-loop-again Inv-loop μ-loop
-loop-again c = let d = c .before .before in let s = d .before .args in (omega arith, simp length-set (d .loop .inv .1), down-turn (s .by) (s .a) (d .loop .i) (s .s .now) (d .loop .s) (d .loop .inv .2) (omega arith))
+loop-again c = let d = c .before .before in let s = d .before .args in (omega arith, simp length-set (d .loop .inv .1), down-turn (s .by) (s .a) (d .loop .done) (s .s .now) (d .loop .s) (d .loop .inv .2) (omega arith))
 
 same-length : tie.Need-same-length Inv-loop μ-loop
 same-length c = search needs
@@ -57,7 +57,7 @@ shift-down-spec =
     add-s
     slice-read-s
     slice-write-s
-    add-i
+    add-done
     loop-less
     loop-again
     same-length
