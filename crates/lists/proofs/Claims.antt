@@ -3,8 +3,7 @@ use Rattle.lists.specs.Claims.{All, SameIsEqual}
 use Rattle.lists.proofs.TextLaws.{same-refl, same-equal}
 use Rattle.lists.proofs.OverLaws.{length-over}
 use Rattle.lists.proofs.ReadLaws.{part-left, part-right, part-written}
-use Rattle.lists.proofs.StoreLaws.{store-same}
-use Rattle.lists.proofs.BackLaws.{rowsOf-store, length-store, store-behind, store-freed}
+use Rattle.lists.proofs.StoreLaws.{store-same, rowsOf-store, length-store, store-behind, store-freed}
 use Rattle.lists.proofs.BigEndianLaws.{length-spelled, bytes-spelled, number-spelled, spelled-number, number-below, number-same, precedes-number}
 
 same-is-equal : SameIsEqual

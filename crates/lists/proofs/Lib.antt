@@ -6,8 +6,9 @@ pub mod OverLaws
 pub mod ReadLaws
 pub mod TurnLaws
 pub mod RowLaws
+pub mod WideLaws
 pub mod StoreLaws
-pub mod BackLaws
+pub mod RowWriteLaws
 pub mod BigEndianLaws
 pub mod NumberTurnLaws
 pub mod Promise

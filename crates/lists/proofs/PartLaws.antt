@@ -8,6 +8,11 @@ use lib.ListN.{length, take, drop, getD, length-take, length-drop}
 use lib.Seq.{drop-cons, take-nil, take-all, take-suc, take-add, take-take, drop-drop, getD-drop, getD-take}
 use Rattle.lists.specs.Part.{part}
 
+-- a part, as `&l[a..e]` is written out
+pub part-is : (at n : ℕ) (l : List ℕ) → part at n l ≡ take n (drop at l)
+unfolding part
+part-is at n l = refl
+
 pub part-zero : (at : ℕ) (l : List ℕ) → part at 0 l ≡ []
 unfolding part
 part-zero at l = refl

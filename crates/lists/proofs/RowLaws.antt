@@ -97,10 +97,25 @@ pub rowsOf-over : (w n i off : ℕ) (vs t : List ℕ) → i < n → off + length
 unfolding rowsOf part
 rowsOf-over w zero i off vs t h k = absurd (not-suc-le-zero h)
 rowsOf-over w (suc n) zero off vs t h k =
-    rw (zero-mul, zero-add) (ap (λ (l : List ℕ). l ∷ rowsOf w n (drop w (over off vs t))) (take-over w off vs t k) ∙ ap (λ (l : List ℕ). over off vs (take w t) ∷ rowsOf w n l) (drop-behind w off vs t k))
+    rw (zero-mul, zero-add)
+    (ap (λ (l : List ℕ). l ∷ rowsOf w n (drop w (over off vs t))) (take-over w off vs t k)
+    ∙ ap (λ (l : List ℕ). over off vs (take w t) ∷ rowsOf w n l) (drop-behind w off vs t k))
 rowsOf-over w (suc n) (suc i) off vs t h k =
     let e : suc i * w + off ≡ w + (i * w + off) = let f = suc-mul i w in omega arith in
     rw e
     (ap (λ (l : List ℕ). l ∷ rowsOf w n (drop w (over (w + (i * w + off)) vs t))) (take-before w (w + (i * w + off)) vs t (omega arith))
     ∙ ap (λ (l : List ℕ). take w t ∷ rowsOf w n l) (drop-over w (i * w + off) vs t)
-    ∙ ap (λ (l : List (List ℕ)). take w t ∷ l) (rowsOf-over w n i off vs (drop w t) (le-of-suc-le-suc h) k ∙ ap (λ (l : List ℕ). set (rowsOf w n (drop w t)) i (over off vs (take w l))) (drop-row w i t)))
+    ∙ ap
+    (λ (l : List (List ℕ)). take w t ∷ l)
+    (rowsOf-over w n i off vs (drop w t) (le-of-suc-le-suc h) k
+    ∙ ap (λ (l : List ℕ). set (rowsOf w n (drop w t)) i (over off vs (take w l))) (drop-row w i t)))
+
+-- a write behind n rows leaves them
+pub rowsOf-behind : (w n at : ℕ) (vs t : List ℕ) → n * w ≤ at → rowsOf w n (over at vs t) ≡ rowsOf w n t
+unfolding rowsOf
+rowsOf-behind w zero at vs t h = refl
+rowsOf-behind w (suc n) at vs t h =
+    let k : n * w + w ≤ at = rw suc-mul at h in
+    let e : at ≡ w + (at - w) = omega arith in
+    let d : drop w (over at vs t) ≡ over (at - w) vs (drop w t) = ap (λ (m : ℕ). drop w (over m vs t)) e ∙ drop-over w (at - w) vs t in
+    rw (take-before w at vs t (omega arith), d) (ap (λ (l : List (List ℕ)). take w t ∷ l) (rowsOf-behind w n (at - w) vs (drop w t) (omega arith)))

@@ -1,83 +1,17 @@
--- The writes of insert_row, remove_row and replace_row, as `store`. Assumes nothing.
+-- Laws of `store`: rows are read back, the rest is kept, and one store after another is one. Assumes nothing.
 use mathlib.Core.Path.{_≡_, sym, ap, _∙_}
 use mathlib.Core.List.{List, _++_, append-assoc, append-nil}
-use Prim.Native.Nat.{ℕ, suc, _+_, _*_, _-_, _≤_, _<_}
-use native.Mathlib.Nat.{suc-mul, zero-mul, one-mul, add-mul, mul-le-mul-right, le-trans}
+use Prim.Native.Nat.{ℕ, _+_, _*_, _-_, _≤_}
+use native.Mathlib.Nat.{zero-add, zero-mul, add-mul, mul-le-mul-right}
 use native.Mathlib.Omega.{arith}
-use lib.ListN.{length, take, drop, set, replicate, length-append, length-set, length-take, length-drop}
-use lib.Seq.{set-split}
+use lib.ListN.{length, drop, replicate, length-append, length-drop, length-replicate, replicate-append-replicate}
+use lib.Seq.{take-at, drop-at}
 use Rattle.lists.specs.Part.{part, onto, over}
-use Rattle.lists.specs.Rows.{rowsOf, flat, insertAt, removeAt, store}
-use Rattle.lists.proofs.PartLaws.{length-part}
-use Rattle.lists.proofs.OverLaws.{over-over, over-then, over-front, over-self}
-use Rattle.lists.proofs.RowLaws.{length-rowsOf, flat-append, flat-rowsOf, flat-before, flat-from}
-
-module _ (w n i : ℕ) (t : List ℕ) (fits : n * w ≤ length t) where
-  in-table : i ≤ n → i * w ≤ length t
-  in-table h = le-trans (mul-le-mul-right w h) fits
-
-  pub length-insertAt : (r : List ℕ) → i ≤ n → length (insertAt i r (rowsOf w n t)) ≡ n + 1
-  length-insertAt r h = simp (length-append, length-take, length-drop, length-rowsOf) (omega arith)
-
-  pub length-removeAt : i < n → length (removeAt i (rowsOf w n t)) ≡ n - 1
-  length-removeAt h = simp (length-append, length-take, length-drop, length-rowsOf) (omega arith)
-
-  insert-flat : (r : List ℕ) → i ≤ n → flat (insertAt i r (rowsOf w n t)) ≡ take (i * w) t ++ (r ++ part (i * w) ((n - i) * w) t)
-  unfolding flat
-  insert-flat r h = rw (flat-append, flat-before w n i t h, flat-from w n i t h)
-
-  -- the rows behind i a row further on, then r at i
-  pub insert-law : (r : List ℕ) → length r ≡ w → i ≤ n → over (i * w) r (over (i * w + w) (part (i * w) ((n - i) * w) t) t) ≡ store w n (insertAt i r (rowsOf w n t)) t
-  unfolding store
-  insert-law r l h =
-      let z : n - length (insertAt i r (rowsOf w n t)) ≡ 0 = rw (length-insertAt r h) (omega arith) in
-      rw (z, zero-mul, append-nil, insert-flat r h)
-      (ap (λ (m : ℕ). over (i * w) r (over (i * w + m) (part (i * w) ((n - i) * w) t) t)) (sym l)
-      ∙ over-over (i * w) r (part (i * w) ((n - i) * w) t) t ∙ over-front (i * w) (r ++ part (i * w) ((n - i) * w) t) t (in-table h))
-
-  -- what stands behind row i, by its bytes
-  behind : i < n → i * w + w + (n - suc i) * w ≡ n * w
-  behind h =
-      let e : suc i + (n - suc i) ≡ n = omega arith in
-      ap (λ (m : ℕ). m + (n - suc i) * w) (sym (suc-mul i w)) ∙ sym (add-mul (suc i) (n - suc i) w) ∙ ap (λ (m : ℕ). m * w) e
-
-  length-behind : i < n → length (part (i * w + w) ((n - suc i) * w) t) ≡ (n - suc i) * w
-  length-behind h = length-part (i * w + w) ((n - suc i) * w) t (rw (behind h) fits)
-
-  flat-behind : i < n → flat (drop (suc i) (rowsOf w n t)) ≡ part (i * w + w) ((n - suc i) * w) t
-  flat-behind h = flat-from w n (suc i) t h ∙ ap (λ (m : ℕ). part m ((n - suc i) * w) t) (suc-mul i w)
-
-  remove-flat : i < n → flat (removeAt i (rowsOf w n t)) ≡ take (i * w) t ++ part (i * w + w) ((n - suc i) * w) t
-  remove-flat h =
-      let k : i ≤ n = omega arith in
-      rw (flat-append, flat-before w n i t k, flat-behind h)
-
-  -- the rows behind i a row back, then zeros
-  pub remove-law : i < n → over (i * w + (n - suc i) * w) (replicate w 0) (over (i * w) (part (i * w + w) ((n - suc i) * w) t) t) ≡ store w n (removeAt i (rowsOf w n t)) t
-  unfolding store
-  remove-law h =
-      let z : n - length (removeAt i (rowsOf w n t)) ≡ 1 = rw (length-removeAt h) (omega arith) in
-      rw (z, one-mul, remove-flat h)
-      (ap (λ (m : ℕ). over (i * w + m) (replicate w 0) (over (i * w) (part (i * w + w) ((n - suc i) * w) t) t)) (sym (length-behind h))
-      ∙ over-then (i * w) (part (i * w + w) ((n - suc i) * w) t) (replicate w 0) t
-      ∙ over-front (i * w) (part (i * w + w) ((n - suc i) * w) t ++ replicate w 0) t (in-table (omega arith))
-      ∙ ap (λ (l : List ℕ). onto l t) (sym (append-assoc (take (i * w) t) (part (i * w + w) ((n - suc i) * w) t) (replicate w 0))))
-
-  replace-flat : (r : List ℕ) → i < n → flat (set (rowsOf w n t) i r) ≡ take (i * w) t ++ (r ++ part (i * w + w) ((n - suc i) * w) t)
-  unfolding flat
-  replace-flat r h =
-      let k : i ≤ n = omega arith in
-      let j : i < length (rowsOf w n t) = rw length-rowsOf h in
-      rw (set-split (rowsOf w n t) i r j, flat-append, flat-before w n i t k, flat-behind h)
-
-  pub replace-law : (r : List ℕ) → length r ≡ w → i < n → over (i * w) r t ≡ store w n (set (rowsOf w n t) i r) t
-  unfolding store
-  replace-law r l h =
-      let z : n - length (set (rowsOf w n t) i r) ≡ 0 = rw (length-set, length-rowsOf) (omega arith) in
-      rw (z, zero-mul, append-nil, replace-flat r h)
-      (ap (λ (d : List ℕ). over (i * w) r d) (sym (over-self (i * w + w) ((n - suc i) * w) t))
-      ∙ ap (λ (m : ℕ). over (i * w) r (over (i * w + m) (part (i * w + w) ((n - suc i) * w) t) t)) (sym l)
-      ∙ over-over (i * w) r (part (i * w + w) ((n - suc i) * w) t) t ∙ over-front (i * w) (r ++ part (i * w + w) ((n - suc i) * w) t) t (in-table (omega arith)))
+use Rattle.lists.specs.Rows.{rowsOf, flat, store, Wide}
+use Rattle.lists.proofs.OverLaws.{length-onto, onto-fits, onto-split, onto-longer, onto-front, over-self}
+use Rattle.lists.proofs.ReadLaws.{drop-behind}
+use Rattle.lists.proofs.RowLaws.{length-rowsOf, flat-rowsOf}
+use Rattle.lists.proofs.WideLaws.{length-flat, rowsOf-flat}
 
 -- the rows that are there, stored again
 pub store-same : (w n : ℕ) (t : List ℕ) → store w n (rowsOf w n t) t ≡ t
@@ -85,3 +19,70 @@ unfolding store over part
 store-same w n t =
     let z : n - length (rowsOf w n t) ≡ 0 = rw length-rowsOf (omega arith) in
     rw (z, zero-mul, append-nil, flat-rowsOf) (over-self 0 (n * w) t)
+
+-- the rows that were stored are read back
+pub rowsOf-store : (w n : ℕ) (rs : List (List ℕ)) (t : List ℕ) → Wide w rs → length rs * w ≤ length t → rowsOf w (length rs) (store w n rs t) ≡ rs
+unfolding store
+rowsOf-store w n rs t h f =
+    let k : length (flat rs) ≤ length t = rw (length-flat w rs h) f in
+    rw (onto-split (flat rs) (replicate ((n - length rs) * w) 0) t k) (rowsOf-flat w rs _ h)
+
+pub length-store : (w n : ℕ) (rs : List (List ℕ)) (t : List ℕ) → length (store w n rs t) ≡ length t
+unfolding store
+length-store w n rs t = length-onto (flat rs ++ replicate ((n - length rs) * w) 0) t
+
+module _ (w n : ℕ) (rs : List (List ℕ)) (t : List ℕ) (h : Wide w rs) where
+  -- the bytes behind the m rows that were written or cleared keep their contents
+  pub store-behind : (m : ℕ) → n ≤ m → length rs ≤ m → drop (m * w) (store w n rs t) ≡ drop (m * w) t
+  unfolding store over
+  store-behind m a b =
+      let k : length rs + (n - length rs) ≤ m = omega arith in
+      drop-behind (m * w) 0 (flat rs ++ replicate ((n - length rs) * w) 0) t
+      (rw (zero-add, length-append, length-flat w rs h, length-replicate, ← (add-mul (length rs) (n - length rs) w)) (mul-le-mul-right w k))
+
+  -- the rows that are gone are zero
+  pub store-freed : length rs ≤ n → n * w ≤ length t → part (length rs * w) ((n - length rs) * w) (store w n rs t) ≡ replicate ((n - length rs) * w) 0
+  unfolding store part
+  store-freed a b =
+      let l : length (flat rs) ≡ length rs * w = length-flat w rs h in
+      let k = (n - length rs) * w in
+      let e : length rs + (n - length rs) ≡ n = omega arith in
+      let f : length rs * w + k ≡ n * w = sym (add-mul (length rs) (n - length rs) w) ∙ ap (λ (m : ℕ). m * w) e in
+      let zeros = replicate {A = ℕ} k 0 in
+      let d = drop (length (flat rs)) t in
+      let g : length zeros ≤ length d = rw (length-replicate, length-drop) (omega arith) in
+      let o : onto (flat rs ++ zeros) t ≡ flat rs ++ (zeros ++ drop (length zeros) d) =
+      onto-split (flat rs) zeros t (omega arith) ∙ ap (λ (r : List ℕ). flat rs ++ r) (onto-fits zeros d g) in
+      rw (o, drop-at (flat rs) (zeros ++ drop (length zeros) d) (length rs * w) l) (take-at zeros (drop (length zeros) d) k (length-replicate k 0))
+
+module _ (w n : ℕ) (rs qs : List (List ℕ)) (t : List ℕ) (hr : Wide w rs) (hq : Wide w qs) where
+  -- where rows only come
+  pub store-grows : n ≤ length rs → length rs ≤ length qs → store w (length rs) qs (store w n rs t) ≡ store w n qs t
+  unfolding store
+  store-grows a b =
+      let x : n - length rs ≡ 0 = omega arith in
+      let y : length rs - length qs ≡ 0 = omega arith in
+      let z : n - length qs ≡ 0 = omega arith in
+      let l : length (flat rs) ≤ length (flat qs) = rw (length-flat w rs hr, length-flat w qs hq) (mul-le-mul-right w b) in
+      rw (x, y, z, zero-mul, append-nil (flat rs), append-nil (flat qs)) (onto-longer (flat rs) (flat qs) t l)
+
+  -- where rows only leave
+  pub store-shrinks : length qs ≤ length rs → length rs ≤ n → store w (length rs) qs (store w n rs t) ≡ store w n qs t
+  unfolding store
+  store-shrinks a b =
+      let p = (length rs - length qs) * w in
+      let q = (n - length rs) * w in
+      let m : p + q ≡ (n - length qs) * w =
+      let e : (length rs - length qs) + (n - length rs) ≡ n - length qs = omega arith in
+      sym (add-mul (length rs - length qs) (n - length rs) w) ∙ ap (λ (k : ℕ). k * w) e in
+      let l : length (flat rs) ≡ length (flat qs ++ replicate p 0) =
+      let e : length qs + (length rs - length qs) ≡ length rs = omega arith in
+      length-flat w rs hr
+      ∙ sym
+      (length-append (flat qs) (replicate p 0)
+      ∙ rw (length-flat w qs hq, length-replicate) (sym (add-mul (length qs) (length rs - length qs) w) ∙ ap (λ (k : ℕ). k * w) e)) in
+      onto-front (flat rs) (flat qs ++ replicate p 0) (replicate q 0) t l
+      ∙ ap
+      (λ (k : List ℕ). onto k t)
+      (append-assoc (flat qs) (replicate p 0) (replicate q 0)
+      ∙ ap (λ (k : List ℕ). flat qs ++ k) (replicate-append-replicate {A = ℕ} p q 0 ∙ ap (λ (k : ℕ). replicate k 0) m))

@@ -2,11 +2,10 @@ use mathlib.Core.Path.{_≡_, refl, sym, ap, _∙_}
 use Prim.Native.Nat.{ℕ, _-_, _≤_}
 use native.Mathlib.Omega.{arith}
 use borrow.Author.Needs.{needs}
-use lib.ListN.{length, length-set}
+use lib.ListN.{length, length-set, replicate}
 use Rattle.lists.specs.Part.{over}
 use Rattle.lists.proofs.OverLaws.{over-nil}
 use Rattle.lists.proofs.TurnLaws.{clear-turn}
-use lib.ListN.{replicate}
 use Rattle.lists.proofs.clear.Statement.{statement}
 use Rattle.lists.proofs.clear.Tie as tie
 
@@ -32,16 +31,19 @@ loop-less : tie.Need-loop-less Inv-loop μ-loop
 loop-less c = search needs
 
 loop-again : tie.Need-loop-again Inv-loop μ-loop
-loop-again c = (omega arith, simp length-set (c .before .loop .inv .1), clear-turn (c .before .before .args .a) (c .before .loop .i) (c .before .before .args .s .now) (c .before .loop .s) (c .before .loop .inv .2))
+loop-again c =
+    let l = c .before .loop in
+    let a = c .before .before .args in
+    (omega arith, simp length-set (l .inv .1), clear-turn (a .a) (l .i) (a .s .now) (l .s) (l .inv .2))
 
 same-length : tie.Need-same-length Inv-loop μ-loop
 same-length c = search needs
 
 returns : tie.Need-returns Inv-loop μ-loop
 returns c =
-    let s = c .before .before .args in
-    let e : c .before .loop .i ≡ s .n = omega arith in
-    c .before .loop .inv .2 ∙ ap (λ (i : ℕ). over (s .a) (replicate i 0) (s .s .now)) e
+    let a = c .before .before .args in
+    let e : c .before .loop .i ≡ a .n = omega arith in
+    c .before .loop .inv .2 ∙ ap (λ (i : ℕ). over (a .a) (replicate i 0) (a .s .now)) e
 
 pub clear-spec : {M : Type 1} → statement M
 clear-spec =

@@ -1,8 +1,8 @@
 use mathlib.Core.Path.{_≡_, refl, sym, ap, _∙_}
+use mathlib.Core.List.{List}
 use Prim.Native.Nat.{ℕ, _-_, _≤_}
 use native.Mathlib.Omega.{arith}
 use borrow.Author.Needs.{needs}
-use mathlib.Core.List.{List}
 use lib.ListN.{length, take, length-set}
 use lib.Seq.{take-all}
 use Rattle.lists.specs.Part.{over}
@@ -36,13 +36,18 @@ loop-less : tie.Need-loop-less Inv-loop μ-loop
 loop-less c = search needs
 
 loop-again : tie.Need-loop-again Inv-loop μ-loop
-loop-again c = let d = c .before .before in let s = d .before .args in (omega arith, simp length-set (d .loop .inv .1), copy-turn (s .a) (d .loop .i) (s .b .now) (s .s .now) (d .loop .s) (d .loop .inv .2) (omega arith))
+loop-again c =
+    let l = c .before .before .loop in
+    let a = c .before .before .before .args in
+    (omega arith, simp length-set (l .inv .1), copy-turn (a .a) (l .i) (a .b .now) (a .s .now) (l .s) (l .inv .2) (omega arith))
 
 same-length : tie.Need-same-length Inv-loop μ-loop
 same-length c = search needs
 
 returns : tie.Need-returns Inv-loop μ-loop
-returns c = let s = c .before .before .args in c .before .loop .inv .2 ∙ ap (λ (r : List ℕ). over (s .a) r (s .s .now)) (take-all _ (s .b .now) (c .loop-test .left))
+returns c =
+    let a = c .before .before .args in
+    c .before .loop .inv .2 ∙ ap (λ (b : List ℕ). over (a .a) b (a .s .now)) (take-all _ (a .b .now) (c .loop-test .left))
 
 pub copy-to-spec : {M : Type 1} → statement M
 copy-to-spec =

@@ -6,7 +6,7 @@ use lib.ListN.{length, length-set}
 use Rattle.lists.specs.Part.{part, over}
 use Rattle.lists.proofs.PartLaws.{part-zero}
 use Rattle.lists.proofs.OverLaws.{over-nil}
-use Rattle.lists.proofs.TurnLaws.{down-turn}
+use Rattle.lists.proofs.TurnLaws.{shift-down-turn}
 use Rattle.lists.proofs.shift_down.Statement.{statement}
 use Rattle.lists.proofs.shift_down.Tie as tie
 
@@ -38,13 +38,18 @@ loop-less : tie.Need-loop-less Inv-loop μ-loop
 loop-less c = search needs
 
 loop-again : tie.Need-loop-again Inv-loop μ-loop
-loop-again c = let d = c .before .before in let s = d .before .args in (omega arith, simp length-set (d .loop .inv .1), down-turn (s .by) (s .a) (d .loop .done) (s .s .now) (d .loop .s) (d .loop .inv .2) (omega arith))
+loop-again c =
+    let l = c .before .before .loop in
+    let a = c .before .before .before .args in
+    (omega arith, simp length-set (l .inv .1), shift-down-turn (a .by) (a .a) (l .done) (a .s .now) (l .s) (l .inv .2) (omega arith))
 
 same-length : tie.Need-same-length Inv-loop μ-loop
 same-length c = search needs
 
 returns : tie.Need-returns Inv-loop μ-loop
-returns c = let s = c .before .before .args in c .before .loop .inv .2 ∙ ap (λ (i : ℕ). over (s .a) (part (s .a + s .by) i (s .s .now)) (s .s .now)) (omega arith)
+returns c =
+    let a = c .before .before .args in
+    c .before .loop .inv .2 ∙ ap (λ (n : ℕ). over (a .a) (part (a .a + a .by) n (a .s .now)) (a .s .now)) (omega arith)
 
 pub shift-down-spec : {M : Type 1} → statement M
 shift-down-spec =

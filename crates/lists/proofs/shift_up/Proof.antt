@@ -1,13 +1,13 @@
 use mathlib.Core.Path.{_≡_, refl, sym, ap, _∙_}
 use Prim.Native.Nat.{ℕ, _+_, _-_, _≤_}
+use native.Mathlib.Nat.{sub-self}
 use native.Mathlib.Omega.{arith}
 use borrow.Author.Needs.{needs}
 use lib.ListN.{length, length-set}
-use native.Mathlib.Nat.{sub-self}
 use Rattle.lists.specs.Part.{part, over}
 use Rattle.lists.proofs.PartLaws.{part-zero}
 use Rattle.lists.proofs.OverLaws.{over-nil}
-use Rattle.lists.proofs.TurnLaws.{up-turn}
+use Rattle.lists.proofs.TurnLaws.{shift-up-turn}
 use Rattle.lists.proofs.shift_up.Statement.{statement}
 use Rattle.lists.proofs.shift_up.Tie as tie
 
@@ -36,13 +36,22 @@ loop-less : tie.Need-loop-less Inv-loop μ-loop
 loop-less c = search needs
 
 loop-again : tie.Need-loop-again Inv-loop μ-loop
-loop-again c = let d = c .before .before in let s = d .before .args in (omega arith, omega arith, simp length-set (d .loop .inv .2), up-turn (s .by) (s .e) (d .loop .i) (s .s .now) (d .loop .s) (d .loop .inv .3) (omega arith) (omega arith) (omega arith))
+loop-again c =
+    let l = c .before .before .loop in
+    let a = c .before .before .before .args in (
+      omega arith,
+      omega arith,
+      simp length-set (l .inv .2),
+      shift-up-turn (a .by) (a .e) (l .i) (a .s .now) (l .s) (l .inv .3) (omega arith) (omega arith) (omega arith),
+    )
 
 same-length : tie.Need-same-length Inv-loop μ-loop
 same-length c = search needs
 
 returns : tie.Need-returns Inv-loop μ-loop
-returns c = let s = c .before .before .args in c .before .loop .inv .3 ∙ ap (λ (i : ℕ). over (i + s .by) (part i (s .e - i) (s .s .now)) (s .s .now)) (omega arith)
+returns c =
+    let a = c .before .before .args in
+    c .before .loop .inv .3 ∙ ap (λ (i : ℕ). over (i + a .by) (part i (a .e - i) (a .s .now)) (a .s .now)) (omega arith)
 
 pub shift-up-spec : {M : Type 1} → statement M
 shift-up-spec =
