@@ -71,6 +71,7 @@ StoreKeepsRest =
     (length (store w n rs t) ≡ length t)
     × (Wide w rs → (m : ℕ) → n ≤ m → length rs ≤ m → drop (m * w) (store w n rs t) ≡ drop (m * w) t)
 
+-- all of these
 abbrev pub All : Type 0
 All =
     SameIsEqual
