@@ -1,2 +1,16 @@
 pub mod LogicLaws
+pub mod EachLaws
 pub mod TextLaws
+pub mod PartLaws
+pub mod OverLaws
+pub mod ReadLaws
+pub mod TurnLaws
+pub mod RowLaws
+pub mod WideLaws
+pub mod StoreLaws
+pub mod RowWriteLaws
+pub mod BigEndianLaws
+pub mod NumberTurnLaws
+pub mod Promise
+pub mod Determined
+pub mod Claims
