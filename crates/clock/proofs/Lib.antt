@@ -1,0 +1,3 @@
+pub mod BelowLaws
+pub mod DateLaws
+pub mod MonthLaws
