@@ -1,19 +1,19 @@
 -- Month starts: they rise, and a formula gives them, proved by a test of its step at each of the 1,200 months. Assumes nothing.
 use mathlib.Core.Path.{_≡_, _∙_, refl, sym, ap}
-use mathlib.Core.Bool.{Bool, true, false}
+use mathlib.Core.Bool.{Bool, true}
 use mathlib.Core.List.{List, [], _∷_}
-use Prim.Native.Nat.{ℕ, zero, suc, _+_, _-_, _*_, _/_, _%_, _<_, _≤_}
+use Prim.Native.Nat.{ℕ, zero, suc, _+_, _*_, _/_, _%_, _<_, _≤_}
 use native.Mathlib.Nat.{add-zero}
 use native.Mathlib.Decide.{decLe}
 use native.Mathlib.Omega.{arith}
 use borrow.Author.Tests.{lt-ltb, le-ltb, eq-eqb, ne-eqb}
-use lib.Dec.{T, eqb, leb, ltb, eqb→eq, leb→le}
+use lib.Dec.{eqb, leb, ltb, eqb→eq, leb→le}
 use lib.ListN.{getD}
 use Rattle.lists.specs.Logic.{on}
-use Rattle.clock.specs.Date.{year, month, day, daysIn, isDate}
+use Rattle.clock.specs.Date.{year, month, daysIn, isDate}
 use Rattle.clock.specs.Moment.{monthStart, monthOf, dayCount}
-use Rattle.clock.proofs.BelowLaws.{allBelow, below-at}
-use Rattle.clock.proofs.DateLaws.{Real, parts, days-range}
+use Rattle.clock.proofs.BelowLaws.{below-at}
+use Rattle.clock.proofs.DateLaws.{parts}
 
 -- a month starts where the one before ends
 pub month-step : (k : ℕ) → monthStart (suc k) ≡ monthStart k + daysIn (2000 + k / 12) (k % 12 + 1)

@@ -1,7 +1,7 @@
 -- What is claimed of dates and moments. Assumes nothing.
 use Prim.Native.Nat.{ℕ, _+_, _*_, _<_, _≤_}
 use mathlib.Core.Path.{_≡_}
-use mathlib.Core.Bool.{Bool, true}
+use mathlib.Core.Bool.{true}
 use mathlib.Core.Logic.{_⊎_, _↔_}
 use Rattle.clock.specs.declared.OperatingSeconds.{OperatingSeconds}
 use Rattle.clock.specs.Date.{leap, gregorian, isDate, dayAfter}

@@ -1,7 +1,7 @@
 use mathlib.Core.Path.{ap}
 use Prim.Native.Nat.{ℕ, _+_, _-_, _%_}
 use native.Mathlib.Omega.{arith}
-use Rattle.clock.specs.Moment.{monthOf, dayCount}
+use Rattle.clock.specs.Moment.{dayCount}
 use Rattle.clock.proofs.DateLaws.{parts}
 use Rattle.clock.proofs.MonthLaws.{month-below, month-most}
 use borrow.Author.Needs.{needs}
