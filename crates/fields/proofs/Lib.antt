@@ -1,0 +1,5 @@
+pub mod DigitLaws
+pub mod TripleLaws
+pub mod StampLaws
+pub mod NameLaws
+pub mod ReadingLaws
