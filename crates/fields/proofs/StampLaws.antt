@@ -4,7 +4,7 @@ use mathlib.Core.Bool.{Bool, true, false}
 use mathlib.Core.List.{List, [], _∷_}
 use Prim.Native.Nat.{ℕ, _+_, _-_, _*_, _<_, _≤_}
 use native.Mathlib.Omega.{arith}
-use borrow.Author.Tests.{eq-eqb, ne-eqb, le-leb, lt-leb, leb-true}
+use borrow.Author.Tests.{eq-eqb, ne-eqb, le-leb, lt-leb, leb-true, eqb-true}
 use lib.Dec.{eqb, leb}
 use lib.ListN.{length, getD, take, drop}
 use Rattle.lists.specs.Logic.{both}
@@ -64,6 +64,9 @@ module _ (f : List ℕ) where
   pub stamp-shapeless : false ≡ stampShape f → Wrong ≡ stamp f
   unfolding stamp
   stamp-shapeless e = rw (← e)
+
+  pub shape-length : true ≡ stampShape f → length f ≡ 25
+  shape-length e = eqb-true (length f) 25 (both-true (eqb (length f) 25) _ (sym e) .0)
 
   pub stamp-no-date : Wrong ≡ date (take 10 f) → Wrong ≡ stamp f
   unfolding stamp

@@ -206,9 +206,6 @@ fn stamp_shape(f: &[u8]) -> bool
 pub fn read_stamp(f: &[u8]) -> Number
     ensures { λ r. ⌜ r ≡ stamp (now (f .entry)) ⌝ }
 {
-    if f.len() < 25 {
-        return Number::Wrong;
-    }
     if !stamp_shape(f) {
         return Number::Wrong;
     }
