@@ -3,3 +3,4 @@ pub mod TripleLaws
 pub mod StampLaws
 pub mod NameLaws
 pub mod ReadingLaws
+pub mod WrittenLaws

@@ -5,3 +5,4 @@ pub mod Stamps
 pub mod Names
 pub mod Texts
 pub mod Cases
+pub mod Claims

@@ -1,6 +1,6 @@
 -- U: a timestamp, kept as seconds since 1970-01-01 UTC. Assumes nothing.
-use Prim.Native.Nat.{ℕ, _+_, _-_, _*_}
-use mathlib.Core.List.{List}
+use Prim.Native.Nat.{ℕ, _+_, _-_, _*_, _/_, _%_}
+use mathlib.Core.List.{List, _∷_, _++_}
 use mathlib.Core.Bool.{Bool}
 use lib.ListN.{length, getD, take, drop}
 use lib.Dec.{eqb, leb}
@@ -8,9 +8,9 @@ use Rattle.lists.specs.Logic.{on, both, either, within}
 use Rattle.clock.specs.Moment.{dayCount}
 use Rattle.fields.specs.declared.Number.{Number}
 use Rattle.fields.specs.declared.Number.the-variants.{Is, Wrong}
-use Rattle.fields.specs.Digits.{given, andThen, number}
-use Rattle.fields.specs.Times.{clock}
-use Rattle.fields.specs.Dates.{date}
+use Rattle.fields.specs.Digits.{given, andThen, number, written}
+use Rattle.fields.specs.Times.{clock, writtenTime}
+use Rattle.fields.specs.Dates.{date, writtenDate}
 
 -- five bytes with a colon in the middle
 abbrev pub offsetShape : List ℕ → Bool
@@ -45,3 +45,11 @@ stamp f =
 -- the seconds that a U field can give
 abbrev pub inStampRange : ℕ → Bool
 inStampRange n = within 946634400 4102495199 n
+
+-- m minutes as HH:MM
+abbrev pub writtenOffset : ℕ → List ℕ
+writtenOffset m = written 2 (m / 60) ++ 58 ∷ written 2 (m % 60)
+
+-- second s of date d, written m minutes west, with -, or east of UTC, with +
+abbrev pub writtenStamp : Bool → ℕ → ℕ → ℕ → List ℕ
+writtenStamp west d s m = writtenDate d ++ 84 ∷ writtenTime s ++ on west 45 43 ∷ writtenOffset m
