@@ -4,3 +4,7 @@ pub mod StampLaws
 pub mod NameLaws
 pub mod ReadingLaws
 pub mod WrittenLaws
+pub mod RangeLaws
+pub mod KeptLaws
+pub mod Claims
+pub mod Determined

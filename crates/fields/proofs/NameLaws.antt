@@ -2,14 +2,14 @@
 use mathlib.Core.Path.{_≡_, _∙_, refl, sym, ap}
 use mathlib.Core.Bool.{Bool, true, false}
 use mathlib.Core.List.{List, [], _∷_}
-use Prim.Native.Nat.{ℕ, zero, suc, _+_, _-_, _<_, _≤_}
+use Prim.Native.Nat.{ℕ, suc, _+_, _-_, _<_, _≤_}
 use Prim.Native.String.{String}
 use native.Mathlib.Omega.{arith}
 use lib.ListN.{length, getD}
 use Rattle.lists.specs.Logic.{on}
 use Rattle.lists.specs.Text.{bytes, same}
 use Rattle.lists.proofs.TextLaws.{same-equal}
-use Rattle.fields.specs.declared.Number.the-variants.{Is, Wrong}
+use Rattle.fields.specs.declared.Number.the-variants.{Is}
 use Rattle.fields.specs.Names.{nameFrom}
 use Rattle.fields.proofs.DigitLaws.{never, same-is}
 

@@ -2,17 +2,15 @@
 use mathlib.Core.Path.{_≡_, _∙_, refl, sym, ap, subst}
 use mathlib.Core.Bool.{Bool, true, false}
 use mathlib.Core.List.{List, [], _∷_, _++_, append-nil}
-use Prim.Native.Nat.{ℕ, zero, suc, _+_, _-_, _<_, _≤_}
+use Prim.Native.Nat.{ℕ, suc, _+_, _-_, _<_, _≤_}
 use native.Mathlib.Omega.{arith}
 use native.Mathlib.Numerals.{add-one}
-use borrow.Author.Tests.{eq-eqb, ne-eqb}
 use lib.Dec.{eqb}
 use lib.ListN.{length, getD, drop, set, replicate, length-append}
 use lib.Seq.{drop-cons, drop-length, append-snoc, set-at}
-use Rattle.fields.specs.declared.Text.{Text}
 use Rattle.fields.specs.declared.Step.{Step}
 use Rattle.fields.specs.declared.Step.the-variants.{Mark, Byte, Bad}
-use Rattle.lists.specs.Logic.{on, both, within}
+use Rattle.lists.specs.Logic.{on, within}
 use Rattle.turbo.specs.Escape.{escaped, decodeAfter, decode}
 use Rattle.fields.specs.Texts.{allText, padded, textGiven, text, keptStep, stepOf}
 use Rattle.lists.proofs.LogicLaws.{both-false, both-true, in-range, above-range}

@@ -1,20 +1,19 @@
 -- Timestamps: which case of `offset` and `stamp` holds, and what an accepted offset is. Assumes nothing.
-use mathlib.Core.Path.{_≡_, _∙_, refl, sym, ap}
-use mathlib.Core.Bool.{Bool, true, false}
-use mathlib.Core.List.{List, [], _∷_}
-use Prim.Native.Nat.{ℕ, _+_, _-_, _*_, _<_, _≤_}
+use mathlib.Core.Path.{_≡_, sym}
+use mathlib.Core.Bool.{true, false}
+use mathlib.Core.List.{List}
+use Prim.Native.Nat.{ℕ, _+_, _*_, _<_, _≤_}
 use native.Mathlib.Omega.{arith}
 use borrow.Author.Tests.{eq-eqb, ne-eqb, le-leb, lt-leb, leb-true, eqb-true}
 use lib.Dec.{eqb, leb}
 use lib.ListN.{length, getD, take, drop}
 use Rattle.lists.specs.Logic.{both}
 use Rattle.lists.proofs.LogicLaws.{both-false, both-true}
-use Rattle.fields.specs.declared.Number.{Number}
 use Rattle.fields.specs.declared.Number.the-variants.{Is, Wrong}
-use Rattle.fields.specs.Digits.{given, andThen, number}
+use Rattle.fields.specs.Digits.{number}
 use Rattle.fields.specs.Times.{clock}
 use Rattle.fields.specs.Dates.{date}
-use Rattle.fields.specs.Stamps.{offsetShape, offsetOf, offset, stampSeconds, stampShape, stamp}
+use Rattle.fields.specs.Stamps.{offsetShape, offset, stampSeconds, stampShape, stamp}
 use Rattle.fields.proofs.DigitLaws.{given-wrong, given-is, then-is, same-is}
 
 module _ (f : List ℕ) where

@@ -1,12 +1,10 @@
 -- Times, dates and stamps as they are written are read as themselves. Assumes nothing.
-use mathlib.Core.Path.{_≡_, _∙_, refl, sym, ap}
+use mathlib.Core.Path.{_≡_}
 use mathlib.Core.Bool.{Bool, true, false}
-use mathlib.Core.List.{List, [], _∷_, _++_}
-use Prim.Native.Nat.{ℕ, _+_, _-_, _*_, _/_, _%_, _<_, _≤_}
+use Prim.Native.Nat.{ℕ, _+_, _*_, _/_, _%_, _<_, _≤_}
 use native.Mathlib.Omega.{arith}
 use borrow.Author.Tests.{le-leb}
-use lib.ListN.{take, drop}
-use Rattle.clock.specs.Date.{year, month, day, dateOf, isDate}
+use Rattle.clock.specs.Date.{year, month, day, isDate}
 use Rattle.clock.proofs.DateLaws.{parts, remade}
 use Rattle.fields.specs.declared.Number.the-variants.{Is}
 use Rattle.fields.specs.Digits.{number, written, triple}

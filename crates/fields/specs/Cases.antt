@@ -1,6 +1,6 @@
 -- The paper's cases that fields and dates decide, by computation. Assumes nothing.
 use mathlib.Core.Path.{_≡_, refl}
-use mathlib.Core.Bool.{true, false}
+use mathlib.Core.Bool.{true}
 use Rattle.lists.specs.Text.{bytes, same}
 use Rattle.clock.specs.Date.{daysIn, isDate}
 use Rattle.clock.specs.Moment.{monthStart, dayCount, momentOf}

@@ -3,10 +3,11 @@ use Prim.Native.Nat.{ℕ, _+_, _*_, _^_, _<_, _≤_}
 use Prim.Native.String.{String}
 use mathlib.Core.Path.{_≡_}
 use mathlib.Core.Bool.{Bool, true, false}
-use mathlib.Core.List.{List, [], _∷_}
+use mathlib.Core.List.{List, []}
 use mathlib.Core.Logic.{_↔_}
 use lib.ListN.{length, getD, replicate}
 use Rattle.lists.specs.Text.{bytes}
+use Rattle.clock.specs.declared.OperatingSeconds.{OperatingSeconds}
 use Rattle.clock.specs.Date.{isDate}
 use Rattle.turbo.specs.Escape.{decode}
 use Rattle.fields.specs.declared.Number.{Number}
@@ -59,7 +60,7 @@ TimesRead = (s : ℕ) → s < 115200 → time (writtenTime s) ≡ Times.Is (reco
 
 -- Each time that is read is from 0 to 115,199.
 abbrev pub TimesOnly : Type 0
-TimesOnly = (f : List ℕ) (s : ℕ) → time f ≡ Times.Is (record { 0 = s }) → s < 115200
+TimesOnly = (f : List ℕ) (s : OperatingSeconds) → time f ≡ Times.Is s → s .0 < 115200
 
 -- Each date, written YYYY-MM-DD, is read as itself.
 abbrev pub DatesRead : Type 0

@@ -1,5 +1,5 @@
 -- D: a date, kept as the number YYYYMMDD. Assumes nothing.
-use Prim.Native.Nat.{ℕ, _+_, _*_}
+use Prim.Native.Nat.{ℕ}
 use mathlib.Core.List.{List, _∷_, _++_}
 use Rattle.clock.specs.Date.{year, month, day, isDate, dateOf}
 use Rattle.fields.specs.declared.Number.{Number}

@@ -7,7 +7,7 @@ use lib.Dec.{eqb, leb}
 use Rattle.lists.specs.Logic.{on, both, either, within}
 use Rattle.clock.specs.Moment.{dayCount}
 use Rattle.fields.specs.declared.Number.{Number}
-use Rattle.fields.specs.declared.Number.the-variants.{Is, Wrong}
+use Rattle.fields.specs.declared.Number.the-variants.{Is}
 use Rattle.fields.specs.Digits.{given, andThen, number, written}
 use Rattle.fields.specs.Times.{clock, writtenTime}
 use Rattle.fields.specs.Dates.{date, writtenDate}

@@ -1,12 +1,11 @@
-use mathlib.Core.Path.{_≡_, _∙_, refl, sym, ap}
+use mathlib.Core.Path.{_≡_, _∙_, refl, ap}
 use Prim.Native.Nat.{ℕ, _≤_, _<_, _-_, _+_, _^_, _*_}
 use native.Mathlib.Omega.{arith}
 use borrow.Author.Needs.{needs}
-use borrow.Author.Tests.{le-leb, lt-leb, le-ltb}
 use lib.ListN.{length, getD, drop}
 use lib.Seq.{drop-length}
 use denote.Ref.{now}
-use Rattle.fields.specs.Digits.{allDigits, value, valueFrom, number}
+use Rattle.fields.specs.Digits.{allDigits, value, valueFrom}
 use Rattle.lists.proofs.LogicLaws.{in-range, below-range, above-range}
 use Rattle.fields.proofs.DigitLaws.{number-none, number-long, number-other, number-is, digits-step, digits-stop, value-step, more-digits, nine-digits}
 use Rattle.fields.proofs.read_number.Statement.{statement}

@@ -1,6 +1,4 @@
 use mathlib.Core.Path.{_≡_, _∙_, sym}
-use mathlib.Core.List.{List}
-use Prim.Native.Nat.{ℕ}
 use native.Mathlib.Omega.{arith}
 use borrow.Author.Needs.{needs}
 use lib.ListN.{take, drop}

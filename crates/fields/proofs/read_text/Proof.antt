@@ -1,6 +1,5 @@
-use mathlib.Core.Path.{_≡_, _∙_, refl, sym, ap}
-use Prim.Native.Nat.{ℕ, _≤_, _-_}
-use native.Mathlib.Omega.{arith}
+use mathlib.Core.Path.{_∙_, sym}
+use Prim.Native.Nat.{_-_}
 use borrow.Author.Needs.{needs}
 use lib.ListN.{length}
 use denote.Ref.{now}

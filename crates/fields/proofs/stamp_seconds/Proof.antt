@@ -1,4 +1,3 @@
-use mathlib.Core.Path.{sym}
 use native.Mathlib.Omega.{arith}
 use Rattle.fields.specs.Stamps.{stampSeconds}
 use Rattle.clock.proofs.MonthLaws.{day-below}

@@ -1,4 +1,4 @@
-use mathlib.Core.Path.{_∙_, sym, ap}
+use mathlib.Core.Path.{_∙_, ap}
 use borrow.Author.Tests.{eq-eqb, ne-eqb}
 use Rattle.fields.specs.Texts.{stepOf, keptStep}
 use borrow.Author.Needs.{needs}
