@@ -5,6 +5,7 @@ use Prim.Native.Nat.{ℕ, _<_, _≤_}
 use native.Mathlib.Omega.{arith}
 use borrow.Author.Tests.{le-leb, lt-leb, leb-true}
 use lib.Dec.{leb}
+use mir.Val.{boolByte}
 use Rattle.lists.specs.Logic.{both, either, within}
 
 pub both-false : (a : Bool) → both a false ≡ false
@@ -37,3 +38,12 @@ either-false false b e = (refl, e)
 pub either-true : (a : Bool) → either a true ≡ true
 either-true true = refl
 either-true false = refl
+
+-- a test as the number 0 or 1, as a count of tests adds it up
+pub bool-most : (t : Bool) → boolByte t ≤ 1
+bool-most true = omega arith
+bool-most false = omega arith
+
+pub bool-none : (t : Bool) → boolByte t ≡ 0 → t ≡ false
+bool-none true e = absurd (omega arith)
+bool-none false e = refl

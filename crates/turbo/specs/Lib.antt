@@ -1,1 +1,3 @@
 pub mod Escape
+pub mod Split
+pub mod Columns

@@ -1,6 +1,11 @@
 // The walk over a dossier: its lines, their fields as parts of the lent bytes, the search for column names, and escapes.
 ghost use mathlib.Core.Path.{_≡_};
+ghost use mathlib.Core.Bool.{true};
+ghost use Prim.Native.Nat.{ℕ, _+_, _≤_, _<_};
+ghost use lib.ListN.{length, drop, getD};
 ghost use Rattle.turbo.specs.Escape.{escaped};
+ghost use Rattle.turbo.specs.Split.{until, past, fields, fieldAt, tailAt, lines, letter, markOf, afterMark};
+ghost use Rattle.turbo.specs.Columns.{place, noted, columnsOf, most};
 
 // The byte that a backslash and `b` stand for, 0 for none.
 pub fn escaped(b: u8) -> u8
@@ -12,5 +17,325 @@ pub fn escaped(b: u8) -> u8
         105 => 92,
         112 => 124,
         _ => 0,
+    }
+}
+
+// Where the first x stands, or the length.
+pub fn find(s: &[u8], x: u8) -> usize
+    ensures is { λ r. ⌜ r ≡ length (until x (now (s .entry))) ⌝ }
+    ensures within { λ r. ⌜ r ≤ length (now (s .entry)) ⌝ }
+{
+    let mut i = 0;
+    while i < s.len() {
+        if s[i] == x {
+            return i;
+        }
+        i += 1;
+    }
+    i
+}
+
+// Whether sixteen bytes from i on are none of them x. No branch in the loop, so that it compiles to a few vector instructions.
+fn free_block(s: &[u8], i: usize, x: u8) -> bool
+    requires { ⌜ i + 16 ≤ length (now s) ⌝ }
+    ensures { λ r. ⌜ (r ≡ true → (m : ℕ) → m < 16 → getD (now (s .entry)) (i + m) 0 ≡ x → ⊥) ⌝ }
+{
+    let mut n: u8 = 0;
+    let mut j = 0;
+    while j < 16 {
+        n += (s[i + j] == x) as u8;
+        j += 1;
+    }
+    n == 0
+}
+
+// Past the whole blocks without x.
+fn free_blocks(s: &[u8], x: u8) -> usize
+    ensures within { λ r. ⌜ r ≤ length (now (s .entry)) ⌝ }
+    ensures left { λ r. ⌜ length (until x (now (s .entry))) ≡ r + length (until x (drop r (now (s .entry)))) ⌝ }
+{
+    let mut p = 0;
+    while 16 <= s.len() - p {
+        if free_block(s, p, x) {
+            p += 16;
+        } else {
+            return p;
+        }
+    }
+    p
+}
+
+// The same as `find`, for an x that is far off: by blocks, then by bytes.
+pub fn find_far(s: &[u8], x: u8) -> usize
+    ensures is { λ r. ⌜ r ≡ length (until x (now (s .entry))) ⌝ }
+    ensures within { λ r. ⌜ r ≤ length (now (s .entry)) ⌝ }
+{
+    let mut i = free_blocks(s, x);
+    while i < s.len() {
+        if s[i] == x {
+            return i;
+        }
+        i += 1;
+    }
+    i
+}
+
+// The first line of what is left of a dossier, without its CR LF.
+pub fn first_line<'a>(d: &'a [u8]) -> &'a [u8]
+    ensures { λ r. ⌜ now r ≡ until 13 (now (d .entry)) ⌝ }
+{
+    let n = find_far(d, 13);
+    &d[..n]
+}
+
+// What is left after that line's CR LF.
+pub fn rest_after_line<'a>(d: &'a [u8]) -> &'a [u8]
+    ensures { λ r. ⌜ now r ≡ drop 1 (past 13 (now (d .entry))) ⌝ }
+{
+    let n = find_far(d, 13);
+    if 2 <= d.len() - n {
+        let a = n + 2;
+        return &d[a..];
+    }
+    let e = d.len();
+    &d[e..]
+}
+
+// How many lines a dossier has.
+pub fn count_lines(d: &[u8]) -> usize
+    ensures { λ r. ⌜ r ≡ length (lines (now (d .entry))) ⌝ }
+{
+    let mut n: usize = 0;
+    let mut t = d;
+    while 0 < t.len() {
+        let u = rest_after_line(t);
+        t = u;
+        n += 1;
+    }
+    n
+}
+
+// What a line begins with.
+pub enum Mark {
+    Group,
+    Table,
+    Labels,
+    Data,
+}
+
+// The mark that a first backslash and b make.
+fn mark_letter(b: u8) -> Mark
+    ensures { λ r. ⌜ r ≡ letter b ⌝ }
+{
+    match b {
+        71 => Mark::Group,
+        84 => Mark::Table,
+        76 => Mark::Labels,
+        _ => Mark::Data,
+    }
+}
+
+pub fn mark_of(line: &[u8]) -> Mark
+    ensures { λ r. ⌜ r ≡ markOf (now (line .entry)) ⌝ }
+{
+    if line.len() < 2 {
+        return Mark::Data;
+    }
+    if line[0] != 92 {
+        return Mark::Data;
+    }
+    mark_letter(line[1])
+}
+
+// The line behind its mark.
+pub fn after_mark<'a>(line: &'a [u8]) -> &'a [u8]
+    ensures { λ r. ⌜ now r ≡ afterMark (now (line .entry)) ⌝ }
+{
+    let a = mark_size(line);
+    &line[a..]
+}
+
+// How many bytes the line's mark takes.
+fn mark_size(line: &[u8]) -> usize
+    ensures is { λ r. ⌜ drop r (now (line .entry)) ≡ afterMark (now (line .entry)) ⌝ }
+    ensures within { λ r. ⌜ r ≤ length (now (line .entry)) ⌝ }
+{
+    match mark_of(line) {
+        Mark::Group => 2,
+        Mark::Table => 2,
+        Mark::Labels => 2,
+        Mark::Data => 0,
+    }
+}
+
+// How many fields a line has. No branch in the loop.
+pub fn count_fields(line: &[u8]) -> usize
+    ensures { λ r. ⌜ r ≡ length (fields (now (line .entry))) ⌝ }
+{
+    let mut n: usize = 0;
+    let mut i = 0;
+    while i < line.len() {
+        n += (line[i] == 124) as usize;
+        i += 1;
+    }
+    n + 1
+}
+
+// The first field of a tail.
+pub fn first_field<'a>(t: &'a [u8]) -> &'a [u8]
+    ensures { λ r. ⌜ now r ≡ until 124 (now (t .entry)) ⌝ }
+{
+    let n = find(t, 124);
+    &t[..n]
+}
+
+// The tail that starts after the bar; nothing where there is no bar.
+pub fn rest_after_bar<'a>(t: &'a [u8]) -> &'a [u8]
+    ensures { λ r. ⌜ now r ≡ past 124 (now (t .entry)) ⌝ }
+{
+    let n = find(t, 124);
+    if n < t.len() {
+        let a = n + 1;
+        return &t[a..];
+    }
+    &t[n..]
+}
+
+// The tail after k bars: past the columns that nobody wants.
+pub fn rest_after_bars<'a>(line: &'a [u8], k: usize) -> &'a [u8]
+    ensures { λ r. ⌜ now r ≡ tailAt k (now (line .entry)) ⌝ }
+{
+    let mut t = line;
+    let mut left = k;
+    while 0 < left {
+        let u = rest_after_bar(t);
+        t = u;
+        left -= 1;
+    }
+    t
+}
+
+// One field in a single walk: how many bytes it has, and the tail that starts after its bar.
+pub fn read_field<'a>(t: &'a [u8], size: &mut usize) -> &'a [u8]
+    ensures tail { λ r. ⌜ now r ≡ past 124 (now (t .entry)) ⌝ }
+    ensures size { λ r. ⌜ now (size .exit) ≡ length (until 124 (now (t .entry))) ⌝ }
+{
+    let n = find(t, 124);
+    *size = n;
+    if n < t.len() {
+        let a = n + 1;
+        return &t[a..];
+    }
+    &t[n..]
+}
+
+// Field k of a line, as a part of it.
+pub fn field_of<'a>(line: &'a [u8], k: usize) -> &'a [u8]
+    ensures { λ r. ⌜ now r ≡ fieldAt k (now (line .entry)) ⌝ }
+{
+    let t = rest_after_bars(line, k);
+    first_field(t)
+}
+
+// The first column with the name, or the number of columns.
+pub fn column_of(labels: &[u8], name: &[u8]) -> usize
+    ensures { λ r. ⌜ r ≡ place (now (name .entry)) (fields (now (labels .entry))) ⌝ }
+{
+    let mut k: usize = 0;
+    let mut l = labels;
+    loop {
+        let n = find(l, 124);
+        if lists::same_bytes(&l[..n], name) {
+            return k;
+        }
+        k += 1;
+        if n == l.len() {
+            return k;
+        }
+        let a = n + 1;
+        l = &l[a..];
+    }
+}
+
+// The named column's field, a part of the lent line.
+pub fn lookup<'a>(line: &'a [u8], labels: &[u8], name: &[u8]) -> &'a [u8]
+    ensures { λ r. ⌜ now r ≡ fieldAt (place (now (name .entry)) (fields (now (labels .entry)))) (now (line .entry)) ⌝ }
+{
+    let k = column_of(labels, name);
+    field_of(line, k)
+}
+
+// What the search for one name has found so far.
+enum Seen {
+    First(usize),
+    Twice,
+}
+
+// Where wanted names stand in a label line.
+pub struct Columns {
+    pub twice: bool,
+    pub places: [usize; 20],
+}
+
+// One column more in the search for a name.
+fn note(none: usize, first: usize, k: usize, hit: bool) -> Seen
+    ensures { λ r. ⌜ r ≡ noted none first k hit ⌝ }
+{
+    if hit {
+        if first == none {
+            return Seen::First(k);
+        }
+        return Seen::Twice;
+    }
+    Seen::First(first)
+}
+
+// The places of the wanted names among the columns of a label line; both are names parted by bars. The search ends at the second find.
+pub fn find_columns(wanted: &[u8], labels: &[u8]) -> Columns
+    requires { ⌜ length (fields (now wanted)) ≤ most ⌝ }
+    ensures { λ r. ⌜ r ≡ columnsOf (fields (now (wanted .entry))) (fields (now (labels .entry))) ⌝ }
+{
+    let none = count_fields(labels);
+    let mut twice = false;
+    let mut places = [0usize; 20];
+    let mut i: usize = 0;
+    let mut w = wanted;
+    'names: loop {
+        let at = find(w, 124);
+        let name = &w[..at];
+        let mut first = none;
+        let mut k: usize = 0;
+        let mut l = labels;
+        'columns: loop {
+            let n = find(l, 124);
+            let hit = lists::same_bytes(&l[..n], name);
+            match note(none, first, k, hit) {
+                Seen::First(p) => {
+                    first = p;
+                }
+                Seen::Twice => {
+                    twice = true;
+                    places = [0usize; 20];
+                    break 'names;
+                }
+            }
+            k += 1;
+            if n == l.len() {
+                break 'columns;
+            }
+            let a = n + 1;
+            l = &l[a..];
+        }
+        places[i] = first;
+        i += 1;
+        if at == w.len() {
+            break 'names;
+        }
+        let b = at + 1;
+        w = &w[b..];
+    }
+    Columns {
+        twice: twice,
+        places: places,
     }
 }

@@ -1,24 +1,15 @@
 use Prim.Native.Nat.{_-_, _≤_}
 use native.Mathlib.Omega.{arith}
-use mathlib.Core.Path.{_≡_, refl, sym, _∙_}
+use mathlib.Core.Path.{_≡_, sym, _∙_}
 use lib.ListN.{drop}
-use mathlib.Core.Bool.{Bool, true, false}
 use borrow.Author.Tests.{eqb-true}
 use borrow.Author.Needs.{needs}
-use mir.Val.{boolByte}
+use Rattle.lists.proofs.LogicLaws.{bool-most, bool-none}
 use Rattle.syntax.specs.Scan.{quietFor}
 use Rattle.syntax.proofs.ScanLaws.{quiet-more}
 use mathlib.Core.Path.{_≡_}
 use Rattle.syntax.proofs.quiet_block.Statement.{statement}
 use Rattle.syntax.proofs.quiet_block.Tie as tie
-
-bool-most : (t : Bool) → boolByte t ≤ 1
-bool-most true = omega arith
-bool-most false = omega arith
-
-bool-none : (t : Bool) → boolByte t ≡ 0 → t ≡ false
-bool-none true e = absurd (omega arith)
-bool-none false e = refl
 
 abbrev Inv-loop : tie.InvT-loop
 Inv-loop d i n₀ j₀ n j = (j ≤ 16) × (n ≤ j) × (n ≡ 0 → j ≤ quietFor (drop i d))

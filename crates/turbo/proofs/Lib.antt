@@ -1,0 +1,3 @@
+pub mod SplitLaws
+pub mod MarkLaws
+pub mod ColumnLaws

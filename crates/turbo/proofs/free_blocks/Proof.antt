@@ -1,0 +1,61 @@
+use Prim.Native.Nat.{ℕ, suc, _+_, _*_, _-_, _≤_, _<_}
+use native.Mathlib.Omega.{arith}
+use mathlib.Core.Path.{_≡_, refl, sym, ap, _∙_}
+use mathlib.Core.List.{List, [], _∷_, _++_}
+use lib.ListN.{length, take, drop, getD, set, length-set, length-drop}
+use mathlib.Core.Bool.{Bool, true, false}
+use mathlib.Core.Logic.{_⊎_, ⊎-elim}
+use borrow.Author.Tests.{eq-eqb, ne-eqb, lt-ltb, le-ltb, le-leb, lt-leb}
+use borrow.Author.Needs.{needs}
+use Rattle.turbo.specs.Split.{until, past, fields, fieldAt, tailAt, lines, linesFrom, letter, markOf, afterMark}
+use Rattle.turbo.proofs.SplitLaws.{until-free}
+use Rattle.turbo.proofs.free_blocks.Statement.{statement}
+use Rattle.turbo.proofs.free_blocks.Tie as tie
+use Rattle.turbo.proofs.free_blocks.Reads as reads
+use Rattle.turbo.proofs.free_blocks.Lts as lts
+use Rattle.turbo.proofs.free_block.Reads as free-block-reads
+
+abbrev Inv-loop : tie.InvT-loop
+Inv-loop s x p₀ p = (p ≤ length s) × (length (until x s) ≡ p + length (until x (drop p s)))
+
+abbrev μ-loop : tie.MeasureT-loop
+μ-loop s x p₀ p = length s - p
+
+loop-holds : tie.Need-loop-holds Inv-loop μ-loop
+loop-holds c = search needs
+
+sub-loop : tie.Need-sub-loop Inv-loop μ-loop
+sub-loop c = search needs
+
+free-block-requires : tie.Need-free-block-requires Inv-loop μ-loop
+free-block-requires c κs = search needs
+
+add-p : tie.Need-add-p Inv-loop μ-loop
+add-p c = search needs
+
+loop-less : tie.Need-loop-less Inv-loop μ-loop
+loop-less c = search needs
+
+loop-again : tie.Need-loop-again Inv-loop μ-loop
+loop-again c = let l = c .before .before .before .loop in let s = c .before .before .before .before .before in (omega arith, omega (arith, until-free (s .args .x) (s .args .s .now) (l .p) 16 (omega arith) (c .before .free-block .ensures (c .if1 .taken))))
+
+returns : tie.Need-returns Inv-loop μ-loop
+returns c = c .before .before .before .loop .inv
+
+returns-2 : tie.Need-returns-2 Inv-loop μ-loop
+returns-2 c = c .before .loop .inv
+
+pub free-blocks-spec : {M : Type 1} → statement M
+free-blocks-spec =
+    tie.close
+    (tie.spec
+    Inv-loop
+    μ-loop
+    loop-holds
+    sub-loop
+    free-block-requires
+    add-p
+    loop-less
+    loop-again
+    returns
+    returns-2)

@@ -1,0 +1,28 @@
+use Prim.Native.Nat.{ℕ, suc, _+_, _*_, _-_, _≤_, _<_}
+use native.Mathlib.Omega.{arith}
+use mathlib.Core.Path.{_≡_, refl, sym, ap, _∙_}
+use mathlib.Core.List.{List, [], _∷_, _++_}
+use lib.ListN.{length, take, drop, getD, set, length-set, length-drop}
+use mathlib.Core.Bool.{Bool, true, false}
+use mathlib.Core.Logic.{_⊎_, ⊎-elim}
+use borrow.Author.Tests.{eq-eqb, ne-eqb, lt-ltb, le-ltb, le-leb, lt-leb}
+use borrow.Author.Needs.{needs}
+use Rattle.turbo.proofs.mark_letter.Statement.{statement}
+use Rattle.turbo.proofs.mark_letter.Tie as tie
+use Rattle.turbo.proofs.mark_letter.Reads as reads
+use Rattle.turbo.proofs.mark_letter.Lts as lts
+
+returns : tie.Need-returns
+returns c = rw (c .match .keys1)
+
+returns-2 : tie.Need-returns-2
+returns-2 c = rw (c .match .keys2)
+
+returns-3 : tie.Need-returns-3
+returns-3 c = rw (c .match .keys3)
+
+returns-4 : tie.Need-returns-4
+returns-4 c = let r = c .match .rest in rw (ne-eqb _ 71 (r .0 .0 .1), ne-eqb _ 84 (r .0 .1), ne-eqb _ 76 (r .1))
+
+pub mark-letter-spec : {M : Type 1} → statement M
+mark-letter-spec = tie.close (tie.spec returns returns-2 returns-3 returns-4)

@@ -1,0 +1,53 @@
+use Prim.Native.Nat.{ℕ, suc, _+_, _*_, _-_, _≤_, _<_}
+use native.Mathlib.Omega.{arith}
+use mathlib.Core.Path.{_≡_, refl, sym, ap, _∙_}
+use mathlib.Core.List.{List, [], _∷_, _++_}
+use lib.ListN.{length, take, drop, getD, set, length-set, length-drop}
+use mathlib.Core.Bool.{Bool, true, false}
+use mathlib.Core.Logic.{_⊎_, ⊎-elim}
+use borrow.Author.Tests.{eq-eqb, ne-eqb, lt-ltb, le-ltb, le-leb, lt-leb}
+use borrow.Author.Needs.{needs}
+use Rattle.turbo.specs.Split.{until, past, fields, fieldAt, tailAt, lines, linesFrom, letter, markOf, afterMark}
+use Rattle.turbo.proofs.SplitLaws.{tail-next, tail-zero}
+use Rattle.turbo.proofs.rest_after_bars.Statement.{statement}
+use Rattle.turbo.proofs.rest_after_bars.Tie as tie
+use Rattle.turbo.proofs.rest_after_bars.Reads as reads
+use Rattle.turbo.proofs.rest_after_bars.Lts as lts
+use Rattle.turbo.proofs.rest_after_bar.Reads as rest-after-bar-reads
+
+abbrev Inv-loop : tie.InvT-loop
+Inv-loop line k t₀ left₀ t left = tailAt left t ≡ tailAt k line
+
+abbrev μ-loop : tie.MeasureT-loop
+μ-loop line k t₀ left₀ t left = left
+
+loop-holds : tie.Need-loop-holds Inv-loop μ-loop
+loop-holds c = refl
+
+rest-after-bar-requires : tie.Need-rest-after-bar-requires Inv-loop μ-loop
+rest-after-bar-requires c κs = search needs
+
+sub-left : tie.Need-sub-left Inv-loop μ-loop
+sub-left c = search needs
+
+loop-less : tie.Need-loop-less Inv-loop μ-loop
+loop-less c = omega arith
+
+loop-again : tie.Need-loop-again Inv-loop μ-loop
+loop-again c = let l = c .before .before in let e : l .loop .left ≡ suc (l .loop .left - 1) = omega arith in ap (tailAt (l .loop .left - 1)) (c .rest-after-bar .ensures) ∙ sym (tail-next (l .loop .left - 1) (l .loop .t .now)) ∙ ap (λ (n : ℕ). tailAt n (l .loop .t .now)) (sym e) ∙ l .loop .inv
+
+returns : tie.Need-returns Inv-loop μ-loop
+returns c = let l = c .before in let e : 0 ≡ l .loop .left = omega arith in sym (tail-zero (l .loop .t .now)) ∙ ap (λ (n : ℕ). tailAt n (l .loop .t .now)) e ∙ l .loop .inv
+
+pub rest-after-bars-spec : {M : Type 1} → statement M
+rest-after-bars-spec =
+    tie.close
+    (tie.spec
+    Inv-loop
+    μ-loop
+    loop-holds
+    rest-after-bar-requires
+    sub-left
+    loop-less
+    loop-again
+    returns)
