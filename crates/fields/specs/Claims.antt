@@ -84,11 +84,11 @@ StampsGiven = (n : ℕ) → ((946634400 ≤ n) × (n ≤ 4102495199)) ↔ ((f : 
 abbrev pub StampsTested : Type 0
 StampsTested = (n : ℕ) → (inStampRange n ≡ true) ↔ ((946634400 ≤ n) × (n ≤ 4102495199))
 
--- What is read by the words ws, numbered from k, is the word at its number, and no other bytes.
+-- A field that the rule reads as k and n more is the word at place n of ws, and no other bytes.
 abbrev pub WordsOnly : (List ℕ → Number) → ℕ → List String → Type 0
 WordsOnly rule k ws = (f : List ℕ) (n : ℕ) → rule f ≡ Is (k + n) → (n < length ws) × (f ≡ bytes (getD ws n ""))
 
--- What is read by the words ws, numbered from k, is from k on and below k and their count.
+-- What the rule reads is from k on and below m.
 abbrev pub WordsWithin : (List ℕ → Number) → ℕ → ℕ → Type 0
 WordsWithin rule k m = (f : List ℕ) (n : ℕ) → rule f ≡ Is n → (k ≤ n) × (n < m)
 

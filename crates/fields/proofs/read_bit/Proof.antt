@@ -21,7 +21,9 @@ abbrev f2 : tie.Else2 → List ℕ
 f2 c = f1 (c .before .before .before)
 
 past2 : (c : tie.Else2) → bit (f2 c) ≡ nameFrom 2 (drop 2 bits) (f2 c)
-past2 c = past1 (c .before .before .before) ∙ name-next 1 "1" (drop 2 bits) (f2 c) (sym (c .if2 .left) ∙ c .before .same-bytes2 .ensures)
+past2 c =
+    past1 (c .before .before .before)
+    ∙ name-next 1 "1" (drop 2 bits) (f2 c) (sym (c .if2 .left) ∙ c .before .same-bytes2 .ensures)
 
 slice-aggregate-same-bytes : tie.Need-slice-aggregate-same-bytes
 slice-aggregate-same-bytes c = search needs
@@ -40,10 +42,22 @@ same-bytes-requires-2 : tie.Need-same-bytes-requires-2
 same-bytes-requires-2 c κs = search needs
 
 returns-2 : tie.Need-returns-2
-returns-2 c = sym (past1 (c .before .before .before) ∙ name-here 1 "1" (drop 2 bits) (f1 (c .before .before .before)) (sym (c .if2 .taken) ∙ c .before .same-bytes2 .ensures))
+returns-2 c =
+    sym
+    (past1 (c .before .before .before)
+    ∙ name-here 1 "1" (drop 2 bits) (f1 (c .before .before .before)) (sym (c .if2 .taken) ∙ c .before .same-bytes2 .ensures))
 
 returns-3 : tie.Need-returns-3
 returns-3 c = sym (past2 c)
 
 pub read-bit-spec : {M : Type 1} → statement M
-read-bit-spec = tie.close (tie.spec slice-aggregate-same-bytes same-bytes-requires returns slice-aggregate-same-bytes-2 same-bytes-requires-2 returns-2 returns-3)
+read-bit-spec =
+    tie.close
+    (tie.spec
+    slice-aggregate-same-bytes
+    same-bytes-requires
+    returns
+    slice-aggregate-same-bytes-2
+    same-bytes-requires-2
+    returns-2
+    returns-3)

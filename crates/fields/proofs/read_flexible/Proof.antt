@@ -21,13 +21,17 @@ abbrev f2 : tie.Else2 → List ℕ
 f2 c = f1 (c .before .before .before)
 
 past2 : (c : tie.Else2) → flexible (f2 c) ≡ nameFrom 3 (drop 2 flexibles) (f2 c)
-past2 c = past1 (c .before .before .before) ∙ name-next 2 "FALSE" (drop 2 flexibles) (f2 c) (sym (c .if2 .left) ∙ c .before .same-bytes2 .ensures)
+past2 c =
+    past1 (c .before .before .before)
+    ∙ name-next 2 "FALSE" (drop 2 flexibles) (f2 c) (sym (c .if2 .left) ∙ c .before .same-bytes2 .ensures)
 
 abbrev f3 : tie.Else3 → List ℕ
 f3 c = f2 (c .before .before .before)
 
 past3 : (c : tie.Else3) → flexible (f3 c) ≡ nameFrom 4 (drop 3 flexibles) (f3 c)
-past3 c = past2 (c .before .before .before) ∙ name-next 3 "REALTIME" (drop 3 flexibles) (f3 c) (sym (c .if3 .left) ∙ c .before .same-bytes3 .ensures)
+past3 c =
+    past2 (c .before .before .before)
+    ∙ name-next 3 "REALTIME" (drop 3 flexibles) (f3 c) (sym (c .if3 .left) ∙ c .before .same-bytes3 .ensures)
 
 slice-aggregate-same-bytes : tie.Need-slice-aggregate-same-bytes
 slice-aggregate-same-bytes c = search needs
@@ -46,7 +50,10 @@ same-bytes-requires-2 : tie.Need-same-bytes-requires-2
 same-bytes-requires-2 c κs = search needs
 
 returns-2 : tie.Need-returns-2
-returns-2 c = sym (past1 (c .before .before .before) ∙ name-here 2 "FALSE" (drop 2 flexibles) (f1 (c .before .before .before)) (sym (c .if2 .taken) ∙ c .before .same-bytes2 .ensures))
+returns-2 c =
+    sym
+    (past1 (c .before .before .before)
+    ∙ name-here 2 "FALSE" (drop 2 flexibles) (f1 (c .before .before .before)) (sym (c .if2 .taken) ∙ c .before .same-bytes2 .ensures))
 
 slice-aggregate-same-bytes-3 : tie.Need-slice-aggregate-same-bytes-3
 slice-aggregate-same-bytes-3 c = search needs
@@ -55,10 +62,25 @@ same-bytes-requires-3 : tie.Need-same-bytes-requires-3
 same-bytes-requires-3 c κs = search needs
 
 returns-3 : tie.Need-returns-3
-returns-3 c = sym (past2 (c .before .before .before) ∙ name-here 3 "REALTIME" (drop 3 flexibles) (f2 (c .before .before .before)) (sym (c .if3 .taken) ∙ c .before .same-bytes3 .ensures))
+returns-3 c =
+    sym
+    (past2 (c .before .before .before)
+    ∙ name-here 3 "REALTIME" (drop 3 flexibles) (f2 (c .before .before .before)) (sym (c .if3 .taken) ∙ c .before .same-bytes3 .ensures))
 
 returns-4 : tie.Need-returns-4
 returns-4 c = sym (past3 c)
 
 pub read-flexible-spec : {M : Type 1} → statement M
-read-flexible-spec = tie.close (tie.spec slice-aggregate-same-bytes same-bytes-requires returns slice-aggregate-same-bytes-2 same-bytes-requires-2 returns-2 slice-aggregate-same-bytes-3 same-bytes-requires-3 returns-3 returns-4)
+read-flexible-spec =
+    tie.close
+    (tie.spec
+    slice-aggregate-same-bytes
+    same-bytes-requires
+    returns
+    slice-aggregate-same-bytes-2
+    same-bytes-requires-2
+    returns-2
+    slice-aggregate-same-bytes-3
+    same-bytes-requires-3
+    returns-3
+    returns-4)

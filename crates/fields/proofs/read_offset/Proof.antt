@@ -99,7 +99,11 @@ mul-t18 : tie.Need-mul-t18
 mul-t18 c = search needs
 
 returns-7 : tie.Need-returns-7
-returns-7 c = let b = c .before .before in let d = back b in offset-is _ _ (hour d) _ (minute b) (c .before .if3 .left) (c .if4 .left) (d .before .before .before .before .before .before .before .if1 .left) (d .before .before .before .before .before .if2 .left)
+returns-7 c =
+    let m = c .before .before in
+    let h = back m in
+    let colon = h .before .before .before .before .before in
+    offset-is _ _ (hour h) _ (minute m) (c .before .if3 .left) (c .if4 .left) (colon .before .before .if1 .left) (colon .if2 .left)
 
 pub read-offset-spec : {M : Type 1} → statement M
 read-offset-spec =

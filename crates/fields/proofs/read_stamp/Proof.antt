@@ -113,16 +113,24 @@ enum-told-3 : tie.Need-enum-told-3
 enum-told-3 c = search needs
 
 returns-4 : tie.Need-returns-4
-returns-4 c = let t = c .before .before .before .before in stamp-no-offset _ _ (day (dated t)) _ (second t) (sym (c .enum-told3 .given .1) ∙ c .before .before .read-offset .ensures)
+returns-4 c =
+    let t = c .before .before .before .before in
+    stamp-no-offset _ _ (day (dated t)) _ (second t) (sym (c .enum-told3 .given .1) ∙ c .before .before .read-offset .ensures)
 
 shared-slice-read-stamp-seconds : tie.Need-shared-slice-read-stamp-seconds
 shared-slice-read-stamp-seconds c = omega (arith, long (shape (dated (timed (c .before)))))
 
 stamp-seconds-requires : tie.Need-stamp-seconds-requires
-stamp-seconds-requires c κs = let t = timed (c .before) in (date-real _ (day (dated t)), clock-below _ _ (second t), offset-most _ (away (c .before)))
+stamp-seconds-requires c κs =
+    let t = timed (c .before) in
+    (date-real _ (day (dated t)), clock-below _ _ (second t), offset-most _ (away (c .before)))
 
 returns-5 : tie.Need-returns-5
-returns-5 c = let o = c .before .before in let t = timed o in ap Is (c .stamp-seconds .ensures) ∙ stamp-is _ _ (day (dated t)) _ (second t) _ (away o) (shaped (shape (dated t)))
+returns-5 c =
+    let o = c .before .before in
+    let t = timed o in
+    ap Is (c .stamp-seconds .ensures)
+    ∙ stamp-is _ _ (day (dated t)) _ (second t) _ (away o) (shaped (shape (dated t)))
 
 pub read-stamp-spec : {M : Type 1} → statement M
 read-stamp-spec =

@@ -32,7 +32,9 @@ loop-less : tie.Need-loop-less Inv-loop μ-loop
 loop-less c = search needs
 
 loop-again : tie.Need-loop-again Inv-loop μ-loop
-loop-again c = move-mark _ _ _ _ _ (c .before .before .before .before .before .loop .inv) (search needs) (sym (c .before .before .step-at .ensures) ∙ c .enum-told .given .1)
+loop-again c =
+    let s = c .before .before in
+    move-mark _ _ _ _ _ (s .before .before .before .loop .inv) (search needs) (sym (s .step-at .ensures) ∙ c .enum-told .given .1)
 
 enum-known-v : tie.Need-enum-known-v Inv-loop μ-loop
 enum-known-v c = search needs
@@ -41,7 +43,13 @@ refused-requires : tie.Need-refused-requires Inv-loop μ-loop
 refused-requires c κs = search needs
 
 returns : tie.Need-returns Inv-loop μ-loop
-returns c = c .refused .ensures ∙ end-long _ _ _ _ _ (c .before .before .before .before .before .before .before .before .loop .inv) (search needs) _ (sym (c .before .before .before .before .before .step-at .ensures) ∙ c .before .before .before .v .given .1) (c .before .if1 .taken)
+returns c =
+    let v = c .before .before .before in
+    let s = v .before .before in
+    c .refused .ensures
+    ∙ end-long _ _ _ _ _ (s .before .before .before .loop .inv) (search needs) _
+    (sym (s .step-at .ensures) ∙ v .v .given .1)
+    (c .before .if1 .taken)
 
 array-write-out : tie.Need-array-write-out Inv-loop μ-loop
 array-write-out c = search needs
@@ -53,7 +61,10 @@ loop-less-2 : tie.Need-loop-less-2 Inv-loop μ-loop
 loop-less-2 c = search needs
 
 loop-again-2 : tie.Need-loop-again-2 Inv-loop μ-loop
-loop-again-2 c = move-byte _ _ _ _ _ (c .before .before .before .before .before .before .before .loop .inv) (search needs) _ (sym (c .before .before .before .before .step-at .ensures) ∙ c .before .before .v .given .1) (c .if1 .left)
+loop-again-2 c =
+    let v = c .before .before in
+    let s = v .before .before in
+    move-byte _ _ _ _ _ (s .before .before .before .loop .inv) (search needs) _ (sym (s .step-at .ensures) ∙ v .v .given .1) (c .if1 .left)
 
 enum-told-2 : tie.Need-enum-told-2 Inv-loop μ-loop
 enum-told-2 c = search needs
@@ -62,19 +73,26 @@ refused-requires-2 : tie.Need-refused-requires-2 Inv-loop μ-loop
 refused-requires-2 c κs = search needs
 
 returns-2 : tie.Need-returns-2 Inv-loop μ-loop
-returns-2 c = c .refused2 .ensures ∙ end-bad _ _ _ _ _ (c .before .before .before .before .before .before .loop .inv) (search needs) (sym (c .before .before .before .step-at .ensures) ∙ c .before .enum-told2 .given .1)
+returns-2 c =
+    let s = c .before .before .before in
+    c .refused2 .ensures
+    ∙ end-bad _ _ _ _ _ (s .before .before .before .loop .inv) (search needs) (sym (s .step-at .ensures) ∙ c .before .enum-told2 .given .1)
 
 refused-requires-3 : tie.Need-refused-requires-3 Inv-loop μ-loop
 refused-requires-3 c κs = search needs
 
 returns-3 : tie.Need-returns-3 Inv-loop μ-loop
-returns-3 c = c .refused3 .ensures ∙ end-open _ _ _ _ _ (c .before .before .before .loop .inv) (search needs) (c .before .if2 .taken)
+returns-3 c =
+    c .refused3 .ensures
+    ∙ end-open _ _ _ _ _ (c .before .before .before .loop .inv) (search needs) (c .before .if2 .taken)
 
 refused-requires-4 : tie.Need-refused-requires-4 Inv-loop μ-loop
 refused-requires-4 c κs = search needs
 
 returns-4 : tie.Need-returns-4 Inv-loop μ-loop
-returns-4 c = c .refused4 .ensures ∙ end-none _ _ _ _ _ (c .before .before .before .before .loop .inv) (search needs) (c .before .before .if2 .left) (c .before .if3 .taken)
+returns-4 c =
+    c .refused4 .ensures
+    ∙ end-none _ _ _ _ _ (c .before .before .before .before .loop .inv) (search needs) (c .before .before .if2 .left) (c .before .if3 .taken)
 
 returns-5 : tie.Need-returns-5 Inv-loop μ-loop
 returns-5 c = end-is _ _ _ _ _ (c .before .before .before .loop .inv) (search needs) (c .before .if2 .left) (c .if3 .left)

@@ -82,16 +82,26 @@ triple-of-requires : tie.Need-triple-of-requires
 triple-of-requires c κs = search needs
 
 returns-4 : tie.Need-returns-4
-returns-4 c = let a = c .before .before .before .before .before .before .before .before .before .before .before .before .before .args in
-    let e : a .w + 3 - (a .w + 1) ≡ 2 = omega arith in
-    let g : a .w + 6 - (a .w + 4) ≡ 2 = omega arith in
+returns-4 c =
+    let third = c .before in
+    let second = third .before .before in
+    let first = second .before .before in
+    let later = first .before .before in
+    let earlier = later .before .before in
+    let whole = earlier .before .before in
+    let a = whole .before .before .args in
+    let f = now (a .f) in
     let z : a .w - 0 ≡ a .w = omega arith in
+    let d : a .w + 3 - (a .w + 1) ≡ 2 = omega arith in
+    let e : a .w + 6 - (a .w + 4) ≡ 2 = omega arith in
     c .triple-of .ensures
     ∙ triple-is _ _ _ _ _ _
-    (c .before .before .before .before .before .read-number .ensures ∙ ap (λ (k : ℕ). number (a .w) (take k (now (a .f)))) z)
-    (c .before .before .before .read-number2 .ensures ∙ ap (λ (k : ℕ). number 2 (take k (drop (a .w + 1) (now (a .f))))) e)
-    (c .before .read-number3 .ensures ∙ ap (λ (k : ℕ). number 2 (take k (drop (a .w + 4) (now (a .f))))) g)
-    (c .before .before .before .before .before .before .before .before .before .before .before .if1 .left) (c .before .before .before .before .before .before .before .before .before .if2 .left) (c .before .before .before .before .before .before .before .if3 .left)
+    (first .read-number .ensures ∙ ap (λ (k : ℕ). number (a .w) (take k f)) z)
+    (second .read-number2 .ensures ∙ ap (λ (k : ℕ). number 2 (take k (drop (a .w + 1) f))) d)
+    (third .read-number3 .ensures ∙ ap (λ (k : ℕ). number 2 (take k (drop (a .w + 4) f))) e)
+    (whole .if1 .left)
+    (earlier .if2 .left)
+    (later .if3 .left)
 
 pub read-triple-spec : {M : Type 1} → statement M
 read-triple-spec =
