@@ -1,6 +1,6 @@
 -- The promise of each public function allows one result, which follows from what was passed. None is lent bytes to write. Assumes nothing.
 use mathlib.Core.Path.{sym, _∙_}
-use Rattle.clock.proofs.Outcome.{OneResult}
+use Rattle.lists.proofs.Promise.{OneResult}
 use Rattle.clock.proofs.is_date.Kinds as is-date
 use Rattle.clock.proofs.is_date.Reads as is-date-reads
 use Rattle.clock.proofs.day_count.Kinds as day-count

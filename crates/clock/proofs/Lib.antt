@@ -3,5 +3,4 @@ pub mod DateLaws
 pub mod MonthLaws
 pub mod DayLaws
 pub mod Claims
-pub mod Outcome
 pub mod Determined

@@ -1,6 +1,6 @@
 -- The promise of each public function allows one result, which follows from what was passed. None is lent bytes to write. Assumes nothing.
 use mathlib.Core.Path.{sym, _∙_}
-use Rattle.clock.proofs.Outcome.{OneResult}
+use Rattle.lists.proofs.Promise.{OneResult}
 use Rattle.fields.proofs.read_number.Kinds as read-number
 use Rattle.fields.proofs.read_number.Reads as read-number-reads
 use Rattle.fields.proofs.read_bit.Kinds as read-bit

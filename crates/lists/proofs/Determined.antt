@@ -1,7 +1,7 @@
 -- The promise of each public function allows one outcome: its answer, or the lent bytes afterwards, follows from what was passed. Assumes nothing.
 use mathlib.Core.Path.{sym, _∙_}
 use denote.Ref.{now}
-use Rattle.lists.proofs.Promise.{Determined}
+use Rattle.lists.proofs.Promise.{Determined, OneResult}
 use Rattle.lists.proofs.same_bytes.Kinds as same-bytes
 use Rattle.lists.proofs.same_bytes.Reads as same-bytes-reads
 use Rattle.lists.proofs.copy_to.Kinds as copy-to
@@ -19,10 +19,10 @@ use Rattle.lists.proofs.put_number.Reads as put-number-reads
 
 -- ---- functions that answer, and write nothing
 
-pub same-bytes-determined : Determined 2 same-bytes.ps same-bytes.r same-bytes-reads.Post (λ κs x s. x)
+pub same-bytes-determined : OneResult 2 same-bytes.ps same-bytes.r same-bytes-reads.Post
 same-bytes-determined κs a x y s t p q = p ∙ sym q
 
-pub get-number-determined : Determined 1 get-number.ps get-number.r get-number-reads.Post (λ κs x s. x)
+pub get-number-determined : OneResult 1 get-number.ps get-number.r get-number-reads.Post
 get-number-determined κs a x y s t p q = p ∙ sym q
 
 -- ---- functions that write into their first parameter, and answer nothing

@@ -13,3 +13,11 @@ Determined n ps r Post seen =
     Post κs a x s →
     Post κs a y t →
     seen κs x s ≡ seen κs y t
+
+-- of any two answers that a promise allows for the same arguments, whatever stands behind them at exit, both are the same
+abbrev pub OneResult : (n : ℕ) (ps : List (PK n)) (r : RK n) → Out n ps r → Type 0
+OneResult n ps r Post =
+    (κs : Lfts n) (a : Dens κs ps) (x y : resT r κs .Denot) (s t : AtExit (endedOf n ps r) κs) →
+    Post κs a x s →
+    Post κs a y t →
+    x ≡ y

@@ -1,21 +1,21 @@
--- Laws of the search for column names. Assumes nothing.
-use Prim.Native.Nat.{ℕ, zero, suc, _+_, _≤_, _<_, _-_}
+use Prim.Native.Nat.{ℕ, suc, _+_, _≤_, _<_, _-_}
 use native.Mathlib.Omega.{arith}
 use native.Mathlib.Numerals.{add-one}
 use mathlib.Core.Path.{_≡_, refl, sym, ap, _∙_}
 use mathlib.Core.Bool.{Bool, true, false}
 use mathlib.Core.List.{List, [], _∷_}
-use borrow.Author.Tests.{leb-true, leb-false, ltb-true, ltb-false, eqb-true, eqb-false, eq-eqb, ne-eqb, le-leb, lt-leb}
-use lib.ListN.{length, getD, take, drop, set, replicate}
-use lib.Dec.{eqb, ltb, leb}
+use borrow.Author.Tests.{leb-true, leb-false, ltb-true, ltb-false, eq-eqb, ne-eqb, le-leb, lt-leb}
+use lib.ListN.{length, take, drop, set, replicate}
+use lib.Dec.{ltb, leb}
 use Rattle.lists.specs.Logic.{on}
 use Rattle.lists.specs.Text.{same}
 use Rattle.turbo.specs.declared.Columns.{Columns}
-use Rattle.turbo.specs.declared.Seen.{Seen}
 use Rattle.turbo.specs.declared.Seen.the-variants.{First, Twice}
-use Rattle.turbo.specs.Split.{until, past, fields}
+use Rattle.turbo.specs.Split.{until, fields}
 use Rattle.turbo.specs.Columns.{count, place, anyTwice, placesFrom, columnsOf, noted, seenBy, sought, most}
-use Rattle.turbo.proofs.SplitLaws.{fields-cons, fields-last, rest-is}
+use Rattle.turbo.proofs.SplitLaws.{fields-cons, fields-last}
+
+-- Laws of the search for column names. Assumes nothing.
 
 -- the place of a name, n where the first bar of what is left was found
 module _ (name l : List ℕ) (n : ℕ) (e : n ≡ length (until 124 l)) where

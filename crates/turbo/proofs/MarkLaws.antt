@@ -1,16 +1,14 @@
--- Laws of a line's mark. Assumes nothing.
 use Prim.Native.Nat.{ℕ, _≤_, _<_}
 use native.Mathlib.Omega.{arith}
-use mathlib.Core.Path.{_≡_, refl, sym, ap, _∙_}
-use mathlib.Core.Bool.{Bool, true, false}
+use mathlib.Core.Path.{_≡_, refl, sym, ap}
 use mathlib.Core.List.{List, [], _∷_}
 use borrow.Author.Tests.{eq-eqb, ne-eqb}
-use lib.ListN.{length, getD, drop}
-use lib.Dec.{eqb}
-use Rattle.lists.specs.Logic.{on}
+use lib.ListN.{length, getD}
 use Rattle.turbo.specs.declared.Mark.{Mark}
-use Rattle.turbo.specs.declared.Mark.the-variants.{Group, Table, Labels, Data}
+use Rattle.turbo.specs.declared.Mark.the-variants.{Data}
 use Rattle.turbo.specs.Split.{letter, markOf, behind, afterMark}
+
+-- Laws of a line's mark. Assumes nothing.
 
 pub mark-short : (l : List ℕ) → length l < 2 → Data ≡ markOf l
 unfolding markOf

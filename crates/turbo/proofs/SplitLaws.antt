@@ -1,4 +1,3 @@
--- Laws of lines and fields: by the first of them, and what the walk over them cites. Assumes nothing.
 use Prim.Native.Nat.{ℕ, zero, suc, _+_, _≤_, _<_, _-_}
 use native.Mathlib.Numerals.{add-one}
 use native.Mathlib.Omega.{arith}
@@ -11,8 +10,10 @@ use lib.Seq.{drop-cons, take-all, drop-drop}
 use lib.Dec.{eqb, ltb}
 use mir.Val.{boolByte}
 use Rattle.lists.specs.Logic.{on}
-use Rattle.lists.proofs.PartLaws.{tail-all, tail-length}
+use Rattle.lists.proofs.PartLaws.{tail-all}
 use Rattle.turbo.specs.Split.{until, past, onto, fields, fieldAt, tailAt, linesFrom, lines}
+
+-- Laws of lines and fields: by the first of them, and what the walk over them cites. Assumes nothing.
 
 -- `until` is the first so many bytes
 pub until-take : (x : ℕ) (l : List ℕ) → take (length (until x l)) l ≡ until x l

@@ -1,3 +1,6 @@
 pub mod Escape
 pub mod Split
 pub mod Columns
+pub mod Told
+pub mod Claims
+pub mod Cases

@@ -241,16 +241,16 @@ pub fn field_of<'a>(line: &'a [u8], k: usize) -> &'a [u8]
 pub fn column_of(labels: &[u8], name: &[u8]) -> usize
     ensures { λ r. ⌜ r ≡ place (now (name .entry)) (fields (now (labels .entry))) ⌝ }
 {
-    let mut k: usize = 0;
+    let mut column: usize = 0;
     let mut l = labels;
     loop {
         let n = find(l, 124);
         if lists::same_bytes(&l[..n], name) {
-            return k;
+            return column;
         }
-        k += 1;
+        column += 1;
         if n == l.len() {
-            return k;
+            return column;
         }
         let a = n + 1;
         l = &l[a..];

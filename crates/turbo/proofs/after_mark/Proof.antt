@@ -1,18 +1,9 @@
-use Prim.Native.Nat.{ℕ, suc, _+_, _*_, _-_, _≤_, _<_}
-use native.Mathlib.Omega.{arith}
-use mathlib.Core.Path.{_≡_, refl, sym, ap, _∙_}
-use mathlib.Core.List.{List, [], _∷_, _++_}
-use lib.ListN.{length, take, drop, getD, set, length-set, length-drop}
-use mathlib.Core.Bool.{Bool, true, false}
-use mathlib.Core.Logic.{_⊎_, ⊎-elim}
-use borrow.Author.Tests.{eq-eqb, ne-eqb, lt-ltb, le-ltb, le-leb, lt-leb}
+use Prim.Native.Nat.{_-_}
+use mathlib.Core.Path.{_∙_}
 use borrow.Author.Needs.{needs}
 use Rattle.lists.proofs.PartLaws.{tail-all}
 use Rattle.turbo.proofs.after_mark.Statement.{statement}
 use Rattle.turbo.proofs.after_mark.Tie as tie
-use Rattle.turbo.proofs.after_mark.Reads as reads
-use Rattle.turbo.proofs.after_mark.Lts as lts
-use Rattle.turbo.proofs.mark_size.Reads as mark-size-reads
 
 mark-size-requires : tie.Need-mark-size-requires
 mark-size-requires c κs = search needs

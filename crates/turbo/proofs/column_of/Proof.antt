@@ -1,23 +1,15 @@
-use Prim.Native.Nat.{ℕ, suc, _+_, _*_, _-_, _≤_, _<_}
+use Prim.Native.Nat.{_+_, _-_, _≤_, _<_}
 use native.Mathlib.Omega.{arith}
-use mathlib.Core.Path.{_≡_, refl, sym, ap, _∙_}
-use mathlib.Core.List.{List, [], _∷_, _++_}
-use lib.ListN.{length, take, drop, getD, set, length-set, length-drop}
-use mathlib.Core.Bool.{Bool, true, false}
-use mathlib.Core.Logic.{_⊎_, ⊎-elim}
-use borrow.Author.Tests.{eq-eqb, ne-eqb, lt-ltb, le-ltb, le-leb, lt-leb}
+use mathlib.Core.Path.{_≡_, sym, _∙_}
+use lib.ListN.{length}
 use borrow.Author.Needs.{needs}
-use Rattle.turbo.specs.Split.{until, past, fields, fieldAt, tailAt, lines, linesFrom, letter, markOf, afterMark}
-use Rattle.turbo.specs.Columns.{place, count, noted, sought, columnsOf, anyTwice, placesFrom, most}
+use Rattle.turbo.specs.Split.{fields}
+use Rattle.turbo.specs.Columns.{place}
 use lib.Seq.{length-take-le}
-use Rattle.lists.proofs.PartLaws.{tail-all, tail-length}
+use Rattle.lists.proofs.PartLaws.{tail-length}
 use Rattle.turbo.proofs.ColumnLaws.{place-hit, place-last, place-more}
 use Rattle.turbo.proofs.column_of.Statement.{statement}
 use Rattle.turbo.proofs.column_of.Tie as tie
-use Rattle.turbo.proofs.column_of.Reads as reads
-use Rattle.turbo.proofs.column_of.Lts as lts
-use Rattle.lists.proofs.same_bytes.Reads as same-bytes-reads
-use Rattle.turbo.proofs.find.Reads as find-reads
 
 abbrev Inv-loop : tie.InvT-loop
 Inv-loop labels name k₀ l₀ k l = (k + length l ≤ length labels) × (k + place name (fields l) ≡ place name (fields labels))
@@ -40,8 +32,8 @@ same-bytes-requires c κs = search needs
 returns : tie.Need-returns Inv-loop μ-loop
 returns c = let b = c .before in let k = b .before .before .before in omega (arith, place-hit (k .before .before .before .args .name .now) (k .loop .l .now) (b .before .before .find .result) (b .before .before .find .ensures .0) (b .before .before .find .ensures .1) (sym (b .same-bytes .ensures) ∙ c .if1 .taken), k .loop .inv .1)
 
-add-k : tie.Need-add-k Inv-loop μ-loop
-add-k c = omega (arith, c .before .before .before .before .loop .inv .0, c .before .before .before .before .before .before .before .good)
+add-column : tie.Need-add-column Inv-loop μ-loop
+add-column c = omega (arith, c .before .before .before .before .loop .inv .0, c .before .before .before .before .before .before .before .good)
 
 returns-2 : tie.Need-returns-2 Inv-loop μ-loop
 returns-2 c = let b = c .before .before in let k = b .before .before .before in omega (arith, place-last (k .before .before .before .args .name .now) (k .loop .l .now) (b .before .before .find .result) (b .before .before .find .ensures .0) (c .if2 .taken) (sym (b .same-bytes .ensures) ∙ c .before .if1 .left), k .loop .inv .1)
@@ -75,7 +67,7 @@ column-of-spec =
     slice-aggregate-same-bytes
     same-bytes-requires
     returns
-    add-k
+    add-column
     returns-2
     add-a
     sub-l

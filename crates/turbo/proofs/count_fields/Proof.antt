@@ -1,20 +1,14 @@
-use Prim.Native.Nat.{ℕ, suc, _+_, _*_, _-_, _≤_, _<_}
+use Prim.Native.Nat.{_+_, _-_, _≤_}
 use native.Mathlib.Omega.{arith}
-use mathlib.Core.Path.{_≡_, refl, sym, ap, _∙_}
-use mathlib.Core.List.{List, [], _∷_, _++_}
-use lib.ListN.{length, take, drop, getD, set, length-set, length-drop}
-use mathlib.Core.Bool.{Bool, true, false}
-use mathlib.Core.Logic.{_⊎_, ⊎-elim}
-use borrow.Author.Tests.{eq-eqb, ne-eqb, lt-ltb, le-ltb, le-leb, lt-leb}
+use mathlib.Core.Path.{_≡_}
+use lib.ListN.{length, drop, getD}
 use borrow.Author.Needs.{needs}
 use lib.Dec.{eqb}
 use Rattle.lists.proofs.LogicLaws.{bool-most}
-use Rattle.turbo.specs.Split.{until, past, fields, fieldAt, tailAt, lines, linesFrom, letter, markOf, afterMark}
+use Rattle.turbo.specs.Split.{fields}
 use Rattle.turbo.proofs.SplitLaws.{fields-turn, fields-end}
 use Rattle.turbo.proofs.count_fields.Statement.{statement}
 use Rattle.turbo.proofs.count_fields.Tie as tie
-use Rattle.turbo.proofs.count_fields.Reads as reads
-use Rattle.turbo.proofs.count_fields.Lts as lts
 
 abbrev Inv-loop : tie.InvT-loop
 Inv-loop line n₀ i₀ n i = (i ≤ length line) × (n ≤ i) × (length (fields line) ≡ n + length (fields (drop i line)))

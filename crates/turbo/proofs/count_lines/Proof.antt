@@ -1,19 +1,13 @@
-use Prim.Native.Nat.{ℕ, suc, _+_, _*_, _-_, _≤_, _<_}
+use Prim.Native.Nat.{ℕ, _+_, _-_, _≤_}
 use native.Mathlib.Omega.{arith}
-use mathlib.Core.Path.{_≡_, refl, sym, ap, _∙_}
-use mathlib.Core.List.{List, [], _∷_, _++_}
-use lib.ListN.{length, take, drop, getD, set, length-set, length-drop}
-use mathlib.Core.Bool.{Bool, true, false}
-use mathlib.Core.Logic.{_⊎_, ⊎-elim}
-use borrow.Author.Tests.{eq-eqb, ne-eqb, lt-ltb, le-ltb, le-leb, lt-leb}
+use mathlib.Core.Path.{_≡_, ap}
+use mathlib.Core.List.{List}
+use lib.ListN.{length}
 use borrow.Author.Needs.{needs}
-use Rattle.turbo.specs.Split.{until, past, fields, fieldAt, tailAt, lines, linesFrom, letter, markOf, afterMark}
+use Rattle.turbo.specs.Split.{lines}
 use Rattle.turbo.proofs.SplitLaws.{after-line-shorter, lines-cons, lines-none}
 use Rattle.turbo.proofs.count_lines.Statement.{statement}
 use Rattle.turbo.proofs.count_lines.Tie as tie
-use Rattle.turbo.proofs.count_lines.Reads as reads
-use Rattle.turbo.proofs.count_lines.Lts as lts
-use Rattle.turbo.proofs.rest_after_line.Reads as rest-after-line-reads
 
 abbrev Inv-loop : tie.InvT-loop
 Inv-loop d n₀ t₀ n t = (n + length t ≤ length d) × (n + length (lines t) ≡ length (lines d))

@@ -1,20 +1,10 @@
-use Prim.Native.Nat.{ℕ, suc, _+_, _*_, _-_, _≤_, _<_}
-use native.Mathlib.Omega.{arith}
-use mathlib.Core.Path.{_≡_, refl, sym, ap, _∙_}
-use mathlib.Core.List.{List, [], _∷_, _++_}
-use lib.ListN.{length, take, drop, getD, set, length-set, length-drop}
-use mathlib.Core.Bool.{Bool, true, false}
-use mathlib.Core.Logic.{_⊎_, ⊎-elim}
-use borrow.Author.Tests.{eq-eqb, ne-eqb, lt-ltb, le-ltb, le-leb, lt-leb}
+use Prim.Native.Nat.{_-_}
+use mathlib.Core.Path.{ap, _∙_}
 use borrow.Author.Needs.{needs}
-use Rattle.turbo.specs.Split.{until, past, fields, fieldAt, tailAt, lines, linesFrom, letter, markOf, afterMark}
+use Rattle.turbo.specs.Split.{until}
 use Rattle.turbo.proofs.SplitLaws.{field-tail}
 use Rattle.turbo.proofs.field_of.Statement.{statement}
 use Rattle.turbo.proofs.field_of.Tie as tie
-use Rattle.turbo.proofs.field_of.Reads as reads
-use Rattle.turbo.proofs.field_of.Lts as lts
-use Rattle.turbo.proofs.first_field.Reads as first-field-reads
-use Rattle.turbo.proofs.rest_after_bars.Reads as rest-after-bars-reads
 
 rest-after-bars-requires : tie.Need-rest-after-bars-requires
 rest-after-bars-requires c κs = search needs

@@ -1,28 +1,20 @@
 use Rattle.turbo.proofs.ColumnLaws.{columnsFrom, columns-start, column-next, column-last, column-twice, name-next, name-last, name-twice, fields-fewer}
 use Rattle.turbo.proofs.SplitLaws.{fields-some}
 use Rattle.turbo.specs.Columns.{noted, sought, columnsOf, most}
-use Prim.Native.Nat.{ℕ, suc, _+_, _*_, _-_, _≤_, _<_}
+use Prim.Native.Nat.{ℕ, _+_, _-_, _≤_, _<_}
 use native.Mathlib.Omega.{arith}
 use mathlib.Core.Path.{_≡_, refl, sym, ap, _∙_}
-use mathlib.Core.List.{List, [], _∷_, _++_}
-use lib.ListN.{length, take, drop, getD, set, length-set, length-drop}
-use mathlib.Core.Bool.{Bool, true, false}
-use mathlib.Core.Logic.{_⊎_, ⊎-elim}
-use borrow.Author.Tests.{eq-eqb, ne-eqb, lt-ltb, le-ltb, le-leb, lt-leb}
+use mathlib.Core.List.{List}
+use lib.ListN.{length, take, drop, set}
+use mathlib.Core.Bool.{Bool, false}
 use borrow.Author.Needs.{needs}
-use Rattle.turbo.specs.Split.{until, past, fields}
+use Rattle.turbo.specs.Split.{fields}
 use Rattle.turbo.specs.Columns.{sought, columnsOf, most}
 use lib.Seq.{length-take-le}
-use Rattle.lists.proofs.PartLaws.{tail-all, tail-length}
+use Rattle.lists.proofs.PartLaws.{tail-length}
 use Rattle.turbo.proofs.ColumnLaws.{columnsFrom, columns-start, column-next, column-last, column-twice, name-next, name-last, name-twice}
 use Rattle.turbo.proofs.find_columns.Statement.{statement}
 use Rattle.turbo.proofs.find_columns.Tie as tie
-use Rattle.turbo.proofs.find_columns.Reads as reads
-use Rattle.turbo.proofs.find_columns.Lts as lts
-use Rattle.lists.proofs.same_bytes.Reads as same-bytes-reads
-use Rattle.turbo.proofs.count_fields.Reads as count-fields-reads
-use Rattle.turbo.proofs.find.Reads as find-reads
-use Rattle.turbo.proofs.note.Reads as note-reads
 
 abbrev Inv-columns : tie.InvT-columns
 Inv-columns wanted labels none twice₀ places₀ i w at name first₀ k₀ l₀ twice places first k l = (twice ≡ false) × (places ≡ places₀) × (k + length l ≤ length labels) × (sought none first k name (fields l) ≡ sought none none 0 name (fields labels))

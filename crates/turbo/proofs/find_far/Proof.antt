@@ -1,19 +1,12 @@
-use Prim.Native.Nat.{ℕ, suc, _+_, _*_, _-_, _≤_, _<_}
+use Prim.Native.Nat.{_+_, _-_, _≤_}
 use native.Mathlib.Omega.{arith}
-use mathlib.Core.Path.{_≡_, refl, sym, ap, _∙_}
-use mathlib.Core.List.{List, [], _∷_, _++_}
-use lib.ListN.{length, take, drop, getD, set, length-set, length-drop}
-use mathlib.Core.Bool.{Bool, true, false}
-use mathlib.Core.Logic.{_⊎_, ⊎-elim}
-use borrow.Author.Tests.{eq-eqb, ne-eqb, lt-ltb, le-ltb, le-leb, lt-leb}
+use mathlib.Core.Path.{_≡_}
+use lib.ListN.{length, drop}
 use borrow.Author.Needs.{needs}
-use Rattle.turbo.specs.Split.{until, past, fields, fieldAt, tailAt, lines, linesFrom, letter, markOf, afterMark}
+use Rattle.turbo.specs.Split.{until}
 use Rattle.turbo.proofs.SplitLaws.{until-hit, until-miss, until-end}
 use Rattle.turbo.proofs.find_far.Statement.{statement}
 use Rattle.turbo.proofs.find_far.Tie as tie
-use Rattle.turbo.proofs.find_far.Reads as reads
-use Rattle.turbo.proofs.find_far.Lts as lts
-use Rattle.turbo.proofs.free_blocks.Reads as free-blocks-reads
 
 abbrev Inv-loop : tie.InvT-loop
 Inv-loop s x i₀ i = (i ≤ length s) × (length (until x s) ≡ i + length (until x (drop i s)))

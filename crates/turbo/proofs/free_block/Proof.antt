@@ -1,11 +1,7 @@
-use Prim.Native.Nat.{ℕ, suc, _+_, _*_, _-_, _≤_, _<_}
+use Prim.Native.Nat.{ℕ, _+_, _-_, _≤_, _<_}
 use native.Mathlib.Omega.{arith}
-use mathlib.Core.Path.{_≡_, refl, sym, ap, _∙_}
-use mathlib.Core.List.{List, [], _∷_, _++_}
-use lib.ListN.{length, take, drop, getD, set, length-set, length-drop}
-use mathlib.Core.Bool.{Bool, true, false}
-use mathlib.Core.Logic.{_⊎_, ⊎-elim}
-use borrow.Author.Tests.{eq-eqb, ne-eqb, lt-ltb, le-ltb, le-leb, lt-leb}
+use mathlib.Core.Path.{_≡_}
+use lib.ListN.{getD}
 use borrow.Author.Needs.{needs}
 use borrow.Author.Tests.{eqb-true, eqb-false}
 use borrow.Author.Count.{below-more}
@@ -13,8 +9,6 @@ use lib.Dec.{eqb}
 use Rattle.lists.proofs.LogicLaws.{bool-most, bool-none}
 use Rattle.turbo.proofs.free_block.Statement.{statement}
 use Rattle.turbo.proofs.free_block.Tie as tie
-use Rattle.turbo.proofs.free_block.Reads as reads
-use Rattle.turbo.proofs.free_block.Lts as lts
 
 abbrev Inv-loop : tie.InvT-loop
 Inv-loop s i x n₀ j₀ n j = (j ≤ 16) × (n ≤ j) × (n ≡ 0 → (m : ℕ) → m < j → getD s (i + m) 0 ≡ x → ⊥)

@@ -1,18 +1,10 @@
-use Prim.Native.Nat.{ℕ, suc, _+_, _*_, _-_, _≤_, _<_}
+use Prim.Native.Nat.{_-_}
 use native.Mathlib.Omega.{arith}
-use mathlib.Core.Path.{_≡_, refl, sym, ap, _∙_}
-use mathlib.Core.List.{List, [], _∷_, _++_}
-use lib.ListN.{length, take, drop, getD, set, length-set, length-drop}
-use mathlib.Core.Bool.{Bool, true, false}
-use mathlib.Core.Logic.{_⊎_, ⊎-elim}
-use borrow.Author.Tests.{eq-eqb, ne-eqb, lt-ltb, le-ltb, le-leb, lt-leb}
+use mathlib.Core.Path.{_∙_}
 use borrow.Author.Needs.{needs}
 use Rattle.turbo.proofs.MarkLaws.{mark-short, mark-plain, mark-slash}
 use Rattle.turbo.proofs.mark_of.Statement.{statement}
 use Rattle.turbo.proofs.mark_of.Tie as tie
-use Rattle.turbo.proofs.mark_of.Reads as reads
-use Rattle.turbo.proofs.mark_of.Lts as lts
-use Rattle.turbo.proofs.mark_letter.Reads as mark-letter-reads
 
 returns : tie.Need-returns
 returns c = mark-short _ (c .if1 .taken)

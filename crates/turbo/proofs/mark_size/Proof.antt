@@ -1,20 +1,12 @@
-use Rattle.turbo.specs.Split.{until, past, fields, fieldAt, tailAt, lines, linesFrom, letter, markOf, afterMark}
+use Rattle.turbo.specs.Split.{markOf}
 use Rattle.turbo.specs.declared.Mark.the-variants.{Group, Table, Labels, Data}
-use Prim.Native.Nat.{ℕ, suc, _+_, _*_, _-_, _≤_, _<_}
+use Prim.Native.Nat.{ℕ, _-_}
 use native.Mathlib.Omega.{arith}
-use mathlib.Core.Path.{_≡_, refl, sym, ap, _∙_}
-use mathlib.Core.List.{List, [], _∷_, _++_}
-use lib.ListN.{length, take, drop, getD, set, length-set, length-drop}
-use mathlib.Core.Bool.{Bool, true, false}
-use mathlib.Core.Logic.{_⊎_, ⊎-elim}
-use borrow.Author.Tests.{eq-eqb, ne-eqb, lt-ltb, le-ltb, le-leb, lt-leb}
+use mathlib.Core.Path.{_≡_, sym, _∙_}
 use borrow.Author.Needs.{needs}
 use Rattle.turbo.proofs.MarkLaws.{mark-long, behind-mark}
 use Rattle.turbo.proofs.mark_size.Statement.{statement}
 use Rattle.turbo.proofs.mark_size.Tie as tie
-use Rattle.turbo.proofs.mark_size.Reads as reads
-use Rattle.turbo.proofs.mark_size.Lts as lts
-use Rattle.turbo.proofs.mark_of.Reads as mark-of-reads
 
 mark-of-requires : tie.Need-mark-of-requires
 mark-of-requires c κs = search needs

@@ -1,19 +1,11 @@
-use Prim.Native.Nat.{ℕ, suc, _+_, _*_, _-_, _≤_, _<_}
+use Prim.Native.Nat.{ℕ, suc, _-_}
 use native.Mathlib.Omega.{arith}
 use mathlib.Core.Path.{_≡_, refl, sym, ap, _∙_}
-use mathlib.Core.List.{List, [], _∷_, _++_}
-use lib.ListN.{length, take, drop, getD, set, length-set, length-drop}
-use mathlib.Core.Bool.{Bool, true, false}
-use mathlib.Core.Logic.{_⊎_, ⊎-elim}
-use borrow.Author.Tests.{eq-eqb, ne-eqb, lt-ltb, le-ltb, le-leb, lt-leb}
 use borrow.Author.Needs.{needs}
-use Rattle.turbo.specs.Split.{until, past, fields, fieldAt, tailAt, lines, linesFrom, letter, markOf, afterMark}
+use Rattle.turbo.specs.Split.{tailAt}
 use Rattle.turbo.proofs.SplitLaws.{tail-next, tail-zero}
 use Rattle.turbo.proofs.rest_after_bars.Statement.{statement}
 use Rattle.turbo.proofs.rest_after_bars.Tie as tie
-use Rattle.turbo.proofs.rest_after_bars.Reads as reads
-use Rattle.turbo.proofs.rest_after_bars.Lts as lts
-use Rattle.turbo.proofs.rest_after_bar.Reads as rest-after-bar-reads
 
 abbrev Inv-loop : tie.InvT-loop
 Inv-loop line k t₀ left₀ t left = tailAt left t ≡ tailAt k line

@@ -1,0 +1,92 @@
+-- The promise of each public function allows one outcome: its result, the bytes of a part that it hands back, and what it leaves behind a `&mut` follow from what was passed. Assumes nothing.
+use mathlib.Core.Path.{_≡_, sym, ap, _∙_}
+use denote.Ref.{now}
+use Rattle.lists.proofs.Promise.{Determined, OneResult}
+use Rattle.turbo.proofs.escaped.Kinds as escaped
+use Rattle.turbo.proofs.escaped.Reads as escaped-reads
+use Rattle.turbo.proofs.find.Kinds as find
+use Rattle.turbo.proofs.find.Reads as find-reads
+use Rattle.turbo.proofs.find_far.Kinds as find-far
+use Rattle.turbo.proofs.find_far.Reads as find-far-reads
+use Rattle.turbo.proofs.first_line.Kinds as first-line
+use Rattle.turbo.proofs.first_line.Reads as first-line-reads
+use Rattle.turbo.proofs.rest_after_line.Kinds as rest-after-line
+use Rattle.turbo.proofs.rest_after_line.Reads as rest-after-line-reads
+use Rattle.turbo.proofs.count_lines.Kinds as count-lines
+use Rattle.turbo.proofs.count_lines.Reads as count-lines-reads
+use Rattle.turbo.proofs.mark_of.Kinds as mark-of
+use Rattle.turbo.proofs.mark_of.Reads as mark-of-reads
+use Rattle.turbo.proofs.after_mark.Kinds as after-mark
+use Rattle.turbo.proofs.after_mark.Reads as after-mark-reads
+use Rattle.turbo.proofs.count_fields.Kinds as count-fields
+use Rattle.turbo.proofs.count_fields.Reads as count-fields-reads
+use Rattle.turbo.proofs.first_field.Kinds as first-field
+use Rattle.turbo.proofs.first_field.Reads as first-field-reads
+use Rattle.turbo.proofs.rest_after_bar.Kinds as rest-after-bar
+use Rattle.turbo.proofs.rest_after_bar.Reads as rest-after-bar-reads
+use Rattle.turbo.proofs.rest_after_bars.Kinds as rest-after-bars
+use Rattle.turbo.proofs.rest_after_bars.Reads as rest-after-bars-reads
+use Rattle.turbo.proofs.read_field.Kinds as read-field
+use Rattle.turbo.proofs.read_field.Reads as read-field-reads
+use Rattle.turbo.proofs.field_of.Kinds as field-of
+use Rattle.turbo.proofs.field_of.Reads as field-of-reads
+use Rattle.turbo.proofs.column_of.Kinds as column-of
+use Rattle.turbo.proofs.column_of.Reads as column-of-reads
+use Rattle.turbo.proofs.lookup.Kinds as lookup
+use Rattle.turbo.proofs.lookup.Reads as lookup-reads
+use Rattle.turbo.proofs.find_columns.Kinds as find-columns
+use Rattle.turbo.proofs.find_columns.Reads as find-columns-reads
+
+pub escaped-determined : OneResult 0 escaped.ps escaped.r escaped-reads.Post
+escaped-determined κs a x y s t p q = p ∙ sym q
+
+pub find-determined : OneResult 1 find.ps find.r find-reads.Post
+find-determined κs a x y s t p q = p .0 ∙ sym (q .0)
+
+pub find-far-determined : OneResult 1 find-far.ps find-far.r find-far-reads.Post
+find-far-determined κs a x y s t p q = p .0 ∙ sym (q .0)
+
+pub first-line-determined : Determined 1 first-line.ps first-line.r first-line-reads.Post (λ κs x s. now x)
+first-line-determined κs a x y s t p q = p ∙ sym q
+
+pub rest-after-line-determined : Determined 1 rest-after-line.ps rest-after-line.r rest-after-line-reads.Post (λ κs x s. now x)
+rest-after-line-determined κs a x y s t p q = p ∙ sym q
+
+pub count-lines-determined : OneResult 1 count-lines.ps count-lines.r count-lines-reads.Post
+count-lines-determined κs a x y s t p q = p ∙ sym q
+
+pub mark-of-determined : OneResult 1 mark-of.ps mark-of.r mark-of-reads.Post
+mark-of-determined κs a x y s t p q = p ∙ sym q
+
+pub after-mark-determined : Determined 1 after-mark.ps after-mark.r after-mark-reads.Post (λ κs x s. now x)
+after-mark-determined κs a x y s t p q = p ∙ sym q
+
+pub count-fields-determined : OneResult 1 count-fields.ps count-fields.r count-fields-reads.Post
+count-fields-determined κs a x y s t p q = p ∙ sym q
+
+pub first-field-determined : Determined 1 first-field.ps first-field.r first-field-reads.Post (λ κs x s. now x)
+first-field-determined κs a x y s t p q = p ∙ sym q
+
+pub rest-after-bar-determined : Determined 1 rest-after-bar.ps rest-after-bar.r rest-after-bar-reads.Post (λ κs x s. now x)
+rest-after-bar-determined κs a x y s t p q = p ∙ sym q
+
+pub rest-after-bars-determined : Determined 1 rest-after-bars.ps rest-after-bars.r rest-after-bars-reads.Post (λ κs x s. now x)
+rest-after-bars-determined κs a x y s t p q = p ∙ sym q
+
+pub read-field-tail-determined : Determined 2 read-field.ps read-field.r read-field-reads.Post (λ κs x s. now x)
+read-field-tail-determined κs a x y s t p q = p .0 ∙ sym (q .0)
+
+pub read-field-size-determined : Determined 2 read-field.ps read-field.r read-field-reads.Post (λ κs x s. now (s .1 .0))
+read-field-size-determined κs a x y s t p q = p .1 ∙ sym (q .1)
+
+pub field-of-determined : Determined 1 field-of.ps field-of.r field-of-reads.Post (λ κs x s. now x)
+field-of-determined κs a x y s t p q = p ∙ sym q
+
+pub column-of-determined : OneResult 2 column-of.ps column-of.r column-of-reads.Post
+column-of-determined κs a x y s t p q = p ∙ sym q
+
+pub lookup-determined : Determined 3 lookup.ps lookup.r lookup-reads.Post (λ κs x s. now x)
+lookup-determined κs a x y s t p q = p ∙ sym q
+
+pub find-columns-determined : OneResult 2 find-columns.ps find-columns.r find-columns-reads.Post
+find-columns-determined κs a x y s t p q = p ∙ sym q
