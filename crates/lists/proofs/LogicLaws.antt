@@ -1,6 +1,6 @@
 -- Laws of tests. Assumes nothing.
-use mathlib.Core.Path.{_≡_, refl}
-use mathlib.Core.Bool.{Bool, true, false}
+use mathlib.Core.Path.{_≡_, refl, sym, _∙_}
+use mathlib.Core.Bool.{Bool, true, false, _||_}
 use Prim.Native.Nat.{ℕ, _<_, _≤_}
 use native.Mathlib.Omega.{arith}
 use borrow.Author.Tests.{le-leb, lt-leb, leb-true}
@@ -47,3 +47,13 @@ bool-most false = omega arith
 pub bool-none : (t : Bool) → boolByte t ≡ 0 → t ≡ false
 bool-none true e = absurd (omega arith)
 bool-none false e = refl
+
+-- tests joined without a branch, as the code joins them
+pub or-either : (a b : Bool) → (a || b) ≡ either a b
+or-either true true = refl
+or-either true false = refl
+or-either false true = refl
+or-either false false = refl
+
+pub or-false : (a b : Bool) → (a || b) ≡ false → (a ≡ false) × (b ≡ false)
+or-false a b e = either-false a b (sym (or-either a b) ∙ e)

@@ -1,6 +1,6 @@
 // The form of a turbo dossier: a machine that reads a byte at a time, and a check of a whole dossier that goes by runs of quiet bytes.
 ghost use mathlib.Core.Path.{_≡_};
-ghost use mathlib.Core.Bool.{Bool, true};
+ghost use mathlib.Core.Bool.{Bool, true, false};
 ghost use Prim.Native.Nat.{_+_, _≤_, _<_};
 ghost use lib.ListN.{length, drop, getD};
 ghost use Rattle.syntax.specs.declared.Kind.{Kind};
@@ -211,24 +211,21 @@ enum Started {
 fn is_loud(x: u8) -> bool
     ensures { λ r. ⌜ r ≡ loud x ⌝ }
 {
-    if x < 32 {
-        return true;
-    }
-    x == 92
+    (x < 32) | (x == 92)
 }
 
-// Whether sixteen bytes from i on are quiet. No branch in the loop, so that it compiles to a few vector instructions.
-fn quiet_block(d: &[u8], i: usize) -> bool
+// Whether one of sixteen bytes from i on may be loud. No branch in the loop, so that it compiles to a few vector instructions.
+fn loud_block(d: &[u8], i: usize) -> bool
     requires { ⌜ i + 16 ≤ length (now d) ⌝ }
-    ensures { λ r. ⌜ (r ≡ true → 16 ≤ quietFor (drop i (now (d .entry)))) ⌝ }
+    ensures { λ r. ⌜ (r ≡ false → 16 ≤ quietFor (drop i (now (d .entry)))) ⌝ }
 {
-    let mut n: u8 = 0;
+    let mut any = false;
     let mut j = 0;
     while j < 16 {
-        n += is_loud(d[i + j]) as u8;
+        any = any | is_loud(d[i + j]);
         j += 1;
     }
-    n == 0
+    any
 }
 
 // Past the whole quiet blocks from i on.
@@ -239,11 +236,10 @@ fn quiet_blocks(d: &[u8], i: usize) -> usize
 {
     let mut p = i;
     while 16 <= d.len() - p {
-        if quiet_block(d, p) {
-            p += 16;
-        } else {
+        if loud_block(d, p) {
             return p;
         }
+        p += 16;
     }
     p
 }

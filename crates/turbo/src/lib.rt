@@ -1,6 +1,6 @@
 // The walk over a dossier: its lines, their fields as parts of the lent bytes, the search for column names, and escapes.
 ghost use mathlib.Core.Path.{_≡_};
-ghost use mathlib.Core.Bool.{true};
+ghost use mathlib.Core.Bool.{false};
 ghost use Prim.Native.Nat.{ℕ, _+_, _≤_, _<_};
 ghost use lib.ListN.{length, drop, getD};
 ghost use Rattle.turbo.specs.Escape.{escaped};
@@ -35,18 +35,18 @@ pub fn find(s: &[u8], x: u8) -> usize
     i
 }
 
-// Whether sixteen bytes from i on are none of them x. No branch in the loop, so that it compiles to a few vector instructions.
-fn free_block(s: &[u8], i: usize, x: u8) -> bool
+// Whether one of sixteen bytes from i on is x. No branch in the loop, so that it compiles to a few vector instructions.
+fn block_has(s: &[u8], i: usize, x: u8) -> bool
     requires { ⌜ i + 16 ≤ length (now s) ⌝ }
-    ensures { λ r. ⌜ (r ≡ true → (m : ℕ) → m < 16 → getD (now (s .entry)) (i + m) 0 ≡ x → ⊥) ⌝ }
+    ensures { λ r. ⌜ (r ≡ false → (m : ℕ) → m < 16 → getD (now (s .entry)) (i + m) 0 ≡ x → ⊥) ⌝ }
 {
-    let mut n: u8 = 0;
+    let mut any = false;
     let mut j = 0;
     while j < 16 {
-        n += (s[i + j] == x) as u8;
+        any = any | (s[i + j] == x);
         j += 1;
     }
-    n == 0
+    any
 }
 
 // Past the whole blocks without x.
@@ -56,11 +56,10 @@ fn free_blocks(s: &[u8], x: u8) -> usize
 {
     let mut p = 0;
     while 16 <= s.len() - p {
-        if free_block(s, p, x) {
-            p += 16;
-        } else {
+        if block_has(s, p, x) {
             return p;
         }
+        p += 16;
     }
     p
 }
@@ -168,12 +167,48 @@ fn mark_size(line: &[u8]) -> usize
     }
 }
 
-// How many fields a line has. No branch in the loop.
+// How many of sixty-four bytes from i on are bars. No branch in the loop, and a count that fits a byte.
+fn bars_in_block(line: &[u8], i: usize) -> u8
+    requires { ⌜ i + 64 ≤ length (now line) ⌝ }
+    ensures is { λ r. ⌜ length (fields (drop i (now (line .entry)))) ≡ r + length (fields (drop (i + 64) (now (line .entry)))) ⌝ }
+    ensures few { λ r. ⌜ r ≤ 64 ⌝ }
+{
+    let mut bars: u8 = 0;
+    let mut j = 0;
+    while j < 64 {
+        bars += (line[i + j] == 124) as u8;
+        j += 1;
+    }
+    bars
+}
+
+// What the count of a line's bars has come to: how many stand before a place.
+struct Bars {
+    at: usize,
+    count: usize,
+}
+
+// The bars in the whole blocks of a line.
+fn bars_in_blocks(line: &[u8]) -> Bars
+    ensures within { λ r. ⌜ (r .at ≤ length (now (line .entry))) × (r .count ≤ r .at) ⌝ }
+    ensures is { λ r. ⌜ length (fields (now (line .entry))) ≡ r .count + length (fields (drop (r .at) (now (line .entry)))) ⌝ }
+{
+    let mut n: usize = 0;
+    let mut p = 0;
+    while 64 <= line.len() - p {
+        n += bars_in_block(line, p) as usize;
+        p += 64;
+    }
+    Bars { at: p, count: n }
+}
+
+// How many fields a line has.
 pub fn count_fields(line: &[u8]) -> usize
     ensures { λ r. ⌜ r ≡ length (fields (now (line .entry))) ⌝ }
 {
-    let mut n: usize = 0;
-    let mut i = 0;
+    let whole = bars_in_blocks(line);
+    let mut n: usize = whole.count;
+    let mut i: usize = whole.at;
     while i < line.len() {
         n += (line[i] == 124) as usize;
         i += 1;

@@ -1,12 +1,13 @@
-use Rattle.syntax.proofs.ScanLaws.{loud-low, loud-high}
+use Prim.Native.Nat.{_-_}
+use lib.Dec.{eqb, ltb}
+use Rattle.lists.proofs.LogicLaws.{or-either}
+use Rattle.syntax.specs.Scan.{loud}
 use Rattle.syntax.proofs.is_loud.Statement.{statement}
 use Rattle.syntax.proofs.is_loud.Tie as tie
 
 returns : tie.Need-returns
-returns c = loud-low _ (c .if1 .taken)
-
-returns-2 : tie.Need-returns-2
-returns-2 c = loud-high _ (c .if1 .left)
+unfolding loud
+returns c = or-either (ltb (c .args .x) 32) (eqb (c .args .x) 92)
 
 pub is-loud-spec : {M : Type 1} → statement M
-is-loud-spec = tie.close (tie.spec returns returns-2)
+is-loud-spec = tie.close (tie.spec returns)

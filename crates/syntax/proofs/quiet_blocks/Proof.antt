@@ -20,8 +20,11 @@ loop-holds c = (c .before .pre, refl)
 sub-loop : tie.Need-sub-loop Inv-loop μ-loop
 sub-loop c = search needs
 
-quiet-block-requires : tie.Need-quiet-block-requires Inv-loop μ-loop
-quiet-block-requires c κs = search needs
+loud-block-requires : tie.Need-loud-block-requires Inv-loop μ-loop
+loud-block-requires c κs = search needs
+
+returns : tie.Need-returns Inv-loop μ-loop
+returns c = c .before .before .before .loop .inv
 
 add-p : tie.Need-add-p Inv-loop μ-loop
 add-p c = search needs
@@ -30,10 +33,7 @@ loop-less : tie.Need-loop-less Inv-loop μ-loop
 loop-less c = search needs
 
 loop-again : tie.Need-loop-again Inv-loop μ-loop
-loop-again c = let l = c .before .before .before .loop in let s = c .before .before .before .before .before in (omega arith, omega (arith, quiet-skip (s .args .d .now) (l .p) 16 (c .before .quiet-block .ensures (c .if1 .taken))))
-
-returns : tie.Need-returns Inv-loop μ-loop
-returns c = c .before .before .before .loop .inv
+loop-again c = let l = c .before .before .before .loop in let s = c .before .before .before .before .before in (omega arith, omega (arith, quiet-skip (s .args .d .now) (l .p) 16 (c .before .loud-block .ensures (c .if1 .left))))
 
 returns-2 : tie.Need-returns-2 Inv-loop μ-loop
 returns-2 c = c .before .loop .inv
@@ -46,9 +46,9 @@ quiet-blocks-spec =
     μ-loop
     loop-holds
     sub-loop
-    quiet-block-requires
+    loud-block-requires
+    returns
     add-p
     loop-less
     loop-again
-    returns
     returns-2)

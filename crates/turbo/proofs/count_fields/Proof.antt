@@ -16,8 +16,11 @@ Inv-loop line n₀ i₀ n i = (i ≤ length line) × (n ≤ i) × (length (field
 abbrev μ-loop : tie.MeasureT-loop
 μ-loop line n₀ i₀ n i = length line - i
 
+bars-in-blocks-requires : tie.Need-bars-in-blocks-requires Inv-loop μ-loop
+bars-in-blocks-requires c κs = search needs
+
 loop-holds : tie.Need-loop-holds Inv-loop μ-loop
-loop-holds c = (search needs, search needs, search needs)
+loop-holds c = let e = c .bars-in-blocks .ensures in (e .0 .0, e .0 .1, e .1)
 
 shared-slice-read-n : tie.Need-shared-slice-read-n Inv-loop μ-loop
 shared-slice-read-n c = search needs
@@ -26,7 +29,7 @@ cast-n : tie.Need-cast-n Inv-loop μ-loop
 cast-n c = search needs
 
 add-n : tie.Need-add-n Inv-loop μ-loop
-add-n c = let l = c .before .before .loop in let s = c .before .before .before in omega (arith, bool-most (eqb (getD (s .args .line .now) (l .i) 0) 124))
+add-n c = let l = c .before .before .loop in let s = c .before .before .before .before .before in omega (arith, bool-most (eqb (getD (s .args .line .now) (l .i) 0) 124))
 
 add-i : tie.Need-add-i Inv-loop μ-loop
 add-i c = search needs
@@ -35,13 +38,13 @@ loop-less : tie.Need-loop-less Inv-loop μ-loop
 loop-less c = search needs
 
 loop-again : tie.Need-loop-again Inv-loop μ-loop
-loop-again c = let l = c .before .before .loop in let s = c .before .before .before in (omega arith, omega (arith, bool-most (eqb (getD (s .args .line .now) (l .i) 0) 124)), omega (arith, fields-turn (s .args .line .now) (l .i) (c .before .loop-test .taken)))
+loop-again c = let l = c .before .before .loop in let s = c .before .before .before .before .before in (omega arith, omega (arith, bool-most (eqb (getD (s .args .line .now) (l .i) 0) 124)), omega (arith, fields-turn (s .args .line .now) (l .i) (c .before .loop-test .taken)))
 
 add-result : tie.Need-add-result Inv-loop μ-loop
-add-result c = omega (arith, c .before .before .good)
+add-result c = omega (arith, c .before .before .before .before .good)
 
 returns : tie.Need-returns Inv-loop μ-loop
-returns c = let l = c .before .loop in let s = c .before .before in omega (arith, fields-end (s .args .line .now) (l .i) (c .loop-test .left))
+returns c = let l = c .before .loop in let s = c .before .before .before .before in omega (arith, fields-end (s .args .line .now) (l .i) (c .loop-test .left))
 
 pub count-fields-spec : {M : Type 1} → statement M
 count-fields-spec =
@@ -49,6 +52,7 @@ count-fields-spec =
     (tie.spec
     Inv-loop
     μ-loop
+    bars-in-blocks-requires
     loop-holds
     shared-slice-read-n
     cast-n

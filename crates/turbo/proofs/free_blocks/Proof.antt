@@ -20,8 +20,11 @@ loop-holds c = search needs
 sub-loop : tie.Need-sub-loop Inv-loop μ-loop
 sub-loop c = search needs
 
-free-block-requires : tie.Need-free-block-requires Inv-loop μ-loop
-free-block-requires c κs = search needs
+block-has-requires : tie.Need-block-has-requires Inv-loop μ-loop
+block-has-requires c κs = search needs
+
+returns : tie.Need-returns Inv-loop μ-loop
+returns c = c .before .before .before .loop .inv
 
 add-p : tie.Need-add-p Inv-loop μ-loop
 add-p c = search needs
@@ -30,10 +33,7 @@ loop-less : tie.Need-loop-less Inv-loop μ-loop
 loop-less c = search needs
 
 loop-again : tie.Need-loop-again Inv-loop μ-loop
-loop-again c = let l = c .before .before .before .loop in let s = c .before .before .before .before .before in (omega arith, omega (arith, until-free (s .args .x) (s .args .s .now) (l .p) 16 (omega arith) (c .before .free-block .ensures (c .if1 .taken))))
-
-returns : tie.Need-returns Inv-loop μ-loop
-returns c = c .before .before .before .loop .inv
+loop-again c = let l = c .before .before .before .loop in let s = c .before .before .before .before .before in (omega arith, omega (arith, until-free (s .args .x) (s .args .s .now) (l .p) 16 (omega arith) (c .before .block-has .ensures (c .if1 .left))))
 
 returns-2 : tie.Need-returns-2 Inv-loop μ-loop
 returns-2 c = c .before .loop .inv
@@ -46,9 +46,9 @@ free-blocks-spec =
     μ-loop
     loop-holds
     sub-loop
-    free-block-requires
+    block-has-requires
+    returns
     add-p
     loop-less
     loop-again
-    returns
     returns-2)
