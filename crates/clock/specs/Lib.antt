@@ -1,0 +1,3 @@
+pub mod Date
+pub mod Moment
+pub mod Claims

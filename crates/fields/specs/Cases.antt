@@ -1,0 +1,87 @@
+-- The paper's cases that fields and dates decide, by computation. Assumes nothing.
+use mathlib.Core.Path.{_≡_, refl}
+use mathlib.Core.Bool.{true}
+use Rattle.lists.specs.Text.{bytes, same}
+use Rattle.clock.specs.Date.{daysIn, isDate}
+use Rattle.clock.specs.Moment.{monthStart, dayCount, momentOf}
+use Rattle.turbo.specs.Escape.{escaped, decode}
+use Rattle.fields.specs.declared.Number.the-variants.{Is, Wrong}
+use Rattle.fields.specs.declared.Time.the-variants as Times
+use Rattle.fields.specs.Digits.{number, triple}
+use Rattle.fields.specs.Times.{clock, time}
+use Rattle.fields.specs.Dates.{date}
+use Rattle.fields.specs.Stamps.{offset, stampSeconds, stamp}
+use Rattle.fields.specs.Names.{bit, status, stopType, flexible}
+use Rattle.fields.specs.Texts.{padded, text}
+
+-- P1: 31:59:59 is 115,199; 32:00:00 is refused
+pub P1 : (time (bytes "31:59:59") ≡ Times.Is (record { 0 = 115199 })) × (time (bytes "32:00:00") ≡ Times.Wrong)
+unfolding time clock triple number
+P1 = (refl, refl)
+
+-- P2: 2000-02-29 is a date, 2023-02-29 not
+pub P2 : (date (bytes "2000-02-29") ≡ Is 20000229) × (date (bytes "2023-02-29") ≡ Wrong)
+unfolding date isDate daysIn triple number
+P2 = (refl, refl)
+
+-- P3: a stamp an hour east of UTC
+pub P3 : stamp (bytes "2016-03-01T15:15:30+01:00") ≡ Is 1456841730
+unfolding stamp stampSeconds monthStart dayCount offset clock date isDate daysIn triple number
+P3 = refl
+
+-- P4, its first half: an escaped bar and an escaped backslash
+pub P4-decoded : decode (bytes "a\\pb\\i") ≡ bytes "a|b\\"
+unfolding decode escaped
+P4-decoded = refl
+
+-- the same field kept as a text
+pub P4-kept : text (bytes "a\\pb\\i") ≡ record { ok = true; bytes = padded (bytes "a|b\\") }
+unfolding text decode escaped
+P4-kept = refl
+
+-- 25:20:00 on 2017-01-01 is 01:20:00 on 2017-01-02
+pub next-day : momentOf 20170101 (record { 0 = 91200 }) ≡ momentOf 20170102 (record { 0 = 4800 })
+unfolding dayCount monthStart daysIn
+next-day = refl
+
+-- and these are the times that T gives
+pub next-day-times :
+    (time (bytes "25:20:00") ≡ Times.Is (record { 0 = 91200 })) × (time (bytes "01:20:00") ≡ Times.Is (record { 0 = 4800 }))
+unfolding time clock triple number
+next-day-times = (refl, refl)
+
+-- each status in its order; PLAN is refused
+pub statuses-read :
+    (status (bytes "PLANNED") ≡ Is 0)
+    × (status (bytes "CANCEL") ≡ Is 1)
+    × (status (bytes "UNKNOWN") ≡ Is 2)
+    × (status (bytes "DRIVING") ≡ Is 3)
+    × (status (bytes "ARRIVED") ≡ Is 4)
+    × (status (bytes "PASSED") ≡ Is 5)
+    × (status (bytes "PLAN") ≡ Wrong)
+unfolding status same
+statuses-read = (refl, refl, refl, refl, refl, refl, refl)
+
+-- each stop type, and each word of ShowFlexibleTrip
+pub words-read :
+    (stopType (bytes "FIRST") ≡ Is 0)
+    × (stopType (bytes "INTERMEDIATE") ≡ Is 1)
+    × (stopType (bytes "LAST") ≡ Is 2)
+    × (flexible (bytes "TRUE") ≡ Is 1)
+    × (flexible (bytes "FALSE") ≡ Is 2)
+    × (flexible (bytes "REALTIME") ≡ Is 3)
+unfolding stopType flexible same
+words-read = (refl, refl, refl, refl, refl, refl)
+
+-- leading zeros count as digits and not in the value
+pub zeros-read : (number 6 (bytes "007") ≡ Is 7) × (number 6 (bytes "0000001") ≡ Wrong) × (bit (bytes "00") ≡ Wrong)
+unfolding number bit same
+zeros-read = (refl, refl, refl)
+
+-- an offset up to 14:00 and no further; west of UTC is later there
+pub offsets-read :
+    (stamp (bytes "2000-01-01T00:00:00+14:00") ≡ Is 946634400)
+    × (stamp (bytes "2099-12-31T23:59:59-14:00") ≡ Is 4102495199)
+    × (stamp (bytes "2016-03-01T15:15:30+14:01") ≡ Wrong)
+unfolding stamp stampSeconds monthStart dayCount offset clock date isDate daysIn triple number
+offsets-read = (refl, refl, refl)
