@@ -1,0 +1,4 @@
+pub mod TestLaws
+pub mod PaddedLaws
+pub mod FieldLaws
+pub mod RegisterLaws
