@@ -1,4 +1,5 @@
 pub mod TestLaws
 pub mod PaddedLaws
 pub mod FieldLaws
+pub mod RangeLaws
 pub mod RegisterLaws

@@ -1,3 +1,4 @@
 pub mod Layout
 pub mod Ranges
+pub mod Facts
 pub mod Register
