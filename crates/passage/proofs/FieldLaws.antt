@@ -1,12 +1,12 @@
 -- The ranges of a key, a body and a row that stand from `at` on in a longer list, field by field. Assumes nothing.
-use mathlib.Core.Path.{_≡_, _∙_, sym}
+use mathlib.Core.Path.{_≡_, _∙_, refl, sym}
 use mathlib.Core.Bool.{_&&_, _||_}
 use mathlib.Core.List.{List}
 use Prim.Native.Nat.{ℕ, _+_, _≤_}
 use native.Mathlib.Nat.{add-zero}
 use native.Mathlib.Omega.{arith}
 use lib.Dec.{eqb, leb, ltb}
-use lib.ListN.{getD}
+use lib.ListN.{getD, take}
 use Rattle.lists.specs.Logic.{within}
 use Rattle.lists.specs.Part.{part}
 use Rattle.lists.specs.BigEndian.{number}
@@ -118,3 +118,7 @@ module _ (at : ℕ) (s : List ℕ) where
         part-at at row-wide s flexible-at (omega arith),
         part-at at row-wide s monitored-at (omega arith),
       )
+
+pub key-take : (b : List ℕ) → keyOf b ≡ take key-wide b
+unfolding part
+key-take b = refl

@@ -2,4 +2,5 @@ pub mod TestLaws
 pub mod PaddedLaws
 pub mod FieldLaws
 pub mod RangeLaws
+pub mod PlanLaws
 pub mod RegisterLaws

@@ -15,6 +15,10 @@ pub and-last : (a : Bool) → a && true ≡ a
 and-last true = refl
 and-last false = refl
 
+pub or-assoc : (a b c : Bool) → a || b || c ≡ a || (b || c)
+or-assoc true b c = refl
+or-assoc false b c = refl
+
 -- a && b && c .. , of the first test and the list of the others
 abbrev pub allOf : Bool → List Bool → Bool
 allOf a [] = a
