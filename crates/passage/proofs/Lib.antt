@@ -4,3 +4,5 @@ pub mod FieldLaws
 pub mod RangeLaws
 pub mod PlanLaws
 pub mod RegisterLaws
+pub mod Claims
+pub mod Determined

@@ -14,7 +14,7 @@ use lib.Seq.{take-all, take-at, drop-at}
 use Rattle.lists.specs.Text.{same}
 use Rattle.lists.specs.Part.{part}
 use Rattle.lists.specs.Rows.{rowsOf, flat}
-use Rattle.lists.proofs.LogicLaws.{both-true}
+use Rattle.lists.proofs.LogicLaws.{both-true, both-false}
 use Rattle.lists.proofs.TextLaws.{same-refl, same-equal}
 use Rattle.lists.proofs.PartLaws.{part-cons}
 use Rattle.lists.proofs.RowLaws.{rowsOf-step, rowsOf-start, length-rowsOf, rowsOf-append, flat-rowsOf, row-at}
@@ -70,6 +70,10 @@ module _ (register : List ℕ) (sender : ℕ) (owner : List ℕ) where
   pub grants-is : (sender ≡ 0 → ⊥) → grants register sender owner ≡ among (pairs register) sender owner
   unfolding grants
   grants-is h = rw (ne-eqb sender 0 h)
+
+pub grants-none : (sender : ℕ) (owner : List ℕ) → grants [] sender owner ≡ false
+unfolding grants among rowsOf
+grants-none sender owner = both-false (not (eqb sender 0))
 
 -- ---- a sender is registered exactly where some pair says so
 

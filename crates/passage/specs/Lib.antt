@@ -2,3 +2,5 @@ pub mod Layout
 pub mod Ranges
 pub mod Facts
 pub mod Register
+pub mod Claims
+pub mod Cases

@@ -1,6 +1,5 @@
 use mathlib.Core.Path.{_≡_, _∙_, sym}
 use Prim.Native.Nat.{_-_, _≤_}
-use native.Mathlib.Omega.{arith}
 use borrow.Author.Needs.{needs}
 use Rattle.lists.specs.Part.{part}
 use Rattle.passage.specs.Layout.{text-wide}
@@ -34,8 +33,7 @@ returns-2 : tie.Need-returns-2 Inv-loop μ-loop
 returns-2 c =
     let l = c .before .before .before in
     let a = l .before .before .before .before .args in
-    let found = sym (c .before .pair-is .ensures) ∙ c .if2 .taken in
-    sym (left-found (a .register .now) (a .sender) _ _ (l .loop .i) (search needs) found) ∙ l .loop .inv .1
+    sym (left-found (a .register .now) (a .sender) _ _ (l .loop .i) (search needs) (rw (← c .before .pair-is .ensures) (c .if2 .taken))) ∙ l .loop .inv .1
 
 add-i : tie.Need-add-i Inv-loop μ-loop
 add-i c = search needs
@@ -46,9 +44,10 @@ loop-less c = search needs
 loop-again : tie.Need-loop-again Inv-loop μ-loop
 loop-again c =
     let l = c .before .before .before in
-    let a = l .before .before .before .before .args in
-    let other = sym (c .before .pair-is .ensures) ∙ c .if2 .left in
-    (search needs, sym (left-next (a .register .now) (a .sender) _ _ (l .loop .i) (search needs) other) ∙ l .loop .inv .1)
+    let a = l .before .before .before .before .args in (
+      search needs,
+      sym (left-next (a .register .now) (a .sender) _ _ (l .loop .i) (search needs) (rw (← c .before .pair-is .ensures) (c .if2 .left))) ∙ l .loop .inv .1,
+    )
 
 returns-3 : tie.Need-returns-3 Inv-loop μ-loop
 returns-3 c =
