@@ -24,7 +24,7 @@ use Rattle.passage.specs.Register.{pair-wide, pairs, among, grants}
 use Rattle.passage.proofs.TestLaws.{or-pass, pass-or, or-assoc}
 
 -- a lent part of n bytes
-pub lent-part : (a e n : ℕ) (l : List ℕ) → e - a ≡ n → take (e - a) (drop a l) ≡ part a n l
+lent-part : (a e n : ℕ) (l : List ℕ) → e - a ≡ n → take (e - a) (drop a l) ≡ part a n l
 unfolding part
 lent-part a e n l h = rw h
 
@@ -38,9 +38,21 @@ module _ (register : List ℕ) (p sender : ℕ) (owner : List ℕ) (fits : p + p
   unfolding same
   pair-other h = rw (pair-first, ne-eqb (getD register p 0) sender h)
 
-  pub pair-same : getD register p 0 ≡ sender → same (part p pair-wide register) (sender ∷ owner) ≡ same (part (p + 1) text-wide register) owner
+  pair-same : getD register p 0 ≡ sender → same (part p pair-wide register) (sender ∷ owner) ≡ same (part (p + 1) text-wide register) owner
   unfolding same
   pair-same e = rw (pair-first, eq-eqb (getD register p 0) sender e)
+
+-- the owner's bytes of the pair and the ten bytes from `at` on of s, each lent
+pub pair-lent :
+    (register : List ℕ) (p sender : ℕ) (s : List ℕ) (at : ℕ) → p + pair-wide ≤ length register → getD register p 0 ≡ sender
+    → same (part p pair-wide register) (sender ∷ part at text-wide s)
+    ≡ same (take (p + pair-wide - (p + 1)) (drop (p + 1) register)) (take (at + text-wide - at) (drop at s))
+pair-lent register p sender s at fits e =
+    rw (
+      lent-part (p + 1) (p + pair-wide) text-wide register (omega arith),
+      lent-part at (at + text-wide) text-wide s (omega arith),
+    )
+    (pair-same register p sender (part at text-wide s) fits e)
 
 -- ---- all pairs: what is left of them from place i on
 

@@ -1,3 +1,4 @@
+use mathlib.Core.Path.{sym}
 use native.Mathlib.Omega.{arith}
 use borrow.Author.Needs.{needs}
 use Rattle.passage.specs.Layout.{body-wide}
@@ -36,7 +37,16 @@ times-in-range-requires : tie.Need-times-in-range-requires
 times-in-range-requires c κs = search needs
 
 returns : tie.Need-returns
-returns c = let a = c .before .before .before .before .before .before .before .args in cc (common-at (a .at) body-wide (a .s .now) (omega arith))
+returns c =
+    let a = c .before .before .before .before .before .before .before .args in
+    rw (
+      c .times-in-range .ensures,
+      c .before .before .text-at .ensures,
+      c .before .before .before .key-at .ensures,
+      c .before .before .before .before .get-number2 .ensures,
+      c .before .before .before .before .before .get-number .ensures,
+    )
+    (sym (common-at (a .at) body-wide (a .s .now) (omega arith)))
 
 pub common-at-spec : {M : Type 1} → statement M
 common-at-spec =

@@ -1,3 +1,4 @@
+use mathlib.Core.Path.{sym}
 use native.Mathlib.Omega.{arith}
 use borrow.Author.Needs.{needs}
 use Rattle.passage.specs.Layout.{key-wide}
@@ -51,7 +52,18 @@ text-at-requires-3 : tie.Need-text-at-requires-3
 text-at-requires-3 c κs = search needs
 
 returns : tie.Need-returns
-returns c = let a = c .before .before .before .before .before .before .before .before .before .args in cc (key-at (a .at) key-wide (a .s .now) (omega arith))
+returns c =
+    let a = c .before .before .before .before .before .before .before .before .before .args in
+    rw (
+      c .text-at3 .ensures,
+      c .before .before .text-at2 .ensures,
+      c .before .before .before .is-date .ensures,
+      c .before .before .before .before .text-at .ensures,
+      c .before .before .before .before .before .get-number3 .ensures,
+      c .before .before .before .before .before .before .get-number2 .ensures,
+      c .before .before .before .before .before .before .before .get-number .ensures,
+    )
+    (sym (key-at (a .at) key-wide (a .s .now) (omega arith)))
 
 pub key-at-spec : {M : Type 1} → statement M
 key-at-spec =

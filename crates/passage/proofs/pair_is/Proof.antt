@@ -1,10 +1,6 @@
 use mathlib.Core.Path.{_∙_, sym}
-use Prim.Native.Nat.{_+_}
-use native.Mathlib.Omega.{arith}
 use borrow.Author.Needs.{needs}
-use Rattle.passage.specs.Layout.{text-wide}
-use Rattle.passage.specs.Register.{pair-wide}
-use Rattle.passage.proofs.RegisterLaws.{lent-part, pair-other, pair-same}
+use Rattle.passage.proofs.RegisterLaws.{pair-other, pair-lent}
 use Rattle.passage.proofs.pair_is.Statement.{statement}
 use Rattle.passage.proofs.pair_is.Tie as tie
 
@@ -48,9 +44,7 @@ returns-2 : tie.Need-returns-2
 returns-2 c =
     let i = c .before .before .before in
     let a = i .before .before .before .before .args in
-    c .same-bytes .ensures
-    ∙ rw (lent-part (a .p + 1) (a .p + pair-wide) text-wide (a .register .now) (omega arith), lent-part (a .at) (a .at + text-wide) text-wide (a .s .now) (omega arith))
-    (sym (pair-same (a .register .now) (a .p) (a .sender) _ (search needs) (i .if1 .left)))
+    c .same-bytes .ensures ∙ sym (pair-lent (a .register .now) (a .p) (a .sender) (a .s .now) (a .at) (search needs) (i .if1 .left))
 
 pub pair-is-spec : {M : Type 1} → statement M
 pair-is-spec =

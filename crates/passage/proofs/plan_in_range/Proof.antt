@@ -1,3 +1,4 @@
+use mathlib.Core.Path.{sym}
 use borrow.Author.Needs.{needs}
 use Rattle.passage.proofs.FieldLaws.{plan-at}
 use Rattle.passage.proofs.plan_in_range.Statement.{statement}
@@ -37,7 +38,13 @@ shared-slice-read-result-4 : tie.Need-shared-slice-read-result-4
 shared-slice-read-result-4 c = search needs
 
 returns : tie.Need-returns
-returns c = let a = c .before .before .before .before .before .before .before .args in cc (plan-at (a .at) (a .s .now))
+returns c =
+    let a = c .before .before .before .before .before .before .before .args in
+    rw (
+      c .before .before .before .before .common-at .ensures,
+      c .before .before .before .before .before .get-number .ensures,
+    )
+    (sym (plan-at (a .at) (a .s .now)))
 
 pub plan-in-range-spec : {M : Type 1} → statement M
 plan-in-range-spec =

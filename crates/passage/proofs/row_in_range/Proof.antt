@@ -1,3 +1,4 @@
+use mathlib.Core.Path.{sym}
 use borrow.Author.Needs.{needs}
 use Rattle.passage.proofs.FieldLaws.{row-at}
 use Rattle.passage.proofs.row_in_range.Statement.{statement}
@@ -46,7 +47,14 @@ shared-slice-read-result-4 : tie.Need-shared-slice-read-result-4
 shared-slice-read-result-4 c = search needs
 
 returns : tie.Need-returns
-returns c = let a = c .before .before .before .before .before .before .before .before .before .args in cc (row-at (a .at) (a .s .now))
+returns c =
+    let a = c .before .before .before .before .before .before .before .before .before .args in
+    rw (
+      c .before .before .before .before .heard-in-range .ensures,
+      c .before .before .before .before .before .before .common-at .ensures,
+      c .before .before .before .before .before .before .before .get-number .ensures,
+    )
+    (sym (row-at (a .at) (a .s .now)))
 
 pub row-in-range-spec : {M : Type 1} → statement M
 row-in-range-spec =

@@ -1,3 +1,4 @@
+use mathlib.Core.Path.{sym}
 use borrow.Author.Needs.{needs}
 use Rattle.passage.proofs.FieldLaws.{update-at}
 use Rattle.passage.proofs.update_in_range.Statement.{statement}
@@ -40,7 +41,14 @@ shared-slice-read-result : tie.Need-shared-slice-read-result
 shared-slice-read-result c = search needs
 
 returns : tie.Need-returns
-returns c = let a = c .before .before .before .before .before .before .before .before .args in cc (update-at (a .at) (a .s .now))
+returns c =
+    let a = c .before .before .before .before .before .before .before .before .args in
+    rw (
+      c .before .in-stamp-range .ensures,
+      c .before .before .common-at .ensures,
+      c .before .before .before .before .before .before .get-number .ensures,
+    )
+    (sym (update-at (a .at) (a .s .now)))
 
 pub update-in-range-spec : {M : Type 1} → statement M
 update-in-range-spec =
