@@ -1,0 +1,11 @@
+use mathlib.Core.Path.{refl}
+use Rattle.passage.specs.Register.{registerSound}
+use Rattle.passage.proofs.register_is_sound.Statement.{statement}
+use Rattle.passage.proofs.register_is_sound.Tie as tie
+
+returns : tie.Need-returns
+unfolding registerSound
+returns c = refl
+
+pub register-is-sound-spec : {M : Type 1} → statement M
+register-is-sound-spec = tie.close (tie.spec returns)

@@ -1,0 +1,6 @@
+pub mod Layout
+pub mod Ranges
+pub mod Facts
+pub mod Register
+pub mod Claims
+pub mod Cases

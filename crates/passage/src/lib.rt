@@ -1,0 +1,226 @@
+// How a passage lies in bytes, the ranges of its fields, and the register of senders and owners.
+ghost use mathlib.Core.Path.{_≡_};
+ghost use Prim.Native.Nat.{_+_, _≤_};
+ghost use lib.ListN.{length};
+ghost use mathlib.Core.List.{_∷_};
+ghost use Rattle.lists.specs.Text.{same};
+ghost use Rattle.lists.specs.Part.{part};
+ghost use Rattle.passage.specs.Layout.{text-wide, key-wide, body-wide, row-wide};
+ghost use Rattle.passage.specs.Ranges.{mayFollow, paddedText, keyInRange, timesInRange, commonInRange, updateInRange, planInRange, heardInRange, rowInRange};
+ghost use Rattle.passage.specs.Register.{pair-wide, grants, registerSound};
+
+// Widths of fields.
+pub const TEXT_WIDE: usize = 10;
+
+pub const DATE_WIDE: usize = 4;
+
+pub const JOURNEY_WIDE: usize = 4;
+
+pub const ORDER_WIDE: usize = 2;
+
+pub const STAMP_WIDE: usize = 4;
+
+pub const TIME_WIDE: usize = 3;
+
+// The key.
+pub const OWNER_AT: usize = 0;
+
+pub const DATE_AT: usize = OWNER_AT + TEXT_WIDE;
+
+pub const LINE_AT: usize = DATE_AT + DATE_WIDE;
+
+pub const JOURNEY_AT: usize = LINE_AT + TEXT_WIDE;
+
+pub const FORTIFY_AT: usize = JOURNEY_AT + JOURNEY_WIDE;
+
+pub const STOP_AT: usize = FORTIFY_AT + 1;
+
+pub const ORDER_AT: usize = STOP_AT + TEXT_WIDE;
+
+pub const KEY_WIDE: usize = ORDER_AT + ORDER_WIDE;
+
+// The body: the key, and what an update changes.
+pub const DESTINATION_AT: usize = KEY_WIDE;
+
+pub const STAMP_AT: usize = DESTINATION_AT + TEXT_WIDE;
+
+pub const STATUS_AT: usize = STAMP_AT + STAMP_WIDE;
+
+pub const ARRIVAL_AT: usize = STATUS_AT + 1;
+
+pub const DEPARTURE_AT: usize = ARRIVAL_AT + TIME_WIDE;
+
+pub const STOP_TYPE_AT: usize = DEPARTURE_AT + TIME_WIDE;
+
+pub const SHOW_CANCELLED_AT: usize = STOP_TYPE_AT + 1;
+
+pub const FLEXIBLE_AT: usize = SHOW_CANCELLED_AT + 1;
+
+pub const MONITORED_AT: usize = FLEXIBLE_AT + 1;
+
+pub const BODY_WIDE: usize = MONITORED_AT + 1;
+
+// The row: the body, and whether an update was heard.
+pub const HEARD_AT: usize = BODY_WIDE;
+
+pub const ROW_WIDE: usize = HEARD_AT + 1;
+
+// A pair of the register: one byte of sender, then the owner.
+pub const PAIR_WIDE: usize = 1 + TEXT_WIDE;
+
+// A time that is missing.
+pub const MISSING: u32 = 16777215;
+
+// An absent optional of an update: the held content stays.
+pub const KEPT: u8 = 255;
+
+// Whether `b` may stand in a padded text after the byte `before`.
+fn may_follow(before: u8, b: u8) -> bool
+    ensures { λ r. ⌜ r ≡ mayFollow before b ⌝ }
+{
+    (b == 0) | (before != 0) & ((32 <= b) & (b <= 126))
+}
+
+// Whether ten bytes from `at` on are a padded text.
+fn text_at(s: &[u8], at: usize) -> bool
+    requires { ⌜ at + text-wide ≤ length (now s) ⌝ }
+    ensures { λ r. ⌜ r ≡ paddedText (part at text-wide (now (s .entry))) ⌝ }
+{
+    let mut ok = s[at] != 0;
+    let mut before: u8 = 1;
+    let mut i = 0;
+    while i < TEXT_WIDE {
+        let b = s[at + i];
+        ok = ok & may_follow(before, b);
+        before = b;
+        i += 1;
+    }
+    ok
+}
+
+// Whether a key from `at` on is in range.
+fn key_at(s: &[u8], at: usize) -> bool
+    requires { ⌜ at + key-wide ≤ length (now s) ⌝ }
+    ensures { λ r. ⌜ r ≡ keyInRange (part at key-wide (now (s .entry))) ⌝ }
+{
+    let date = lists::get_number(s, at + DATE_AT, DATE_WIDE);
+    let journey = lists::get_number(s, at + JOURNEY_AT, JOURNEY_WIDE);
+    let order = lists::get_number(s, at + ORDER_AT, ORDER_WIDE);
+    text_at(s, at + OWNER_AT)
+        & clock::is_date(date)
+        & text_at(s, at + LINE_AT)
+        & (journey < 1000000)
+        & (s[at + FORTIFY_AT] < 100)
+        & text_at(s, at + STOP_AT)
+        & (order < 1000)
+}
+
+// Whether stop type and times are in range: an arrival may be missing at FIRST, a departure at LAST.
+fn times_in_range(stop: u8, arrival: u32, departure: u32) -> bool
+    ensures { λ r. ⌜ r ≡ timesInRange stop arrival departure ⌝ }
+{
+    (stop <= 2)
+        & ((arrival < 115200) | (stop == 0) & (arrival == MISSING))
+        & ((departure < 115200) | (stop == 2) & (departure == MISSING))
+}
+
+// Whether what update, plan entry and row have in common is in range, from `at` on.
+fn common_at(s: &[u8], at: usize) -> bool
+    requires { ⌜ at + body-wide ≤ length (now s) ⌝ }
+    ensures { λ r. ⌜ r ≡ commonInRange (part at body-wide (now (s .entry))) ⌝ }
+{
+    let arrival = lists::get_number(s, at + ARRIVAL_AT, TIME_WIDE);
+    let departure = lists::get_number(s, at + DEPARTURE_AT, TIME_WIDE);
+    key_at(s, at)
+        & text_at(s, at + DESTINATION_AT)
+        & times_in_range(s[at + STOP_TYPE_AT], arrival, departure)
+}
+
+// Whether an update's body stands from `at` on, every field in its range.
+pub fn update_in_range(s: &[u8], at: usize) -> bool
+    requires { ⌜ at + body-wide ≤ length (now s) ⌝ }
+    ensures { λ r. ⌜ r ≡ updateInRange (part at body-wide (now (s .entry))) ⌝ }
+{
+    let stamp = lists::get_number(s, at + STAMP_AT, STAMP_WIDE);
+    let show = s[at + SHOW_CANCELLED_AT];
+    let flexible = s[at + FLEXIBLE_AT];
+    let monitored = s[at + MONITORED_AT];
+    common_at(s, at)
+        & fields::in_stamp_range(stamp)
+        & (s[at + STATUS_AT] <= 5)
+        & ((show <= 1) | (show == KEPT))
+        & ((1 <= flexible) & (flexible <= 3) | (flexible == KEPT))
+        & ((monitored <= 1) | (monitored == KEPT))
+}
+
+// Whether a plan entry's body stands from `at` on, every field in its range.
+pub fn plan_in_range(s: &[u8], at: usize) -> bool
+    requires { ⌜ at + body-wide ≤ length (now s) ⌝ }
+    ensures { λ r. ⌜ r ≡ planInRange (part at body-wide (now (s .entry))) ⌝ }
+{
+    let stamp = lists::get_number(s, at + STAMP_AT, STAMP_WIDE);
+    common_at(s, at)
+        & (stamp == 0)
+        & (s[at + STATUS_AT] == 0)
+        & (s[at + SHOW_CANCELLED_AT] == 1)
+        & (s[at + FLEXIBLE_AT] <= 3)
+        & (s[at + MONITORED_AT] == 0)
+}
+
+// Whether heard and timestamp go together.
+fn heard_in_range(heard: u8, stamp: u32) -> bool
+    ensures { λ r. ⌜ r ≡ heardInRange heard stamp ⌝ }
+{
+    (heard == 0) & (stamp == 0) | (heard == 1) & fields::in_stamp_range(stamp)
+}
+
+// Whether a row stands from `at` on, every field in its range.
+pub fn row_in_range(s: &[u8], at: usize) -> bool
+    requires { ⌜ at + row-wide ≤ length (now s) ⌝ }
+    ensures { λ r. ⌜ r ≡ rowInRange (part at row-wide (now (s .entry))) ⌝ }
+{
+    let stamp = lists::get_number(s, at + STAMP_AT, STAMP_WIDE);
+    common_at(s, at)
+        & heard_in_range(s[at + HEARD_AT], stamp)
+        & (s[at + STATUS_AT] <= 5)
+        & (s[at + SHOW_CANCELLED_AT] <= 1)
+        & (s[at + FLEXIBLE_AT] <= 3)
+        & (s[at + MONITORED_AT] <= 1)
+}
+
+// Whether the pair from `p` on is of this sender and of the owner from `at` on.
+fn pair_is(register: &[u8], p: usize, sender: u8, s: &[u8], at: usize) -> bool
+    requires { ⌜ (p + pair-wide ≤ length (now register)) × (at + text-wide ≤ length (now s)) ⌝ }
+    ensures { λ r. ⌜ r ≡ same (part p pair-wide (now (register .entry))) (sender ∷ part at text-wide (now (s .entry))) ⌝ }
+{
+    if register[p] != sender {
+        return false;
+    }
+    lists::same_bytes(&register[p + 1..p + PAIR_WIDE], &s[at..at + TEXT_WIDE])
+}
+
+// Whether the sender is registered for the owner whose ten bytes stand from `at` on.
+pub fn registered(register: &[u8], sender: u8, s: &[u8], at: usize) -> bool
+    requires { ⌜ at + text-wide ≤ length (now s) ⌝ }
+    ensures { λ r. ⌜ r ≡ grants (now (register .entry)) sender (part at text-wide (now (s .entry))) ⌝ }
+{
+    if sender == 0 {
+        return false;
+    }
+    let n = register.len() / PAIR_WIDE;
+    let mut i = 0;
+    while i < n {
+        if pair_is(register, i * PAIR_WIDE, sender, s, at) {
+            return true;
+        }
+        i += 1;
+    }
+    false
+}
+
+// Whether the register's length is that of whole pairs, at most 64.
+pub fn register_is_sound(register: &[u8]) -> bool
+    ensures { λ r. ⌜ r ≡ registerSound (now (register .entry)) ⌝ }
+{
+    (register.len() % PAIR_WIDE == 0) & (register.len() <= 704)
+}
