@@ -1,0 +1,55 @@
+-- A dossier as the reader of one table sees it: the label lines and data lines of that table, with their line numbers. Assumes nothing.
+use Prim.Native.Nat.{ℕ, suc}
+use mathlib.Core.Bool.{Bool, true, false}
+use mathlib.Core.List.{List, [], _∷_}
+use Rattle.lists.specs.Logic.{on}
+use Rattle.lists.specs.Text.{same}
+use Rattle.turbo.specs.declared.Mark.{Mark}
+use Rattle.turbo.specs.declared.Mark.the-variants as Marks
+use Rattle.turbo.specs.Split.{until, fields, markOf, afterMark}
+use Rattle.cells.specs.declared.Table.{Table}
+use Rattle.cells.specs.Tables.{tableName}
+
+-- a label line of the table, or a data line under its labels; each with its line number
+pub data Item : Type 0 where
+  head : ℕ → List (List ℕ) → Item
+  row : ℕ → List (List ℕ) → List ℕ → Item
+
+-- where in the line order: outside the table, between its `\T` and `\L` lines, or under its labels
+pub data Place : Type 0 where
+  outside : Place
+  awaiting : Place
+  under : List (List ℕ) → Place
+
+-- the table's name runs to the first bar or the line's end
+abbrev pub named : Table → List ℕ → Place
+named t l = on (same (until 124 (afterMark l)) (tableName t)) awaiting outside
+
+-- the place after a line, and what the line is to the reader
+abbrev pub after : Table → Mark → List ℕ → Place → Place
+after t Marks.Group l p = outside
+after t Marks.Table l p = named t l
+after t Marks.Labels l awaiting = under (fields (afterMark l))
+after t Marks.Labels l outside = outside
+after t Marks.Labels l (under ls) = outside
+after t Marks.Data l p = p
+
+abbrev pub seen : Mark → ℕ → List ℕ → Place → List Item
+seen Marks.Group n l p = []
+seen Marks.Table n l p = []
+seen Marks.Labels n l awaiting = head n (fields (afterMark l)) ∷ []
+seen Marks.Labels n l outside = []
+seen Marks.Labels n l (under ls) = []
+seen Marks.Data n l outside = []
+seen Marks.Data n l awaiting = []
+seen Marks.Data n l (under ls) = row n ls l ∷ []
+
+-- one before the rest, if there is one
+abbrev pub before : List Item → List Item → List Item
+before [] xs = xs
+before (x ∷ ys) xs = x ∷ xs
+
+-- the lines ls from number n on
+unfoldable pub items : Table → Place → ℕ → List (List ℕ) → List Item
+items t p n [] = []
+items t p n (l ∷ ls) = before (seen (markOf l) n l p) (items t (after t (markOf l) l p) (suc n) ls)
