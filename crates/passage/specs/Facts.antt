@@ -31,6 +31,7 @@ pub record CommonFacts (b : List ℕ) : Type 0 where
   pub arrival : TimeFacts 0 (stopTypeOf b) (arrivalOf b)
   pub departure : TimeFacts 2 (stopTypeOf b) (departureOf b)
 
+-- of an update: 255 in an optional says that the held content stays
 pub record UpdateFacts (b : List ℕ) : Type 0 where
   pub common : CommonFacts b
   pub stamp : inStampRange (stampOf b) ≡ true
@@ -39,6 +40,7 @@ pub record UpdateFacts (b : List ℕ) : Type 0 where
   pub flexible : ((1 ≤ flexibleOf b) × (flexibleOf b ≤ 3)) ⊎ (flexibleOf b ≡ kept)
   pub monitored : (monitoredOf b ≤ 1) ⊎ (monitoredOf b ≡ kept)
 
+-- of a plan entry: what open writes
 pub record PlanFacts (b : List ℕ) : Type 0 where
   pub common : CommonFacts b
   pub stamp : stampOf b ≡ 0
@@ -47,6 +49,7 @@ pub record PlanFacts (b : List ℕ) : Type 0 where
   pub flexible : flexibleOf b ≤ 3
   pub monitored : monitoredOf b ≡ 0
 
+-- of a row of the table
 pub record RowFacts (r : List ℕ) : Type 0 where
   pub common : CommonFacts r
   pub heard : ((heardOf r ≡ 0) × (stampOf r ≡ 0)) ⊎ ((heardOf r ≡ 1) × (inStampRange (stampOf r) ≡ true))
