@@ -12,6 +12,8 @@ use Rattle.turbo.proofs.first_line.Kinds as first-line
 use Rattle.turbo.proofs.first_line.Reads as first-line-reads
 use Rattle.turbo.proofs.rest_after_line.Kinds as rest-after-line
 use Rattle.turbo.proofs.rest_after_line.Reads as rest-after-line-reads
+use Rattle.turbo.proofs.read_line.Kinds as read-line
+use Rattle.turbo.proofs.read_line.Reads as read-line-reads
 use Rattle.turbo.proofs.count_lines.Kinds as count-lines
 use Rattle.turbo.proofs.count_lines.Reads as count-lines-reads
 use Rattle.turbo.proofs.mark_of.Kinds as mark-of
@@ -90,3 +92,9 @@ lookup-determined κs a x y s t p q = p ∙ sym q
 
 pub find-columns-determined : OneResult 2 find-columns.ps find-columns.r find-columns-reads.Post
 find-columns-determined κs a x y s t p q = p ∙ sym q
+
+pub read-line-tail-determined : Determined 2 read-line.ps read-line.r read-line-reads.Post (λ κs x s. now x)
+read-line-tail-determined κs a x y s t p q = p .0 ∙ sym (q .0)
+
+pub read-line-size-determined : Determined 2 read-line.ps read-line.r read-line-reads.Post (λ κs x s. now (s .1 .0))
+read-line-size-determined κs a x y s t p q = p .1 ∙ sym (q .1)

@@ -100,6 +100,21 @@ pub fn rest_after_line<'a>(d: &'a [u8]) -> &'a [u8]
     &d[e..]
 }
 
+// One line in a single walk: how many bytes it has, and what is left after its CR LF.
+pub fn read_line<'a>(d: &'a [u8], size: &mut usize) -> &'a [u8]
+    ensures tail { λ r. ⌜ now r ≡ drop 1 (past 13 (now (d .entry))) ⌝ }
+    ensures size { λ r. ⌜ now (size .exit) ≡ length (until 13 (now (d .entry))) ⌝ }
+{
+    let n = find_far(d, 13);
+    *size = n;
+    if 2 <= d.len() - n {
+        let next = n + 2;
+        return &d[next..];
+    }
+    let e = d.len();
+    &d[e..]
+}
+
 // How many lines a dossier has.
 pub fn count_lines(d: &[u8]) -> usize
     ensures { λ r. ⌜ r ≡ length (lines (now (d .entry))) ⌝ }
