@@ -1,4 +1,6 @@
 pub mod WidthLaws
 pub mod RowStepLaws
+pub mod ReadLaws
 pub mod FoldLaws
 pub mod StageLaws
+pub mod LinesLaws

@@ -91,7 +91,7 @@ both-front a b e = both-true a b e .0
 both-back : (a b : Bool) → both a b ≡ true → b ≡ true
 both-back a b e = both-true a b e .1
 
-on-same : {A : Type 0} (b : Bool) (x : A) → on b x x ≡ x
+pub on-same : {A : Type 0} (b : Bool) (x : A) → on b x x ≡ x
 on-same true x = refl
 on-same false x = refl
 

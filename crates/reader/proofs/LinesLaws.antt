@@ -1,0 +1,216 @@
+-- The loop over a dossier's lines: what holds at its start, after a line, and at each way out. Assumes nothing.
+use Prim.Native.Nat.{ℕ, zero, suc, _+_, _/_, _≤_, _<_}
+use native.Mathlib.Omega.{arith}
+use native.Mathlib.Numerals.{add-one}
+use mathlib.Core.Path.{_≡_, refl, sym, ap, subst, _∙_}
+use mathlib.Core.Bool.{Bool, true, false}
+use mathlib.Core.List.{List, [], _∷_, _++_, append-assoc, append-nil}
+use borrow.Author.Tests.{eqb-true}
+use lib.Dec.{eqb}
+use lib.ListN.{length, take, drop}
+use lib.Seq.{take-nil}
+use Rattle.lists.specs.Logic.{on}
+use Rattle.lists.specs.Part.{over}
+use Rattle.lists.specs.Rows.{flat, Wide}
+use Rattle.lists.proofs.OverLaws.{over-nil}
+use Rattle.turbo.specs.declared.Mark.{Mark}
+use Rattle.turbo.specs.declared.Mark.the-variants as Marks
+use Rattle.turbo.specs.Split.{until, past, fields, lines, markOf, afterMark}
+use Rattle.turbo.proofs.SplitLaws.{lines-cons, lines-none, after-line-shorter}
+use Rattle.cells.specs.declared.Table.{Table}
+use Rattle.cells.specs.Tables.{rowWidth}
+use Rattle.reader.specs.declared.State.{State}
+use Rattle.reader.specs.declared.Answer.{Answer}
+use Rattle.reader.specs.declared.Answer.the-variants.{Form, Field, Owner, Rows}
+use Rattle.reader.specs.Items.{Item, Place, outside, after, seen, before, items}
+use Rattle.rows.specs.declared.Shape.{Shape}
+use Rattle.rows.specs.declared.Read.{Read}
+use Rattle.rows.specs.Shape.{shapeOf}
+use Rattle.rows.specs.Reading.{readBy}
+use Rattle.reader.specs.Rules.{maySend, settled, firstLine, firstColumn, answerTo, rowsUpTo, itemsOf, laid}
+use Rattle.reader.specs.Step.{moved, misformed, labelled, mistyped, disowned, counted, rowStep, dataStep, labelStep, stepAt, stepBy, stageBy}
+use Rattle.reader.proofs.WidthLaws.{width-some}
+use Rattle.reader.proofs.FoldLaws.{first, clean, rowsFrom, settledFrom, Agrees, Goes, Reads, line-go}
+use Rattle.reader.proofs.StageLaws.{Stages, Fronts, line-stages, on-same}
+
+-- after some lines of d: s is kept of them, rest is left, and st is the staging area
+pub record Reading (t : Table) (register : List ℕ) (sender : ℕ) (d st₀ : List ℕ) (s : State) (rest st : List ℕ) : Type 0 where
+  pub place : Place
+  pub done : List (List ℕ)
+  pub agrees : Agrees t s place
+  pub form : s .form ≡ 0
+  pub from : 1 ≤ s .line
+  pub left : s .line + length rest ≤ length d + 1
+  pub few : s .rows < s .line
+  pub answer : answerTo t register sender (itemsOf t d) ≡ settledFrom t register sender s (items t place (s .line) (lines rest))
+  pub rows : rowsUpTo t register sender (itemsOf t d) ≡ done ++ rowsFrom t register sender s (items t place (s .line) (lines rest))
+  pub area : st ≡ laid t done st₀
+  pub all : Wide (rowWidth t) done
+  pub count : clean s ≡ true → length done ≡ s .rows
+
+-- a state before any line
+abbrev pub Fresh : State → Type 0
+Fresh s = (s .place ≡ 0) × (s .line ≡ 1) × (s .form ≡ 0) × (s .wrong ≡ 0) × (s .column ≡ 0) × (s .owner ≡ 0) × (s .rows ≡ 0)
+
+
+-- a line gives one row at most
+on-rows : (b : Bool) (x y : State) (n : ℕ) → x .rows ≤ n → y .rows ≤ n → (on b x y) .rows ≤ n
+on-rows true x y n h k = h
+on-rows false x y n h k = k
+
+row-few : (t : Table) (register : List ℕ) (sender : ℕ) (s : State) (r : Read) → rowStep t register sender s r .rows ≤ s .rows + 1
+unfolding rowStep
+row-few t register sender s r =
+    on-rows (eqb (r .wrong) 0) _ (mistyped s (r .wrong)) _
+    (on-rows (eqb (s .owner) 0) _ (moved s (s .place)) _ (on-rows (maySend t register sender (r .row)) (counted s) (disowned s) _ (omega arith) (omega arith)) (omega arith))
+    (omega arith)
+
+data-few : (t : Table) (register : List ℕ) (sender : ℕ) (s : State) (l : List ℕ) → dataStep t register sender s l .rows ≤ s .rows + 1
+unfolding dataStep
+data-few t register sender s l =
+    on-rows (eqb (length (fields l)) (s .shape .count)) _ (misformed s) _
+    (on-rows (eqb (s .wrong) 0) (rowStep t register sender s (readBy t (s .shape) l)) (moved s (s .place)) _ (row-few t register sender s (readBy t (s .shape) l)) (omega arith))
+    (omega arith)
+
+label-few : (s : State) (h : Shape) → labelStep s h .rows ≤ s .rows + 1
+unfolding labelStep
+label-few s h = on-rows (h .fault) (misformed s) (labelled s h) _ (omega arith) (omega arith)
+
+mark-few : (t : Table) (register : List ℕ) (sender : ℕ) (s : State) (l : List ℕ) (m : Mark) → stepAt t register sender s l m .rows ≤ s .rows + 1
+mark-few t register sender s l Marks.Group = omega arith
+mark-few t register sender s l Marks.Table = omega arith
+mark-few t register sender s l Marks.Labels =
+    on-rows (eqb (s .place) 1) (labelStep s (shapeOf t (fields (afterMark l)))) (moved s 0) _ (label-few s (shapeOf t (fields (afterMark l)))) (omega arith)
+mark-few t register sender s l Marks.Data =
+    on-rows (eqb (s .place) 2) (dataStep t register sender s l) (moved s (s .place)) _ (data-few t register sender s l) (omega arith)
+
+line-few : (t : Table) (register : List ℕ) (sender : ℕ) (s : State) (l : List ℕ) → stepBy t register sender s l .rows ≤ s .rows + 1
+unfolding stepBy
+line-few t register sender s l = mark-few t register sender s l (markOf l)
+
+pub laid-none : (t : Table) (st : List ℕ) → st ≡ laid t [] st
+unfolding flat
+laid-none t st = sym (ap (λ (rs : List (List ℕ)). over 0 (flat rs) st) (take-nil (length st / rowWidth t)) ∙ over-nil 0 st)
+
+items-cons : (t : Table) (p : Place) (n : ℕ) (l : List ℕ) (ls : List (List ℕ)) → items t p n (l ∷ ls) ≡ before (seen (markOf l) n l p) (items t (after t (markOf l) l p) (suc n) ls)
+unfolding items
+items-cons t p n l ls = refl
+
+-- what comes after the line l at place p, which has the number n
+abbrev comes : Table → Place → ℕ → List ℕ → List ℕ → List Item
+comes t p n l rest = items t (after t (markOf l) l p) (suc n) (lines rest)
+
+items-none : (t : Table) (p : Place) (n : ℕ) → items t p n [] ≡ []
+unfolding items
+items-none t p n = refl
+
+-- with no item left the answer is what the state says
+first-none : (n : ℕ) → n ≡ first n 0
+first-none n = go (eqb n 0) refl
+  where
+    go : (b : Bool) → eqb n 0 ≡ b → n ≡ on b 0 n
+    go true e = eqb-true n 0 e
+    go false e = refl
+
+column-none : (s : State) → settled 0 (s .wrong) (s .column) (s .owner) (s .rows) ≡ settled 0 (s .wrong) (on (eqb (s .wrong) 0) 0 (s .column)) (s .owner) (s .rows)
+column-none s = go (eqb (s .wrong) 0)
+  where
+    go : (b : Bool) → on b (on (eqb (s .owner) 0) (Rows (s .rows)) (Owner (s .owner))) (Field (s .wrong) (s .column)) ≡ on b (on (eqb (s .owner) 0) (Rows (s .rows)) (Owner (s .owner))) (Field (s .wrong) (on b 0 (s .column)))
+    go true = refl
+    go false = refl
+
+settled-none : (t : Table) (register : List ℕ) (sender : ℕ) (s : State) → settled 0 (s .wrong) (s .column) (s .owner) (s .rows) ≡ settledFrom t register sender s []
+unfolding firstLine firstColumn rowsUpTo
+settled-none t register sender s =
+    let z : s .rows ≡ s .rows + length (rowsFrom t register sender s []) = rw (on-same {A = List (List ℕ)} (clean s) []) (omega arith) in
+    column-none s
+    ∙ ap (λ (w : ℕ). settled 0 w (on (eqb (s .wrong) 0) 0 (s .column)) (s .owner) (s .rows)) (first-none (s .wrong))
+    ∙ ap (λ (o : ℕ). settled 0 (first (s .wrong) 0) (on (eqb (s .wrong) 0) 0 (s .column)) o (s .rows)) (first-none (s .owner))
+    ∙ ap (λ (r : ℕ). settled 0 (first (s .wrong) 0) (on (eqb (s .wrong) 0) 0 (s .column)) (first (s .owner) 0) r) z
+
+module _ (t : Table) (register : List ℕ) (sender : ℕ) (d st₀ : List ℕ) where
+  zero-first : (n : ℕ) → 0 + n ≡ n
+  zero-first n = omega arith
+
+  pub reading-start : (s : State) → Fresh s → Reading t register sender d st₀ s d st₀
+  unfolding answerTo
+  reading-start s (p, l, f, w, c, o, r) =
+      record {
+        place = outside;
+        done = [];
+        agrees = p;
+        form = f;
+        from = omega arith;
+        left = omega arith;
+        few = omega arith;
+        answer = rw (l, w, o, r, zero-first (length (rowsUpTo t register sender (itemsOf t d))));
+        rows = rw (l, w, o);
+        area = laid-none t st₀;
+        all = tt;
+        count = λ k. sym r;
+      }
+
+  -- a line more: l is the first line of what is left, and rest′ what follows it
+  module _ (s : State) (rest st : List ℕ) (now : Reading t register sender d st₀ s rest st) (some : 0 < length rest)
+      (l rest′ : List ℕ) (line : l ≡ until 13 rest) (after-it : rest′ ≡ drop 1 (past 13 rest))
+      (n : State) (step : n ≡ stepBy t register sender s l) (st′ : List ℕ) (staged : st′ ≡ stageBy t register sender s l st)
+      (reads : Reads t register sender l) (fronts : Fronts t l) where
+    split : items t (now .place) (s .line) (lines rest) ≡ before (seen (markOf l) (s .line) l (now .place)) (comes t (now .place) (s .line) l rest′)
+    split =
+        ap (items t (now .place) (s .line)) (lines-cons rest some ∙ ap (λ (x : List ℕ). x ∷ lines (drop 1 (past 13 rest))) (sym line) ∙ ap (λ (x : List ℕ). l ∷ lines x) (sym after-it))
+        ∙ items-cons t (now .place) (s .line) l (lines rest′)
+
+    goes : Goes t register sender s n (seen (markOf l) (s .line) l (now .place)) (after t (markOf l) l (now .place)) (comes t (now .place) (s .line) l rest′)
+    goes =
+        subst (λ (x : State). Goes t register sender s x (seen (markOf l) (s .line) l (now .place)) (after t (markOf l) l (now .place)) (comes t (now .place) (s .line) l rest′)) (sym step)
+        (line-go t register sender s (now .form) (λ e. let f = now .from in omega arith) l reads (comes t (now .place) (s .line) l rest′) (now .place) (now .agrees))
+
+    stages : Stages t register sender s n (seen (markOf l) (s .line) l (now .place)) (comes t (now .place) (s .line) l rest′) (now .done) st₀ st′
+    stages =
+        subst (λ (x : State). Stages t register sender s x (seen (markOf l) (s .line) l (now .place)) (comes t (now .place) (s .line) l rest′) (now .done) st₀ st′) (sym step)
+        (subst (λ (x : List ℕ). Stages t register sender s (stepBy t register sender s l) (seen (markOf l) (s .line) l (now .place)) (comes t (now .place) (s .line) l rest′) (now .done) st₀ x)
+        (sym (staged ∙ ap (stageBy t register sender s l) (now .area)))
+        (line-stages t register sender s (now .form) (λ e. let f = now .from in omega arith) (width-some t) (now .done) st₀ (now .all) (now .count) l reads fronts (comes t (now .place) (s .line) l rest′) (now .place) (now .agrees)))
+
+    -- a fault of form ends the reading
+    pub reading-ends : (n .form ≡ 0 → ⊥) → (Form (n .form) ≡ answerTo t register sender (itemsOf t d)) × (st′ ≡ laid t (rowsUpTo t register sender (itemsOf t d)) st₀)
+    reading-ends h =
+        (sym (now .answer ∙ ap (settledFrom t register sender s) split ∙ goes .0 h),
+        stages .area ∙ ap (λ (rs : List (List ℕ)). laid t rs st₀) (sym (now .rows ∙ ap (λ (rs : List (List ℕ)). now .done ++ rs) (ap (rowsFrom t register sender s) split ∙ stages .last h))))
+
+    -- else it goes on
+    pub reading-turn : n .form ≡ 0 → Reading t register sender d st₀ n rest′ st′
+    reading-turn h =
+        let g = goes .1 h in
+        let e : n .line ≡ suc (s .line) = goes .2 ∙ add-one (s .line) in
+        let shorter : length rest′ < length rest = subst (λ (x : List ℕ). length x < length rest) (sym after-it) (after-line-shorter rest some) in
+        let f = now .few in
+        let k = now .left in
+        let m : n .rows ≤ s .rows + 1 = subst (λ (x : State). x .rows ≤ s .rows + 1) (sym step) (line-few t register sender s l) in
+        record {
+          place = after t (markOf l) l (now .place);
+          done = now .done ++ stages .more;
+          agrees = g .0;
+          form = h;
+          from = omega arith;
+          left = omega arith;
+          few = omega arith;
+          answer = now .answer ∙ ap (settledFrom t register sender s) split ∙ g .1 ∙ ap (λ (i : ℕ). settledFrom t register sender n (items t (after t (markOf l) l (now .place)) i (lines rest′))) (sym e);
+          rows =
+              now .rows
+              ∙ ap (λ (rs : List (List ℕ)). now .done ++ rs) (ap (rowsFrom t register sender s) split ∙ stages .next h)
+              ∙ sym (append-assoc (now .done) (stages .more) (rowsFrom t register sender n (comes t (now .place) (s .line) l rest′)))
+              ∙ ap (λ (i : ℕ). (now .done ++ stages .more) ++ rowsFrom t register sender n (items t (after t (markOf l) l (now .place)) i (lines rest′))) (sym e);
+          area = stages .area;
+          all = stages .all;
+          count = stages .count;
+        }
+
+  -- nothing is left
+  pub reading-done : (s : State) (rest st : List ℕ) → Reading t register sender d st₀ s rest st → length rest ≤ 0
+      → (settled 0 (s .wrong) (s .column) (s .owner) (s .rows) ≡ answerTo t register sender (itemsOf t d)) × (st ≡ laid t (rowsUpTo t register sender (itemsOf t d)) st₀)
+  unfolding firstLine firstColumn rowsUpTo
+  reading-done s rest st now h =
+      let e : items t (now .place) (s .line) (lines rest) ≡ [] = ap (items t (now .place) (s .line)) (lines-none rest h) ∙ items-none t (now .place) (s .line) in
+      (settled-none t register sender s ∙ sym (now .answer ∙ ap (settledFrom t register sender s) e),
+      now .area ∙ ap (λ (rs : List (List ℕ)). laid t rs st₀) (sym (now .rows ∙ ap (λ (xs : List Item). now .done ++ rowsFrom t register sender s xs) e ∙ ap (λ (rs : List (List ℕ)). now .done ++ rs) (on-same (clean s) []) ∙ append-nil (now .done))))
