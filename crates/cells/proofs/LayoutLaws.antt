@@ -1,11 +1,13 @@
 -- Laws of a row's layout, over any table. Assumes nothing.
 use mathlib.Core.Path.{_≡_, refl, sym, ap, _∙_}
-use mathlib.Core.Bool.{Bool, false}
+use mathlib.Core.Bool.{Bool, true, false}
 use mathlib.Core.List.{List, [], _∷_, map}
 use Prim.Native.Nat.{ℕ, zero, suc, _+_, _<_}
 use native.Mathlib.Nat.{add-zero, add-assoc, le-of-suc-le-suc, not-suc-le-zero}
 use native.Mathlib.Omega.{arith}
+use lib.Dec.{eqb}
 use lib.ListN.{length, take, getD, length-map, List·getD-map}
+use Rattle.lists.specs.Logic.{on}
 use Rattle.cells.specs.declared.Table.{Table}
 use Rattle.cells.specs.Cell.{text}
 use Rattle.cells.specs.Tables.{Column, must, columnsIn, isOptional}
@@ -20,9 +22,18 @@ pub kind-listed : (t : Table) (j : ℕ) → getD (map kindOf (columnsIn t)) j 0 
 unfolding kindAt columnAt
 kind-listed t j = List·getD-map kindOf (columnsIn t) j (must "" text)
 
-pub optional-listed : (t : Table) (j : ℕ) → getD (map isOptional (columnsIn t)) j false ≡ optionalAt t j
+-- 1 for a column that may be absent, else 0
+abbrev flagOf : Column → ℕ
+flagOf c = on (isOptional c) 1 0
+
+flagged : (b : Bool) → eqb (on b 1 0) 1 ≡ b
+flagged true = refl
+flagged false = refl
+
+pub optional-listed : (t : Table) (j : ℕ) → eqb (getD (map flagOf (columnsIn t)) j 0) 1 ≡ optionalAt t j
 unfolding optionalAt columnAt
-optional-listed t j = List·getD-map isOptional (columnsIn t) j (must "" text)
+optional-listed t j =
+    ap (λ (n : ℕ). eqb n 1) (List·getD-map flagOf (columnsIn t) j (must "" text)) ∙ flagged (isOptional (getD (columnsIn t) j (must "" text)))
 
 -- where the cells of these widths begin, the first at n
 abbrev pub places : ℕ → List ℕ → List ℕ

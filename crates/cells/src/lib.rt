@@ -61,7 +61,7 @@ pub fn kind_of(t: Table, j: usize) -> u8
 }
 
 // Where the columns' cells begin in a row.
-const MESSAGE_OFFSETS: [usize; 16] = [
+const MESSAGE_AT: [usize; 16] = [
     0,
     10,
     14,
@@ -80,9 +80,9 @@ const MESSAGE_OFFSETS: [usize; 16] = [
     65,
 ];
 
-const PLANNING_OFFSETS: [usize; 12] = [0, 10, 20, 24, 25, 35, 37, 47, 57, 60, 63, 64];
+const PLANNING_AT: [usize; 12] = [0, 10, 20, 24, 25, 35, 37, 47, 57, 60, 63, 64];
 
-const CALENDAR_OFFSETS: [usize; 3] = [0, 10, 20];
+const CALENDAR_AT: [usize; 3] = [0, 10, 20];
 
 // Where the cell of column j begins in a row.
 pub fn offset_of(t: Table, j: usize) -> usize
@@ -90,48 +90,18 @@ pub fn offset_of(t: Table, j: usize) -> usize
     ensures { λ r. ⌜ r ≡ offset t j ⌝ }
 {
     match t {
-        Table::Message => MESSAGE_OFFSETS[j],
-        Table::Planning => PLANNING_OFFSETS[j],
-        Table::Calendar => CALENDAR_OFFSETS[j],
+        Table::Message => MESSAGE_AT[j],
+        Table::Planning => PLANNING_AT[j],
+        Table::Calendar => CALENDAR_AT[j],
     }
 }
 
-// Which columns may be absent.
-const MESSAGE_OPTIONAL: [bool; 16] = [
-    false,
-    false,
-    false,
-    false,
-    false,
-    false,
-    false,
-    false,
-    false,
-    false,
-    false,
-    false,
-    false,
-    true,
-    true,
-    true,
-];
+// Which columns may be absent: 1.
+const MESSAGE_OPTIONAL: [u8; 16] = [0, 0, 0, 0, 0, 0, 0, 0, 0, 0, 0, 0, 0, 1, 1, 1];
 
-const PLANNING_OPTIONAL: [bool; 12] = [
-    false,
-    false,
-    false,
-    false,
-    false,
-    false,
-    false,
-    false,
-    false,
-    false,
-    false,
-    true,
-];
+const PLANNING_OPTIONAL: [u8; 12] = [0, 0, 0, 0, 0, 0, 0, 0, 0, 0, 0, 1];
 
-const CALENDAR_OPTIONAL: [bool; 3] = [false, false, false];
+const CALENDAR_OPTIONAL: [u8; 3] = [0, 0, 0];
 
 // Whether column j may be absent or hold `\0`.
 pub fn is_optional(t: Table, j: usize) -> bool
@@ -139,9 +109,9 @@ pub fn is_optional(t: Table, j: usize) -> bool
     ensures { λ r. ⌜ r ≡ optionalAt t j ⌝ }
 {
     match t {
-        Table::Message => MESSAGE_OPTIONAL[j],
-        Table::Planning => PLANNING_OPTIONAL[j],
-        Table::Calendar => CALENDAR_OPTIONAL[j],
+        Table::Message => MESSAGE_OPTIONAL[j] == 1,
+        Table::Planning => PLANNING_OPTIONAL[j] == 1,
+        Table::Calendar => CALENDAR_OPTIONAL[j] == 1,
     }
 }
 
