@@ -1,0 +1,3 @@
+pub mod NextLaws
+pub mod OrderLaws
+pub mod ShapeLaws
