@@ -4,3 +4,5 @@ pub mod ReadLaws
 pub mod FoldLaws
 pub mod StageLaws
 pub mod LinesLaws
+pub mod AnswerLaws
+pub mod Claims

@@ -1,0 +1,51 @@
+-- What is certain of a reader's answer. `proofs/Claims.antt` proves `All`. Assumes nothing.
+use Prim.Native.Nat.{ℕ, _+_, _*_, _≤_}
+use mathlib.Core.Path.{_≡_}
+use mathlib.Core.Bool.{true, false}
+use mathlib.Core.List.{List, []}
+use mathlib.Core.Logic.{_↔_}
+use lib.ListN.{length}
+use Rattle.lists.specs.Each.{Each}
+use Rattle.syntax.specs.Grammar.{WellFormed}
+use Rattle.cells.specs.declared.Table.{Table}
+use Rattle.cells.specs.declared.Table.the-variants.{Message}
+use Rattle.reader.specs.declared.Answer.{Answer}
+use Rattle.reader.specs.declared.Answer.the-variants.{TooLong, Syntax, Form, Field, Owner, Rows}
+use Rattle.reader.specs.Items.{Item}
+use Rattle.reader.specs.Rules.{largest, formBad, wrongAt, ownerBad, rowsUpTo, itemsOf, readingOf, stagedBy}
+
+-- document 01's number of an answer, and the two values it gives besides
+abbrev pub numbers : Answer → ℕ × ℕ × ℕ
+numbers TooLong = (2, 0, 0)
+numbers (Syntax i) = (3, i, 0)
+numbers (Form l) = (4, l, 0)
+numbers (Field l c) = (5, l, c)
+numbers (Owner l) = (6, l, 0)
+numbers (Rows n) = (0, n, 0)
+
+-- no number from 2 to 6 is given exactly when the dossier is within its size, well formed, every label line and field count is right,
+-- every wanted field is in its type, and every row's owner is registered for the sender
+abbrev pub AcceptedExactly : Type 0
+AcceptedExactly =
+    (t : Table) (register : List ℕ) (sender : ℕ) (d : List ℕ) →
+    ((n : ℕ) × (readingOf t register sender d ≡ Rows n))
+    ↔ ((length d ≤ largest) × WellFormed d
+    × Each (λ (x : Item). formBad t x ≡ false) (itemsOf t d)
+    × Each (λ (x : Item). wrongAt t x ≡ 0) (itemsOf t d)
+    × Each (λ (x : Item). ownerBad t register sender x ≡ false) (itemsOf t d))
+
+-- then the number is that of the rows, and they are in the staging area if it is long enough
+abbrev pub RowsCounted : Type 0
+RowsCounted =
+    (t : Table) (register : List ℕ) (sender : ℕ) (d : List ℕ) (n : ℕ) → readingOf t register sender d ≡ Rows n → n ≡ length (rowsUpTo t register sender (itemsOf t d))
+
+-- the desk, sender 0, sends no row
+abbrev pub DeskSendsNothing : Type 0
+DeskSendsNothing = (register d : List ℕ) (n : ℕ) → readingOf Message register 0 d ≡ Rows n → n ≡ 0
+
+-- the staging area keeps its length
+abbrev pub AreaKeepsLength : Type 0
+AreaKeepsLength = (t : Table) (register : List ℕ) (sender : ℕ) (d staging : List ℕ) → length (stagedBy t register sender d staging) ≡ length staging
+
+abbrev pub All : Type 0
+All = AcceptedExactly × RowsCounted × DeskSendsNothing × AreaKeepsLength
