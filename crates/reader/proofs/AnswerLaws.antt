@@ -1,5 +1,5 @@
 -- What an answer says of the items. Assumes nothing.
-use Prim.Native.Nat.{ℕ, zero, suc, _+_, _≤_, _<_}
+use Prim.Native.Nat.{ℕ, zero, suc, _+_, _*_, _≤_, _<_}
 use native.Mathlib.Omega.{arith}
 use mathlib.Core.Path.{_≡_, refl, sym, ap, _∙_}
 use mathlib.Core.Bool.{Bool, true, false, not}
@@ -25,6 +25,7 @@ use Rattle.cells.specs.declared.Table.the-variants.{Message}
 use Rattle.cells.specs.Tables.{rowOf}
 use Rattle.passage.specs.Register.{grants}
 use Rattle.passage.proofs.RegisterLaws.{grants-desk}
+use Rattle.reader.proofs.BoundLaws.{rows-bounded}
 use Rattle.reader.specs.declared.Answer.{Answer}
 use Rattle.reader.specs.declared.Answer.the-variants.{TooLong, Syntax, Form, Field, Owner, Rows}
 use Rattle.reader.specs.Items.{Item, head, row, Place, outside, awaiting, under, after, seen, before, items}
@@ -160,3 +161,11 @@ area-length t register sender d staging = go (ltb largest (length d)) (fault d)
     go true v = refl
     go false Verdicts.Fine = length-over 0 _ staging
     go false (Verdicts.FaultAt i) = refl
+
+pub rows-few : (register : List ℕ) (sender : ℕ) (d : List ℕ) (n : ℕ) → readingOf Message register sender d ≡ Rows n → (n * 27 ≤ length d + 2) × (n ≤ 2427)
+rows-few register sender d n e =
+    let k = reading-looked Message register sender d n e .0 in
+    let c = rows-counted Message register sender d n e in
+    let b : length (rowsUpTo Message register sender (itemsOf Message d)) * 27 ≤ length d + 2 = rows-bounded register sender d in
+    let m : n * 27 ≤ length d + 2 = rw (← c) at b in
+    (m, omega arith)

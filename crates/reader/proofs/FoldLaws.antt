@@ -131,45 +131,54 @@ module _ (t : Table) (register : List ℕ) (sender : ℕ) (s : State) (form : s 
       -- a field was wrong before
       known : (s .wrong ≡ 0 → ⊥) → Goes t register sender s (moved s (s .place)) (row (s .line) ls l ∷ []) (under ls) xs
       unfolding firstLine firstColumn
-      known h =
-          (λ f. absurd (f form),
-          λ f. (stays (moved s (s .place)) refl refl,
-          simp (count, ne-eqb (s .wrong) 0 h)),
-          refl)
+      known h = (
+        λ f. absurd (f form),
+        λ f. (
+          stays (moved s (s .place)) refl refl,
+          simp (count, ne-eqb (s .wrong) 0 h),
+        ),
+        refl,
+      )
 
       module _ (first-wrong : s .wrong ≡ 0) where
         -- a field is wrong here
         wrong-here : (wrongColumn t ls l ≡ 0 → ⊥) → Goes t register sender s (mistyped s (wrongColumn t ls l)) (row (s .line) ls l ∷ []) (under ls) xs
         unfolding firstLine firstColumn
-        wrong-here h =
-            (λ f. absurd (f form),
-            λ f. (stays (mistyped s (wrongColumn t ls l)) refl refl,
-            simp (count, first-wrong, ne-eqb (wrongColumn t ls l) 0 h, ne-eqb (s .line) 0 from)),
-            refl)
+        wrong-here h = (
+          λ f. absurd (f form),
+          λ f. (
+            stays (mistyped s (wrongColumn t ls l)) refl refl,
+            simp (count, first-wrong, ne-eqb (wrongColumn t ls l) 0 h, ne-eqb (s .line) 0 from),
+          ),
+          refl,
+        )
 
         module _ (typed : wrongColumn t ls l ≡ 0) where
           -- an owner was not the sender's before
           owned-before : (s .owner ≡ 0 → ⊥) → Goes t register sender s (moved s (s .place)) (row (s .line) ls l ∷ []) (under ls) xs
           unfolding firstLine firstColumn
-          owned-before h =
-              (λ f. absurd (f form),
-              λ f. (stays (moved s (s .place)) refl refl, simp (count, typed, first-wrong, ne-eqb (s .owner) 0 h)),
-              refl)
+          owned-before h = (
+            λ f. absurd (f form),
+            λ f. (stays (moved s (s .place)) refl refl, simp (count, typed, first-wrong, ne-eqb (s .owner) 0 h)),
+            refl,
+          )
 
           module _ (first-owner : s .owner ≡ 0) where
             disowned-here : maySend t register sender (rowOf t ls l) ≡ false → Goes t register sender s (disowned s) (row (s .line) ls l ∷ []) (under ls) xs
             unfolding firstLine firstColumn rowsUpTo
-            disowned-here h =
-                (λ f. absurd (f form),
-                λ f. (stays (disowned s) refl refl, simp (count, typed, first-wrong, first-owner, h, ne-eqb (s .line) 0 from)),
-                refl)
+            disowned-here h = (
+              λ f. absurd (f form),
+              λ f. (stays (disowned s) refl refl, simp (count, typed, first-wrong, first-owner, h, ne-eqb (s .line) 0 from)),
+              refl,
+            )
 
             sent-here : maySend t register sender (rowOf t ls l) ≡ true → Goes t register sender s (counted s) (row (s .line) ls l ∷ []) (under ls) xs
             unfolding firstLine firstColumn rowsUpTo
-            sent-here h =
-                (λ f. absurd (f form),
-                λ f. (stays (counted s) refl refl, simp (count, typed, first-wrong, first-owner, h) (ap (λ (n : ℕ). settled (firstLine (formBad t) xs) (firstLine (isWrong t) xs) (firstColumn t xs) (firstLine (ownerBad t register sender) xs) n) (omega arith))),
-                refl)
+            sent-here h = (
+              λ f. absurd (f form),
+              λ f. (stays (counted s) refl refl, simp (count, typed, first-wrong, first-owner, h) (ap (λ (n : ℕ). settled (firstLine (formBad t) xs) (firstLine (isWrong t) xs) (firstColumn t xs) (firstLine (ownerBad t register sender) xs) n) (omega arith))),
+              refl,
+            )
 
     -- a data line, by the tests that are made of it
     abbrev tested : Bool → Bool → Bool → Bool → Bool → State

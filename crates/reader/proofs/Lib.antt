@@ -4,5 +4,6 @@ pub mod ReadLaws
 pub mod FoldLaws
 pub mod StageLaws
 pub mod LinesLaws
+pub mod BoundLaws
 pub mod AnswerLaws
 pub mod Claims

@@ -52,7 +52,6 @@ pub record Reading (t : Table) (register : List ℕ) (sender : ℕ) (d st₀ : L
 abbrev pub Fresh : State → Type 0
 Fresh s = (s .place ≡ 0) × (s .line ≡ 1) × (s .form ≡ 0) × (s .wrong ≡ 0) × (s .column ≡ 0) × (s .owner ≡ 0) × (s .rows ≡ 0)
 
-
 -- a line gives one row at most
 on-rows : (b : Bool) (x y : State) (n : ℕ) → x .rows ≤ n → y .rows ≤ n → (on b x y) .rows ≤ n
 on-rows true x y n h k = h
@@ -174,9 +173,10 @@ module _ (t : Table) (register : List ℕ) (sender : ℕ) (d st₀ : List ℕ) w
 
     -- a fault of form ends the reading
     pub reading-ends : (n .form ≡ 0 → ⊥) → (Form (n .form) ≡ answerTo t register sender (itemsOf t d)) × (st′ ≡ laid t (rowsUpTo t register sender (itemsOf t d)) st₀)
-    reading-ends h =
-        (sym (now .answer ∙ ap (settledFrom t register sender s) split ∙ goes .0 h),
-        stages .area ∙ ap (λ (rs : List (List ℕ)). laid t rs st₀) (sym (now .rows ∙ ap (λ (rs : List (List ℕ)). now .done ++ rs) (ap (rowsFrom t register sender s) split ∙ stages .last h))))
+    reading-ends h = (
+      sym (now .answer ∙ ap (settledFrom t register sender s) split ∙ goes .0 h),
+      stages .area ∙ ap (λ (rs : List (List ℕ)). laid t rs st₀) (sym (now .rows ∙ ap (λ (rs : List (List ℕ)). now .done ++ rs) (ap (rowsFrom t register sender s) split ∙ stages .last h))),
+    )
 
     -- else it goes on
     pub reading-turn : n .form ≡ 0 → Reading t register sender d st₀ n rest′ st′
@@ -211,6 +211,7 @@ module _ (t : Table) (register : List ℕ) (sender : ℕ) (d st₀ : List ℕ) w
       → (settled 0 (s .wrong) (s .column) (s .owner) (s .rows) ≡ answerTo t register sender (itemsOf t d)) × (st ≡ laid t (rowsUpTo t register sender (itemsOf t d)) st₀)
   unfolding firstLine firstColumn rowsUpTo
   reading-done s rest st now h =
-      let e : items t (now .place) (s .line) (lines rest) ≡ [] = ap (items t (now .place) (s .line)) (lines-none rest h) ∙ items-none t (now .place) (s .line) in
-      (settled-none t register sender s ∙ sym (now .answer ∙ ap (settledFrom t register sender s) e),
-      now .area ∙ ap (λ (rs : List (List ℕ)). laid t rs st₀) (sym (now .rows ∙ ap (λ (xs : List Item). now .done ++ rowsFrom t register sender s xs) e ∙ ap (λ (rs : List (List ℕ)). now .done ++ rs) (on-same (clean s) []) ∙ append-nil (now .done))))
+      let e : items t (now .place) (s .line) (lines rest) ≡ [] = ap (items t (now .place) (s .line)) (lines-none rest h) ∙ items-none t (now .place) (s .line) in (
+        settled-none t register sender s ∙ sym (now .answer ∙ ap (settledFrom t register sender s) e),
+        now .area ∙ ap (λ (rs : List (List ℕ)). laid t rs st₀) (sym (now .rows ∙ ap (λ (xs : List Item). now .done ++ rowsFrom t register sender s xs) e ∙ ap (λ (rs : List (List ℕ)). now .done ++ rs) (on-same (clean s) []) ∙ append-nil (now .done))),
+      )

@@ -43,9 +43,13 @@ RowsCounted =
 abbrev pub DeskSendsNothing : Type 0
 DeskSendsNothing = (register d : List ℕ) (n : ℕ) → readingOf Message register 0 d ≡ Rows n → n ≡ 0
 
+-- a message has at most 2,427 rows: a row's line holds a stamp of 25 bytes and ends in two, so a staging area of 160,182 bytes suffices
+abbrev pub RowsBounded : Type 0
+RowsBounded = (register : List ℕ) (sender : ℕ) (d : List ℕ) (n : ℕ) → readingOf Message register sender d ≡ Rows n → (n * 27 ≤ length d + 2) × (n ≤ 2427)
+
 -- the staging area keeps its length
 abbrev pub AreaKeepsLength : Type 0
 AreaKeepsLength = (t : Table) (register : List ℕ) (sender : ℕ) (d staging : List ℕ) → length (stagedBy t register sender d staging) ≡ length staging
 
 abbrev pub All : Type 0
-All = AcceptedExactly × RowsCounted × DeskSendsNothing × AreaKeepsLength
+All = AcceptedExactly × RowsCounted × DeskSendsNothing × RowsBounded × AreaKeepsLength

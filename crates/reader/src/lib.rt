@@ -1,6 +1,7 @@
 // The reader of turbo dossiers: from any bytes to rows in a staging area, or the refusal that document 01 gives. It knows nothing of boards.
 use cells::Table;
-use rows::{Read, Shape};
+use rows::Read;
+use rows::Shape;
 use syntax::Verdict;
 use turbo::Mark;
 ghost use mathlib.Core.Path.{_≡_};
