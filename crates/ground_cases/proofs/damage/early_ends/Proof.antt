@@ -1,0 +1,59 @@
+-- `damage::early_ends` is safe and ends. Assumes nothing.
+use Prim.Native.Nat.{_-_, _≤_}
+use lib.ListN.{length}
+use borrow.Author.Needs.{needs}
+use Rattle.ground_cases.proofs.damage.early_ends.Statement.{statement}
+use Rattle.ground_cases.proofs.damage.early_ends.Tie as tie
+
+abbrev Inv-loop : tie.InvT-loop
+Inv-loop d n₀ n = n ≤ length d
+
+abbrev μ-loop : tie.MeasureT-loop
+μ-loop d n₀ n = length d - n
+
+given-requires : tie.Need-given-requires Inv-loop μ-loop
+given-requires c κs = search needs
+
+slice-aggregate-line : tie.Need-slice-aggregate-line Inv-loop μ-loop
+slice-aggregate-line c = search needs
+
+line-requires : tie.Need-line-requires Inv-loop μ-loop
+line-requires c κs = search needs
+
+loop-holds : tie.Need-loop-holds Inv-loop μ-loop
+loop-holds c = search needs
+
+early-end-requires : tie.Need-early-end-requires Inv-loop μ-loop
+early-end-requires c κs = search needs
+
+add-n : tie.Need-add-n Inv-loop μ-loop
+add-n c = search needs
+
+loop-less : tie.Need-loop-less Inv-loop μ-loop
+loop-less c = search needs
+
+loop-again : tie.Need-loop-again Inv-loop μ-loop
+loop-again c = search needs
+
+early-end-requires-2 : tie.Need-early-end-requires-2 Inv-loop μ-loop
+early-end-requires-2 c κs = search needs
+
+returns : tie.Need-returns Inv-loop μ-loop
+returns c = search needs
+
+pub early-ends-spec : {M : Type 1} → statement M
+early-ends-spec =
+    tie.close
+    (tie.spec
+    Inv-loop
+    μ-loop
+    given-requires
+    slice-aggregate-line
+    line-requires
+    loop-holds
+    early-end-requires
+    add-n
+    loop-less
+    loop-again
+    early-end-requires-2
+    returns)
