@@ -1,4 +1,4 @@
-// Good dossiers, damaged at each of their places.
+// A good dossier, damaged at each of its places.
 use crate::form;
 use crate::say;
 use syntax::Verdict;
@@ -7,16 +7,14 @@ fn early_end(d: &[u8], n: usize) {
     if d.len() < n {
         return;
     }
-    say::words(b"its first ");
+    say::words(b"\nfirst");
     say::size(n);
-    say::words(b" -> ");
+    say::words(b":");
     form::told(&d[0..n]);
 }
 
-// A good dossier cut after each of its bytes.
-fn early_ends(d: &[u8]) {
-    say::given(d);
-    say::line(b"cut");
+// The dossier cut after each of its bytes.
+pub fn early_ends(d: &[u8]) {
     let mut n: usize = 0;
     while n < d.len() {
         early_end(d, n);
@@ -57,13 +55,11 @@ fn run(d: &[u8], at: usize, a: u32, b: u32) {
     if 255 < b {
         return;
     }
-    say::words(b" ");
     say::small(a);
     if a < b {
-        say::words(b"-");
+        say::words(b" to");
         say::small(b);
     }
-    say::words(b" ");
     let x = b as u8;
     say::verdict(changed(d, at, x));
     say::words(b";");
@@ -71,7 +67,7 @@ fn run(d: &[u8], at: usize, a: u32, b: u32) {
 
 // Every value at place `at`.
 fn every_value(d: &[u8], at: usize) {
-    say::words(b"place ");
+    say::words(b"\nplace");
     say::size(at);
     say::words(b":");
     let mut a: u32 = 0;
@@ -83,12 +79,9 @@ fn every_value(d: &[u8], at: usize) {
         }
         b += 1;
     }
-    say::end();
 }
 
-fn every_place(d: &[u8]) {
-    say::given(d);
-    say::line(b"every value at every place");
+pub fn every_place(d: &[u8]) {
     let mut at: usize = 0;
     while at < d.len() {
         every_value(d, at);
@@ -109,10 +102,13 @@ fn with_null(d: &[u8], at: usize) {
     lists::copy_to(&mut t, 0, &d[0..at]);
     lists::copy_to(&mut t, at, b"\\0");
     lists::copy_to(&mut t, at + 2, &d[at..n]);
-    form::vector(&t[0..n + 2]);
+    say::words(b"\n");
+    let w = &t[0..n + 2];
+    say::quoted(w);
+    form::told(w);
 }
 
-fn nulls(d: &[u8]) {
+pub fn nulls(d: &[u8]) {
     let mut at: usize = 0;
     while at < d.len() {
         with_null(d, at);
@@ -121,63 +117,43 @@ fn nulls(d: &[u8]) {
     with_null(d, at);
 }
 
-// b at each place of a long line: runs of sixteen bytes are passed at a time.
-fn along_a_line(b: u8) {
+// b at each place of a long line: its bytes are passed sixteen at a time.
+fn along(b: u8) {
     let d = b"\\Gqqqqqqqqqqqqqqqqqqqqqqqqqqqqqqqqqqqqqqqqqqqqqqqqqqqqqqqqqqqq\r\n";
-    let one = [b];
-    say::quoted(&one);
-    say::words(b" at each of 64 places ->");
     let mut at: usize = 0;
     while at < 64 {
-        say::words(b" ");
         say::short(changed(d, at, b));
         at += 1;
     }
-    say::end();
 }
 
-fn size_65536() {
-    let mut d = [b'a'; 65536];
-    d[0] = 92;
-    d[1] = b'G';
-    say::words(b"65536 bytes without a line end -> ");
-    form::told(&d);
-    d[65534] = 13;
-    d[65535] = 10;
-    say::words(b"a group line of 65536 bytes -> ");
-    form::told(&d);
-    d[65533] = 10;
-    say::words(b"the same with LF at 65533 -> ");
-    form::told(&d);
+pub fn along_a_line(v: &[u8]) {
+    if v.len() != 1 {
+        return;
+    }
+    along(v[0]);
 }
 
-fn size_65537() {
+// One line, whole and without its last byte.
+fn long_line(d: &mut [u8]) {
+    let n = d.len();
+    if n < 4 {
+        return;
+    }
+    lists::copy_to(d, 0, b"\\G");
+    lists::copy_to(d, n - 2, b"\r\n");
+    say::words(b"a group line of");
+    say::size(n);
+    form::told(&d[..]);
+    say::words(b"; without its LF");
+    form::told(&d[0..n - 1]);
+    say::words(b"\n");
+}
+
+// The largest dossier that a call takes, and a byte more: the form has no limit.
+pub fn sizes() {
     let mut d = [b'a'; 65537];
-    d[0] = 92;
-    d[1] = b'G';
-    say::words(b"65537 bytes without a line end -> ");
-    form::told(&d);
-    d[65535] = 13;
-    d[65536] = 10;
-    say::words(b"a group line of 65537 bytes -> ");
-    form::told(&d);
-}
-
-pub fn all() {
-    say::heading(b"damage: early ends");
-    early_ends(b"\\GX|\\0\r\n\\TA\\i|b\r\n\\Lc|\\0\r\n1|x\\py\r\n\r\n\\0|\xff\r\n\\T\r\n\\L|\r\n");
-    say::heading(b"damage: one byte");
-    every_place(b"\\Gab\r\n\\Tcd\r\n\\Lef|g\r\nhi|jk\r\n");
-    every_place(b"\\G\\pa\\n|\\0\r\n\\T\\0\r\n\\L|\\i\r\n\\rx|\\0\r\n\\0|\r\n");
-    say::heading(b"damage: no content put in");
-    nulls(b"\\Gab|\\i\r\n\\Tc\r\n\\Ld\r\ne||f\r\n\r\n");
-    say::heading(b"damage: along a line");
-    along_a_line(31);
-    along_a_line(92);
-    along_a_line(124);
-    along_a_line(13);
-    along_a_line(255);
-    say::heading(b"damage: sizes");
-    size_65536();
-    size_65537();
+    say::words(b"== damage: sizes\n");
+    long_line(&mut d);
+    long_line(&mut d[0..65536]);
 }

@@ -1,4 +1,5 @@
 // How answers are printed. Bytes outside 32 to 126 are written \xHH.
+use fields::Number;
 use libc::STDOUT_FILENO;
 use syntax::Verdict;
 
@@ -6,19 +7,9 @@ pub fn words(s: &[u8]) {
     io::write_all(STDOUT_FILENO, s);
 }
 
-pub fn end() {
-    words(b"\n");
-}
-
 pub fn line(s: &[u8]) {
     words(s);
-    end();
-}
-
-// A group's name on a line of its own.
-pub fn heading(s: &[u8]) {
-    words(b"== ");
-    line(s);
+    words(b"\n");
 }
 
 fn wide(b: u8) -> u64 {
@@ -30,7 +21,7 @@ fn hidden(b: u8) {
     io::print_hex(STDOUT_FILENO, wide(b), 2);
 }
 
-fn byte(b: u8) {
+pub fn byte(b: u8) {
     if b < 32 {
         hidden(b);
         return;
@@ -43,7 +34,7 @@ fn byte(b: u8) {
     words(&one);
 }
 
-pub fn bytes(s: &[u8]) {
+fn bytes(s: &[u8]) {
     let mut i = 0;
     while i < s.len() {
         byte(s[i]);
@@ -57,29 +48,26 @@ pub fn quoted(s: &[u8]) {
     words(b"\"");
 }
 
-pub fn number(n: u64) {
-    io::print_decimal(STDOUT_FILENO, n);
+// What follows is printed after a blank.
+pub fn text(s: &[u8]) {
+    words(b" ");
+    quoted(s);
 }
 
 pub fn size(n: usize) {
-    number(n as u64);
+    words(b" ");
+    io::print_decimal(STDOUT_FILENO, n as u64);
 }
 
 pub fn small(n: u32) {
-    number(n as u64);
-}
-
-// What a vector goes in with.
-pub fn given(s: &[u8]) {
-    quoted(s);
-    words(b" -> ");
+    size(n as usize);
 }
 
 pub fn verdict(v: Verdict) {
     match v {
-        Verdict::Fine => words(b"Fine"),
+        Verdict::Fine => words(b" Fine"),
         Verdict::FaultAt(n) => {
-            words(b"FaultAt ");
+            words(b" FaultAt");
             size(n);
         }
     }
@@ -88,7 +76,17 @@ pub fn verdict(v: Verdict) {
 // The same in a list: a fault's offset, or a dash.
 pub fn short(v: Verdict) {
     match v {
-        Verdict::Fine => words(b"-"),
+        Verdict::Fine => words(b" -"),
         Verdict::FaultAt(n) => size(n),
+    }
+}
+
+pub fn read(r: Number) {
+    match r {
+        Number::Is(n) => {
+            words(b" Is");
+            small(n);
+        }
+        Number::Wrong => words(b" Wrong"),
     }
 }

@@ -11,15 +11,6 @@ Inv-loop d n₀ n = n ≤ length d
 abbrev μ-loop : tie.MeasureT-loop
 μ-loop d n₀ n = length d - n
 
-given-requires : tie.Need-given-requires Inv-loop μ-loop
-given-requires c κs = search needs
-
-slice-aggregate-line : tie.Need-slice-aggregate-line Inv-loop μ-loop
-slice-aggregate-line c = search needs
-
-line-requires : tie.Need-line-requires Inv-loop μ-loop
-line-requires c κs = search needs
-
 loop-holds : tie.Need-loop-holds Inv-loop μ-loop
 loop-holds c = search needs
 
@@ -47,9 +38,6 @@ early-ends-spec =
     (tie.spec
     Inv-loop
     μ-loop
-    given-requires
-    slice-aggregate-line
-    line-requires
     loop-holds
     early-end-requires
     add-n

@@ -11,15 +11,6 @@ Inv-loop d at₀ at = at ≤ length d
 abbrev μ-loop : tie.MeasureT-loop
 μ-loop d at₀ at = length d - at
 
-given-requires : tie.Need-given-requires Inv-loop μ-loop
-given-requires c κs = search needs
-
-slice-aggregate-line : tie.Need-slice-aggregate-line Inv-loop μ-loop
-slice-aggregate-line c = search needs
-
-line-requires : tie.Need-line-requires Inv-loop μ-loop
-line-requires c κs = search needs
-
 loop-holds : tie.Need-loop-holds Inv-loop μ-loop
 loop-holds c = search needs
 
@@ -41,15 +32,4 @@ returns c = search needs
 pub every-place-spec : {M : Type 1} → statement M
 every-place-spec =
     tie.close
-    (tie.spec
-    Inv-loop
-    μ-loop
-    given-requires
-    slice-aggregate-line
-    line-requires
-    loop-holds
-    every-value-requires
-    add-at
-    loop-less
-    loop-again
-    returns)
+    (tie.spec Inv-loop μ-loop loop-holds every-value-requires add-at loop-less loop-again returns)

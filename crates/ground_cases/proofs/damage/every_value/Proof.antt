@@ -46,9 +46,6 @@ loop-less c = search needs
 loop-again : tie.Need-loop-again Inv-loop μ-loop
 loop-again c = search needs
 
-end-requires : tie.Need-end-requires Inv-loop μ-loop
-end-requires c κs = search needs
-
 returns : tie.Need-returns Inv-loop μ-loop
 returns c = search needs
 
@@ -70,5 +67,4 @@ every-value-spec =
     add-b
     loop-less
     loop-again
-    end-requires
     returns)

@@ -1,0 +1,62 @@
+-- `names::escapes` is safe and ends. Assumes nothing.
+use Prim.Native.Nat.{_-_, _≤_}
+use borrow.Author.Needs.{needs}
+use Rattle.ground_cases.proofs.names.escapes.Statement.{statement}
+use Rattle.ground_cases.proofs.names.escapes.Tie as tie
+
+abbrev Inv-loop : tie.InvT-loop
+Inv-loop b₀ t3 b = b ≤ 256
+
+abbrev μ-loop : tie.MeasureT-loop
+μ-loop b₀ t3 b = 256 - b
+
+slice-aggregate-words : tie.Need-slice-aggregate-words Inv-loop μ-loop
+slice-aggregate-words c = search needs
+
+words-requires : tie.Need-words-requires Inv-loop μ-loop
+words-requires c κs = search needs
+
+loop-holds : tie.Need-loop-holds Inv-loop μ-loop
+loop-holds c = search needs
+
+cast-escape : tie.Need-cast-escape Inv-loop μ-loop
+cast-escape c = search needs
+
+escape-requires : tie.Need-escape-requires Inv-loop μ-loop
+escape-requires c κs = search needs
+
+add-b : tie.Need-add-b Inv-loop μ-loop
+add-b c = search needs
+
+loop-less : tie.Need-loop-less Inv-loop μ-loop
+loop-less c = search needs
+
+loop-again : tie.Need-loop-again Inv-loop μ-loop
+loop-again c = search needs
+
+slice-aggregate-words-2 : tie.Need-slice-aggregate-words-2 Inv-loop μ-loop
+slice-aggregate-words-2 c = search needs
+
+words-requires-2 : tie.Need-words-requires-2 Inv-loop μ-loop
+words-requires-2 c κs = search needs
+
+returns : tie.Need-returns Inv-loop μ-loop
+returns c = search needs
+
+pub escapes-spec : {M : Type 1} → statement M
+escapes-spec =
+    tie.close
+    (tie.spec
+    Inv-loop
+    μ-loop
+    slice-aggregate-words
+    words-requires
+    loop-holds
+    cast-escape
+    escape-requires
+    add-b
+    loop-less
+    loop-again
+    slice-aggregate-words-2
+    words-requires-2
+    returns)
