@@ -1,6 +1,6 @@
 -- `damage::along` is safe and ends. Assumes nothing.
+use native.Mathlib.Omega.{arith}
 use Prim.Native.Nat.{_-_, _≤_}
-use borrow.Author.Needs.{needs}
 use Rattle.ground_cases.proofs.damage.along.Statement.{statement}
 use Rattle.ground_cases.proofs.damage.along.Tie as tie
 
@@ -11,25 +11,25 @@ abbrev μ-loop : tie.MeasureT-loop
 μ-loop b d at₀ at = 64 - at
 
 loop-holds : tie.Need-loop-holds Inv-loop μ-loop
-loop-holds c = search needs
+loop-holds c = omega arith
 
 changed-requires : tie.Need-changed-requires Inv-loop μ-loop
-changed-requires c κs = search needs
+changed-requires c κs = tt
 
 short-requires : tie.Need-short-requires Inv-loop μ-loop
-short-requires c κs = search needs
+short-requires c κs = tt
 
 add-at : tie.Need-add-at Inv-loop μ-loop
-add-at c = search needs
+add-at c = omega arith
 
 loop-less : tie.Need-loop-less Inv-loop μ-loop
-loop-less c = search needs
+loop-less c = omega arith
 
 loop-again : tie.Need-loop-again Inv-loop μ-loop
-loop-again c = search needs
+loop-again c = omega arith
 
 returns : tie.Need-returns Inv-loop μ-loop
-returns c = search needs
+returns c = tt
 
 pub along-spec : {M : Type 1} → statement M
 along-spec =

@@ -1,7 +1,7 @@
 -- `damage::early_ends` is safe and ends. Assumes nothing.
+use native.Mathlib.Omega.{arith}
 use Prim.Native.Nat.{_-_, _≤_}
 use lib.ListN.{length}
-use borrow.Author.Needs.{needs}
 use Rattle.ground_cases.proofs.damage.early_ends.Statement.{statement}
 use Rattle.ground_cases.proofs.damage.early_ends.Tie as tie
 
@@ -12,25 +12,25 @@ abbrev μ-loop : tie.MeasureT-loop
 μ-loop d n₀ n = length d - n
 
 loop-holds : tie.Need-loop-holds Inv-loop μ-loop
-loop-holds c = search needs
+loop-holds c = omega arith
 
 early-end-requires : tie.Need-early-end-requires Inv-loop μ-loop
-early-end-requires c κs = search needs
+early-end-requires c κs = tt
 
 add-n : tie.Need-add-n Inv-loop μ-loop
-add-n c = search needs
+add-n c = omega arith
 
 loop-less : tie.Need-loop-less Inv-loop μ-loop
-loop-less c = search needs
+loop-less c = omega arith
 
 loop-again : tie.Need-loop-again Inv-loop μ-loop
-loop-again c = search needs
+loop-again c = omega arith
 
 early-end-requires-2 : tie.Need-early-end-requires-2 Inv-loop μ-loop
-early-end-requires-2 c κs = search needs
+early-end-requires-2 c κs = tt
 
 returns : tie.Need-returns Inv-loop μ-loop
-returns c = search needs
+returns c = tt
 
 pub early-ends-spec : {M : Type 1} → statement M
 early-ends-spec =

@@ -1,7 +1,7 @@
 -- `damage::nulls` is safe and ends. Assumes nothing.
+use native.Mathlib.Omega.{arith}
 use Prim.Native.Nat.{_-_, _≤_}
 use lib.ListN.{length}
-use borrow.Author.Needs.{needs}
 use Rattle.ground_cases.proofs.damage.nulls.Statement.{statement}
 use Rattle.ground_cases.proofs.damage.nulls.Tie as tie
 
@@ -12,25 +12,25 @@ abbrev μ-loop : tie.MeasureT-loop
 μ-loop d at₀ at = length d - at
 
 loop-holds : tie.Need-loop-holds Inv-loop μ-loop
-loop-holds c = search needs
+loop-holds c = omega arith
 
 with-null-requires : tie.Need-with-null-requires Inv-loop μ-loop
-with-null-requires c κs = search needs
+with-null-requires c κs = tt
 
 add-at : tie.Need-add-at Inv-loop μ-loop
-add-at c = search needs
+add-at c = omega arith
 
 loop-less : tie.Need-loop-less Inv-loop μ-loop
-loop-less c = search needs
+loop-less c = omega arith
 
 loop-again : tie.Need-loop-again Inv-loop μ-loop
-loop-again c = search needs
+loop-again c = omega arith
 
 with-null-requires-2 : tie.Need-with-null-requires-2 Inv-loop μ-loop
-with-null-requires-2 c κs = search needs
+with-null-requires-2 c κs = tt
 
 returns : tie.Need-returns Inv-loop μ-loop
-returns c = search needs
+returns c = tt
 
 pub nulls-spec : {M : Type 1} → statement M
 nulls-spec =

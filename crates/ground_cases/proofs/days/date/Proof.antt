@@ -4,31 +4,31 @@ use Rattle.ground_cases.proofs.days.date.Statement.{statement}
 use Rattle.ground_cases.proofs.days.date.Tie as tie
 
 is-date-requires : tie.Need-is-date-requires
-is-date-requires c κs = search needs
+is-date-requires c κs = tt
 
 slice-aggregate-words : tie.Need-slice-aggregate-words
 slice-aggregate-words c = search needs
 
 words-requires : tie.Need-words-requires
-words-requires c κs = search needs
+words-requires c κs = tt
 
 day-count-requires : tie.Need-day-count-requires
 day-count-requires c κs = cc
 
 small-requires : tie.Need-small-requires
-small-requires c κs = search needs
+small-requires c κs = tt
 
 slice-aggregate-words-2 : tie.Need-slice-aggregate-words-2
 slice-aggregate-words-2 c = search needs
 
 words-requires-2 : tie.Need-words-requires-2
-words-requires-2 c κs = search needs
+words-requires-2 c κs = tt
 
 returns : tie.Need-returns
-returns c = search needs
+returns c = tt
 
 returns-2 : tie.Need-returns-2
-returns-2 c = search needs
+returns-2 c = tt
 
 pub date-spec : {M : Type 1} → statement M
 date-spec =

@@ -1,4 +1,5 @@
 -- `form::stepwise` is safe and ends. Assumes nothing.
+use native.Mathlib.Omega.{arith}
 use Prim.Native.Nat.{_-_, _≤_}
 use lib.ListN.{length}
 use borrow.Author.Needs.{needs}
@@ -12,13 +13,13 @@ abbrev μ-loop : tie.MeasureT-loop
 μ-loop d s₀ i₀ s i = length d - i
 
 loop-holds : tie.Need-loop-holds Inv-loop μ-loop
-loop-holds c = search needs
+loop-holds c = omega arith
 
 shared-slice-read-next-state : tie.Need-shared-slice-read-next-state Inv-loop μ-loop
 shared-slice-read-next-state c = search needs
 
 next-state-requires : tie.Need-next-state-requires Inv-loop μ-loop
-next-state-requires c κs = search needs
+next-state-requires c κs = tt
 
 enum-known-t : tie.Need-enum-known-t Inv-loop μ-loop
 enum-known-t c = search needs
@@ -27,25 +28,25 @@ enum-told : tie.Need-enum-told Inv-loop μ-loop
 enum-told c = search needs
 
 returns : tie.Need-returns Inv-loop μ-loop
-returns c = search needs
+returns c = tt
 
 add-i : tie.Need-add-i Inv-loop μ-loop
-add-i c = search needs
+add-i c = omega arith
 
 loop-less : tie.Need-loop-less Inv-loop μ-loop
-loop-less c = search needs
+loop-less c = omega arith
 
 loop-again : tie.Need-loop-again Inv-loop μ-loop
-loop-again c = search needs
+loop-again c = omega arith
 
 may-end-requires : tie.Need-may-end-requires Inv-loop μ-loop
-may-end-requires c κs = search needs
+may-end-requires c κs = tt
 
 returns-2 : tie.Need-returns-2 Inv-loop μ-loop
-returns-2 c = search needs
+returns-2 c = tt
 
 returns-3 : tie.Need-returns-3 Inv-loop μ-loop
-returns-3 c = search needs
+returns-3 c = tt
 
 pub stepwise-spec : {M : Type 1} → statement M
 stepwise-spec =

@@ -1,4 +1,5 @@
 -- `names::escapes` is safe and ends. Assumes nothing.
+use native.Mathlib.Omega.{arith}
 use Prim.Native.Nat.{_-_, _≤_}
 use borrow.Author.Needs.{needs}
 use Rattle.ground_cases.proofs.names.escapes.Statement.{statement}
@@ -14,34 +15,34 @@ slice-aggregate-words : tie.Need-slice-aggregate-words Inv-loop μ-loop
 slice-aggregate-words c = search needs
 
 words-requires : tie.Need-words-requires Inv-loop μ-loop
-words-requires c κs = search needs
+words-requires c κs = tt
 
 loop-holds : tie.Need-loop-holds Inv-loop μ-loop
-loop-holds c = search needs
+loop-holds c = omega arith
 
 cast-escape : tie.Need-cast-escape Inv-loop μ-loop
-cast-escape c = search needs
+cast-escape c = omega arith
 
 escape-requires : tie.Need-escape-requires Inv-loop μ-loop
-escape-requires c κs = search needs
+escape-requires c κs = tt
 
 add-b : tie.Need-add-b Inv-loop μ-loop
-add-b c = search needs
+add-b c = omega arith
 
 loop-less : tie.Need-loop-less Inv-loop μ-loop
-loop-less c = search needs
+loop-less c = omega arith
 
 loop-again : tie.Need-loop-again Inv-loop μ-loop
-loop-again c = search needs
+loop-again c = omega arith
 
 slice-aggregate-words-2 : tie.Need-slice-aggregate-words-2 Inv-loop μ-loop
 slice-aggregate-words-2 c = search needs
 
 words-requires-2 : tie.Need-words-requires-2 Inv-loop μ-loop
-words-requires-2 c κs = search needs
+words-requires-2 c κs = tt
 
 returns : tie.Need-returns Inv-loop μ-loop
-returns c = search needs
+returns c = tt
 
 pub escapes-spec : {M : Type 1} → statement M
 escapes-spec =

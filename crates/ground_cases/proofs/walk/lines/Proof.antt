@@ -1,6 +1,6 @@
 -- `walk::lines` is safe and ends. Assumes nothing.
+use native.Mathlib.Omega.{arith}
 use Prim.Native.Nat.{_≤_}
-use borrow.Author.Needs.{needs}
 use Rattle.ground_cases.proofs.walk.lines.Statement.{statement}
 use Rattle.ground_cases.proofs.walk.lines.Tie as tie
 
@@ -11,34 +11,34 @@ abbrev μ-loop : tie.MeasureT-loop
 μ-loop d n t₀ left₀ t left = left
 
 count-lines-requires : tie.Need-count-lines-requires Inv-loop μ-loop
-count-lines-requires c κs = search needs
+count-lines-requires c κs = tt
 
 size-requires : tie.Need-size-requires Inv-loop μ-loop
-size-requires c κs = search needs
+size-requires c κs = tt
 
 loop-holds : tie.Need-loop-holds Inv-loop μ-loop
-loop-holds c = search needs
+loop-holds c = omega arith
 
 first-line-requires : tie.Need-first-line-requires Inv-loop μ-loop
-first-line-requires c κs = search needs
+first-line-requires c κs = tt
 
 mark-requires : tie.Need-mark-requires Inv-loop μ-loop
-mark-requires c κs = search needs
+mark-requires c κs = tt
 
 rest-after-line-requires : tie.Need-rest-after-line-requires Inv-loop μ-loop
-rest-after-line-requires c κs = search needs
+rest-after-line-requires c κs = tt
 
 sub-left : tie.Need-sub-left Inv-loop μ-loop
-sub-left c = search needs
+sub-left c = omega arith
 
 loop-less : tie.Need-loop-less Inv-loop μ-loop
-loop-less c = search needs
+loop-less c = omega arith
 
 loop-again : tie.Need-loop-again Inv-loop μ-loop
-loop-again c = search needs
+loop-again c = omega arith
 
 returns : tie.Need-returns Inv-loop μ-loop
-returns c = search needs
+returns c = tt
 
 pub lines-spec : {M : Type 1} → statement M
 lines-spec =
