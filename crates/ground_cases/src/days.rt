@@ -1,0 +1,48 @@
+// Dates and moments.
+use crate::parts;
+use crate::say;
+use clock::OperatingSeconds;
+use fields::Number;
+use fields::Time;
+
+fn date(n: u32) {
+    if clock::is_date(n) {
+        say::words(b" day");
+        say::small(clock::day_count(n));
+    } else {
+        say::words(b" no date");
+    }
+}
+
+// A date as a number.
+pub fn day(v: &[u8]) {
+    match fields::read_number(v, 9) {
+        Number::Is(n) => date(n),
+        Number::Wrong => say::words(b" no number"),
+    }
+}
+
+// A date as a number that is written in two parts.
+pub fn large(v: &[u8]) {
+    date(parts::large(v));
+}
+
+fn at(d: u32, s: OperatingSeconds) {
+    if clock::is_date(d) {
+        if s.0 < 115200 {
+            let m = clock::moment(d, s);
+            say::small(m.0);
+        }
+    }
+}
+
+// DATE^TIME: the moment on the clock.
+pub fn moment(v: &[u8]) {
+    match fields::read_date(parts::head(v)) {
+        Number::Is(d) => match fields::read_time(parts::tail(v)) {
+            Time::Is(s) => at(d, s),
+            Time::Wrong => say::words(b" no time"),
+        },
+        Number::Wrong => say::words(b" no date"),
+    }
+}

@@ -1,0 +1,82 @@
+// Lines, marks and fields of a dossier.
+use crate::parts;
+use crate::say;
+use turbo::Mark;
+
+pub fn mark(line: &[u8]) {
+    match turbo::mark_of(line) {
+        Mark::Group => say::words(b" Group"),
+        Mark::Table => say::words(b" Table"),
+        Mark::Labels => say::words(b" Labels"),
+        Mark::Data => say::words(b" Data"),
+    }
+    let rest = turbo::after_mark(line);
+    say::text(rest);
+}
+
+// How many fields, and each.
+pub fn fields(line: &[u8]) {
+    let n = turbo::count_fields(line);
+    say::size(n);
+    let mut k: usize = 0;
+    while k < n {
+        let f = turbo::field_of(line, k);
+        say::text(f);
+        k += 1;
+    }
+}
+
+// How many lines, and each with its mark.
+pub fn lines(d: &[u8]) {
+    let n = turbo::count_lines(d);
+    say::size(n);
+    let mut t = d;
+    let mut left = n;
+    while 0 < left {
+        let l = turbo::first_line(t);
+        mark(l);
+        let u = turbo::rest_after_line(t);
+        t = u;
+        left -= 1;
+    }
+}
+
+// The tails after 0, 1, 2, .. bars, and one past the last.
+pub fn tails(line: &[u8]) {
+    let n = turbo::count_fields(line);
+    let mut k: usize = 0;
+    while k < n {
+        let t = turbo::rest_after_bars(line, k);
+        say::text(t);
+        k += 1;
+    }
+    let t = turbo::rest_after_bars(line, n);
+    say::text(t);
+}
+
+// The fields in a row, each with its size, its bytes, and the tail that it hands on.
+pub fn row(line: &[u8]) {
+    let mut t = line;
+    let mut left = turbo::count_fields(line);
+    while 0 < left {
+        let f = turbo::first_field(t);
+        let mut n: usize = 0;
+        let u = turbo::read_field(t, &mut n);
+        say::size(n);
+        say::text(f);
+        say::text(u);
+        t = u;
+        left -= 1;
+    }
+}
+
+// The first byte, sought in what follows the circumflex: from byte to byte, and by blocks.
+pub fn find(v: &[u8]) {
+    if v.len() < 2 {
+        return;
+    }
+    let x = v[0];
+    let s = parts::tail(v);
+    say::size(turbo::find(s, x));
+    say::size(turbo::find_far(s, x));
+}
