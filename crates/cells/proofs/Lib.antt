@@ -2,3 +2,6 @@ pub mod CellLaws
 pub mod WriteLaws
 pub mod PartLaws
 pub mod LayoutLaws
+pub mod RangeLaws
+pub mod Claims
+pub mod Determined
