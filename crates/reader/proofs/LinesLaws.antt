@@ -28,7 +28,7 @@ use Rattle.rows.specs.declared.Read.{Read}
 use Rattle.rows.specs.Shape.{shapeOf}
 use Rattle.rows.specs.Reading.{readBy}
 use Rattle.reader.specs.Rules.{maySend, settled, firstLine, firstColumn, answerTo, rowsUpTo, itemsOf, laid}
-use Rattle.reader.specs.Step.{moved, misformed, labelled, mistyped, disowned, counted, rowStep, dataStep, labelStep, stepAt, stepBy, stageBy}
+use Rattle.reader.specs.Step.{moved, misformed, labelled, mistyped, disowned, counted, rowStep, dataStep, labelStep, stepAt, stepBy, stageBy, Fresh}
 use Rattle.reader.proofs.WidthLaws.{width-some}
 use Rattle.reader.proofs.FoldLaws.{first, clean, rowsFrom, settledFrom, Agrees, Goes, Reads, line-go}
 use Rattle.reader.proofs.StageLaws.{Stages, Fronts, line-stages, on-same}
@@ -47,10 +47,6 @@ pub record Reading (t : Table) (register : List ℕ) (sender : ℕ) (d st₀ : L
   pub area : st ≡ laid t done st₀
   pub all : Wide (rowWidth t) done
   pub count : clean s ≡ true → length done ≡ s .rows
-
--- a state before any line
-abbrev pub Fresh : State → Type 0
-Fresh s = (s .place ≡ 0) × (s .line ≡ 1) × (s .form ≡ 0) × (s .wrong ≡ 0) × (s .column ≡ 0) × (s .owner ≡ 0) × (s .rows ≡ 0)
 
 -- a line gives one row at most
 on-rows : (b : Bool) (x y : State) (n : ℕ) → x .rows ≤ n → y .rows ≤ n → (on b x y) .rows ≤ n

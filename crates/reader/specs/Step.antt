@@ -1,5 +1,6 @@
 -- One line at a time: what the reader keeps of the lines so far, and what a line changes in it. Assumes nothing.
 use Prim.Native.Nat.{ℕ, _+_, _*_}
+use mathlib.Core.Path.{_≡_}
 use mathlib.Core.Bool.{Bool, true, false}
 use mathlib.Core.List.{List, [], _∷_}
 use lib.Dec.{eqb, leb}
@@ -61,9 +62,13 @@ dataStep t register sender s l =
 unfoldable pub labelStep : State → Shape → State
 labelStep s h = on (h .fault) (misformed s) (labelled s h)
 
+-- the place after a `\T` line with this name
+abbrev pub placeNamed : Table → List ℕ → ℕ
+placeNamed t name = on (same name (tableName t)) 1 0
+
 abbrev pub stepAt : Table → List ℕ → ℕ → State → List ℕ → Mark → State
 stepAt t register sender s l Marks.Group = moved s 0
-stepAt t register sender s l Marks.Table = moved s (on (same (until 124 (afterMark l)) (tableName t)) 1 0)
+stepAt t register sender s l Marks.Table = moved s (placeNamed t (until 124 (afterMark l)))
 stepAt t register sender s l Marks.Labels = on (eqb (s .place) 1) (labelStep s (shapeOf t (fields (afterMark l)))) (moved s 0)
 stepAt t register sender s l Marks.Data = on (eqb (s .place) 2) (dataStep t register sender s l) (moved s (s .place))
 
@@ -92,3 +97,7 @@ stagedAt t register sender s l Marks.Data staging = on (eqb (s .place) 2) (dataS
 
 unfoldable pub stageBy : Table → List ℕ → ℕ → State → List ℕ → List ℕ → List ℕ
 stageBy t register sender s l staging = stagedAt t register sender s l (markOf l) staging
+
+-- a state before any line
+abbrev pub Fresh : State → Type 0
+Fresh s = (s .place ≡ 0) × (s .line ≡ 1) × (s .form ≡ 0) × (s .wrong ≡ 0) × (s .column ≡ 0) × (s .owner ≡ 0) × (s .rows ≡ 0)
