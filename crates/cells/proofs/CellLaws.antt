@@ -1,21 +1,33 @@
 -- Laws of cells, over any kind, stop type and field. Assumes nothing.
-use mathlib.Core.Path.{_≡_, refl, sym, ap, _∙_}
+use mathlib.Core.Path.{_≡_, refl, sym, _∙_}
 use mathlib.Core.Bool.{Bool, true, false}
 use mathlib.Core.List.{List, [], _∷_}
-use Prim.Native.Nat.{ℕ, zero, suc, _+_, _<_, _≤_}
+use Prim.Native.Nat.{ℕ, zero, suc, _-_, _<_}
 use native.Mathlib.Nat.{not-suc-le-zero}
 use native.Mathlib.Omega.{arith}
-use lib.ListN.{length}
-use Rattle.lists.specs.Logic.{on}
-use Rattle.lists.specs.Text.{same}
-use Rattle.lists.specs.Part.{over}
-use Rattle.lists.specs.BigEndian.{spelled}
-use Rattle.lists.proofs.OverLaws.{over-nil}
-use Rattle.lists.proofs.BigEndianLaws.{length-spelled}
-use Rattle.fields.specs.declared.Text.{Text}
+use borrow.Author.Tests.{eqb-true}
+use lib.Dec.{eqb}
+use lib.ListN.{length, replicate}
+use Rattle.lists.specs.Logic.{on, within}
+use Rattle.lists.specs.Each.{Bytes}
+use Rattle.lists.specs.Text.{bytes, same}
+use Rattle.lists.proofs.LogicLaws.{both-true, within-true}
+use Rattle.lists.proofs.EachLaws.{each-append}
+use Rattle.lists.proofs.BigEndianLaws.{length-spelled, bytes-spelled}
+use Rattle.turbo.specs.Escape.{decode}
+use Rattle.fields.specs.declared.Number.{Number}
+use Rattle.fields.specs.declared.Number.the-variants as Numbers
 use Rattle.fields.specs.declared.Time.{Time}
+use Rattle.fields.specs.declared.Time.the-variants as Times
+use Rattle.fields.specs.Digits as Digits
+use Rattle.fields.specs.Dates as Dates
 use Rattle.fields.specs.Times.{time}
-use Rattle.cells.specs.Cell.{width, null, missing, timeCell, textCell, timeAt, cell, some}
+use Rattle.fields.specs.Stamps as Stamps
+use Rattle.fields.specs.Names as Names
+use Rattle.fields.specs.Texts.{allText}
+use Rattle.fields.specs.Texts as Texts
+use Rattle.fields.proofs.KeptLaws.{text-is, ok-is, kept-bytes, text-length}
+use Rattle.cells.specs.Cell.{text, date, journey, fortify, order, stamp, status, arrival, departure, stopType, bit, flexible, width, null, numberCell, timeCell, textCell, missing, timeAt, cell, some}
 
 -- ---- something is kept, or nothing
 
@@ -27,59 +39,155 @@ pub cell-none : (l : List ℕ) → some l ≡ false → l ≡ []
 cell-none [] e = refl
 cell-none (b ∷ l) e = absurd (let z : _≡_ {A = ℕ} 0 1 = cc in omega arith)
 
--- ---- what a writer of a cell promises: it answers whether something is kept, and has written that
+-- ---- what holds of each kind's cell holds of every cell
 
-abbrev pub Kept : ℕ → List ℕ → List ℕ → Bool → List ℕ → Type 0
-Kept at l row r row′ = (r ≡ some l) × (row′ ≡ over at l row)
+module _ (P : ℕ → List ℕ → Type 0) (k : ℕ) where
+  pick : (n : ℕ) (x y : List ℕ) → P n x → P k y → P k (on (eqb k n) x y)
+  pick n x y p q = go (eqb k n) refl
+    where
+      go : (b : Bool) → eqb k n ≡ b → P k (on b x y)
+      go true e = rw (eqb-true k n e) p
+      go false e = q
 
-module _ (at : ℕ) {l : List ℕ} (row : List ℕ) where
-  pub kept-none : l ≡ [] → Kept at l row false row
-  kept-none e = rw e (refl, sym (over-nil at row))
+  pub by-kind :
+      (stop f : List ℕ)
+      → P text (textCell (Texts.text f))
+      → P date (numberCell 4 (Dates.date f))
+      → P journey (numberCell 4 (Digits.number 6 f))
+      → P fortify (numberCell 1 (Digits.number 2 f))
+      → P order (numberCell 2 (Digits.number 3 f))
+      → P stamp (numberCell 4 (Stamps.stamp f))
+      → P status (numberCell 1 (Names.status f))
+      → P arrival (timeAt (bytes "FIRST") stop f)
+      → P departure (timeAt (bytes "LAST") stop f)
+      → P stopType (numberCell 1 (Names.stopType f))
+      → P bit (numberCell 1 (Names.bit f))
+      → P flexible (numberCell 1 (Names.flexible f))
+      → P k []
+      → P k (cell k stop f)
+  unfolding cell
+  by-kind stop f t d j o r u s a e y b x z =
+      pick text _ _ t
+      (pick date _ _ d
+      (pick journey _ _ j
+      (pick fortify _ _ o
+      (pick order _ _ r
+      (pick stamp _ _ u
+      (pick status _ _ s
+      (pick arrival _ _ a
+      (pick departure _ _ e
+      (pick stopType _ _ y
+      (pick bit _ _ b
+      (pick flexible _ _ x z)))))))))))
 
-  pub kept-as : {m : List ℕ} {r : Bool} {row′ : List ℕ} → m ≡ l → Kept at m row r row′ → Kept at l row r row′
-  kept-as e k = rw (← e) k
+-- ---- widths
 
-  pub kept-long : {m row′ : List ℕ} → m ≡ l → 0 < length m → row′ ≡ over at m row → Kept at l row true row′
-  kept-long {m} e h k = kept-as e (sym (some-long m h), k)
+-- a list of w bytes, or none
+abbrev Wide : ℕ → List ℕ → Type 0
+Wide w l = some l ≡ true → length l ≡ w
 
-  pub kept-spelled : (w v : ℕ) {row′ : List ℕ} → spelled w v ≡ l → 0 < w → row′ ≡ over at (spelled w v) row → Kept at l row true row′
-  kept-spelled w v e h k = let s = length-spelled w v in kept-long e (omega arith) k
+wide-none : (w : ℕ) → Wide w []
+wide-none w e = absurd (let z : _≡_ {A = ℕ} 0 1 = cc in omega arith)
 
--- ---- a kind that is told
+wide-number : (w : ℕ) (n : Number) → Wide w (numberCell w n)
+wide-number w (Numbers.Is v) e = length-spelled w v
+wide-number w Numbers.Wrong e = wide-none w e
 
-pub wide-as : {k n : ℕ} (at m : ℕ) → k ≡ n → at + width k ≤ m → at + width n ≤ m
-wide-as at m e h = rw e at h
+wide-time : (t : Time) → Wide 3 (timeCell t)
+wide-time (Times.Is s) e = length-spelled 3 (s .0)
+wide-time Times.Wrong e = wide-none 3 e
 
-pub kind-as : {k n : ℕ} (stop f : List ℕ) → k ≡ n → cell n stop f ≡ cell k stop f
-kind-as stop f e = rw e
+wide-text : (f : List ℕ) → Wide 10 (textCell (Texts.text f))
+wide-text f = go (Texts.text f .ok)
+  where
+    go : (b : Bool) → Wide 10 (on b (Texts.text f .bytes) [])
+    go true e = text-length f
+    go false e = wide-none 10 e
 
--- k is none of the first n numbers
-abbrev pub NoneOf : ℕ → ℕ → Type 0
-NoneOf zero k = Unit {0}
-NoneOf (suc n) k = NoneOf n k × (k ≡ n → ⊥)
+wide-choice : (w : ℕ) (b : Bool) (x y : List ℕ) → Wide w x → Wide w y → Wide w (on b x y)
+wide-choice w true x y h k = h
+wide-choice w false x y h k = k
 
-none-past : (n k : ℕ) → NoneOf n k → n ≤ k
-none-past zero k h = omega arith
-none-past (suc n) k h = let p = none-past n k (h .0) in let q = h .1 in omega arith
+wide-time-at : (word stop f : List ℕ) → Wide 3 (timeAt word stop f)
+wide-time-at word stop f =
+    wide-choice 3 (same f null) _ _ (wide-choice 3 (same stop word) missing [] (λ e. refl) (wide-none 3)) (wide-time (time f))
 
--- the last kind, where it is none of the others
-pub last-kind : (n k : ℕ) → NoneOf n k → k < suc n → k ≡ n
-last-kind n k h l = let p = none-past n k h in omega arith
+-- a cell has its kind's width
+pub cell-width : (k : ℕ) (stop f : List ℕ) → some (cell k stop f) ≡ true → length (cell k stop f) ≡ width k
+unfolding width
+cell-width k stop f =
+    by-kind (λ (n : ℕ) (l : List ℕ). Wide (width n) l) k stop f
+    (wide-text f)
+    (wide-number 4 (Dates.date f))
+    (wide-number 4 (Digits.number 6 f))
+    (wide-number 1 (Digits.number 2 f))
+    (wide-number 2 (Digits.number 3 f))
+    (wide-number 4 (Stamps.stamp f))
+    (wide-number 1 (Names.status f))
+    (wide-time-at (bytes "FIRST") stop f)
+    (wide-time-at (bytes "LAST") stop f)
+    (wide-number 1 (Names.stopType f))
+    (wide-number 1 (Names.bit f))
+    (wide-number 1 (Names.flexible f))
+    (wide-none (width k))
 
--- ---- which case of a text, and of a time, holds
+-- ---- bytes
 
-pub text-kept : (t : Text) → t .ok ≡ true → t .bytes ≡ textCell t
-text-kept t e = rw e
+bytes-text : (t : List ℕ) → allText t ≡ true → Bytes t
+bytes-text [] e = tt
+bytes-text (x ∷ t) e =
+    let b = both-true (within 32 126 x) (allText t) e in
+    (omega (arith, within-true 32 126 x (b .0)), bytes-text t (b .1))
 
-pub text-refused : (t : Text) → t .ok ≡ false → textCell t ≡ []
-text-refused t e = rw e
+bytes-zeros : (n : ℕ) → Bytes (replicate n 0)
+bytes-zeros zero = tt
+bytes-zeros (suc n) = (omega arith, bytes-zeros n)
 
-module _ (word stop f : List ℕ) where
-  pub time-missing : same f null ≡ true → same stop word ≡ true → missing ≡ timeAt word stop f
-  time-missing n s = rw (n, s)
+abbrev IsByte : ℕ → Type 0
+IsByte b = b < 256
 
-  pub time-none : same f null ≡ true → same stop word ≡ false → timeAt word stop f ≡ []
-  time-none n s = rw (n, s)
+bytes-kept : (f : List ℕ) → Bytes (textCell (Texts.text f))
+bytes-kept f = go (Texts.text f .ok) refl
+  where
+    go : (b : Bool) → Texts.text f .ok ≡ b → Bytes (on b (Texts.text f .bytes) [])
+    go true e =
+        rw (kept-bytes f e)
+        (each-append IsByte (decode f) (replicate (10 - length (decode f)) 0)
+        (bytes-text (decode f) (text-is (decode f) (sym (ok-is f) ∙ e) .2)) (bytes-zeros (10 - length (decode f))))
+    go false e = tt
 
-  pub time-told : same f null ≡ false → timeCell (time f) ≡ timeAt word stop f
-  time-told n = rw n
+bytes-number : (w : ℕ) (n : Number) → Bytes (numberCell w n)
+bytes-number w (Numbers.Is v) = bytes-spelled w v
+bytes-number w Numbers.Wrong = tt
+
+bytes-time : (t : Time) → Bytes (timeCell t)
+bytes-time (Times.Is s) = bytes-spelled 3 (s .0)
+bytes-time Times.Wrong = tt
+
+bytes-choice : (b : Bool) (x y : List ℕ) → Bytes x → Bytes y → Bytes (on b x y)
+bytes-choice true x y h k = h
+bytes-choice false x y h k = k
+
+bytes-time-at : (word stop f : List ℕ) → Bytes (timeAt word stop f)
+bytes-time-at word stop f =
+    bytes-choice (same f null) _ _
+    (bytes-choice (same stop word) missing [] (omega arith, (omega arith, (omega arith, tt))) tt)
+    (bytes-time (time f))
+
+-- a cell's bytes are below 256
+pub cell-bytes : (k : ℕ) (stop f : List ℕ) → Bytes (cell k stop f)
+cell-bytes k stop f =
+    by-kind (λ (n : ℕ) (l : List ℕ). Bytes l) k stop f
+    (bytes-kept f)
+    (bytes-number 4 (Dates.date f))
+    (bytes-number 4 (Digits.number 6 f))
+    (bytes-number 1 (Digits.number 2 f))
+    (bytes-number 2 (Digits.number 3 f))
+    (bytes-number 4 (Stamps.stamp f))
+    (bytes-number 1 (Names.status f))
+    (bytes-time-at (bytes "FIRST") stop f)
+    (bytes-time-at (bytes "LAST") stop f)
+    (bytes-number 1 (Names.stopType f))
+    (bytes-number 1 (Names.bit f))
+    (bytes-number 1 (Names.flexible f))
+    tt

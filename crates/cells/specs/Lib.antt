@@ -1,3 +1,5 @@
 pub mod Cell
 pub mod Tables
 pub mod Layout
+pub mod Cases
+pub mod Claims

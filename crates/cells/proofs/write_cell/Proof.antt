@@ -4,7 +4,7 @@ use borrow.Author.Needs.{needs}
 use denote.Ref.{now}
 use Rattle.turbo.specs.Split.{fieldAt}
 use Rattle.cells.specs.Cell.{width, numberCell, cell}
-use Rattle.cells.proofs.CellLaws.{kept-as, wide-as, kind-as, last-kind}
+use Rattle.cells.proofs.WriteLaws.{kept-as, wide-as, kind-as, last-kind}
 use Rattle.cells.proofs.write_cell.Statement.{statement}
 use Rattle.cells.proofs.write_cell.Tie as tie
 

@@ -2,7 +2,7 @@ use mathlib.Core.Path.{sym, ap}
 use borrow.Author.Needs.{needs}
 use denote.Ref.{now}
 use Rattle.cells.specs.Cell.{numberCell}
-use Rattle.cells.proofs.CellLaws.{kept-none, kept-spelled}
+use Rattle.cells.proofs.WriteLaws.{kept-none, kept-spelled}
 use Rattle.cells.proofs.write_number.Statement.{statement}
 use Rattle.cells.proofs.write_number.Tie as tie
 

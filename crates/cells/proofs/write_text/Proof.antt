@@ -1,5 +1,4 @@
-use mathlib.Core.Path.{_≡_, sym, ap, _∙_}
-use Prim.Native.Nat.{ℕ}
+use mathlib.Core.Path.{sym, ap, _∙_}
 use native.Mathlib.Omega.{arith}
 use borrow.Author.Needs.{needs}
 use denote.Ref.{now}
@@ -7,7 +6,7 @@ use lib.ListN.{length}
 use Rattle.fields.specs.declared.Text.{Text}
 use Rattle.fields.proofs.KeptLaws.{text-length}
 use Rattle.cells.specs.Cell.{textCell}
-use Rattle.cells.proofs.CellLaws.{kept-none, kept-long, text-kept, text-refused}
+use Rattle.cells.proofs.WriteLaws.{kept-none, kept-long, text-kept, text-refused}
 use Rattle.cells.proofs.write_text.Statement.{statement}
 use Rattle.cells.proofs.write_text.Tie as tie
 

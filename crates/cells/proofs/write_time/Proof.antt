@@ -8,7 +8,7 @@ use Rattle.lists.specs.Text.{same}
 use Rattle.lists.specs.BigEndian.{spelled}
 use Rattle.turbo.specs.Split.{fieldAt}
 use Rattle.cells.specs.Cell.{missing, timeCell}
-use Rattle.cells.proofs.CellLaws.{kept-none, kept-spelled, time-missing, time-none, time-told}
+use Rattle.cells.proofs.WriteLaws.{kept-none, kept-spelled, time-missing, time-none, time-told}
 use Rattle.cells.proofs.write_time.Statement.{statement}
 use Rattle.cells.proofs.write_time.Tie as tie
 
