@@ -1,5 +1,6 @@
 pub mod WidthLaws
 pub mod RowStepLaws
+pub mod StepLaws
 pub mod ReadLaws
 pub mod FoldLaws
 pub mod StageLaws

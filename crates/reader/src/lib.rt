@@ -5,13 +5,14 @@ use rows::Shape;
 use syntax::Verdict;
 use turbo::Mark;
 ghost use mathlib.Core.Path.{_≡_};
-ghost use mathlib.Core.Bool.{false};
-ghost use mathlib.Core.List.{List};
-ghost use Prim.Native.Nat.{ℕ, _+_, _≤_, _<_};
+ghost use mathlib.Core.List.{[]};
+ghost use Prim.Native.Nat.{_≤_, _<_};
 ghost use lib.ListN.{length};
-ghost use Rattle.rows.specs.Shape.{shapeOf};
-ghost use Rattle.reader.specs.Rules.{maySend, readingOf, stagedBy, settled};
-ghost use Rattle.reader.specs.Step.{moved, misformed, labelled, mistyped, disowned, counted, rowStep, dataStep, labelStep, stepBy, staged, rowStaged, dataStaged, stageBy};
+ghost use Rattle.rows.specs.Reading.{IsShape};
+ghost use Rattle.lists.specs.Text.{same};
+ghost use Rattle.cells.specs.Tables.{tableName};
+ghost use Rattle.reader.specs.Rules.{maySend, largest, answerTo, itemsOf, rowsUpTo, laid, readingOf, stagedBy, settled};
+ghost use Rattle.reader.specs.Step.{moved, misformed, labelled, mistyped, disowned, counted, rowStep, dataStep, labelStep, stepBy, staged, rowStaged, dataStaged, stageBy, placeNamed, Fresh};
 
 // What a reader answers: refusals 2 to 6 with their places, or how many rows the dossier has.
 pub enum Answer {
@@ -157,4 +158,164 @@ fn row_step(t: Table, s: State, r: Read, register: &[u8], sender: u8, staging: &
         return one_more(s);
     }
     wrong_owner(s)
+}
+
+// A data line: its count of fields first, and no more once a field was wrong.
+fn data_step(t: Table, s: State, line: &[u8], register: &[u8], sender: u8, staging: &mut [u8]) -> State
+    requires { ⌜ (s .line < 4294967296) × (s .rows < 4294967296) × IsShape t (s .shape) ⌝ }
+    ensures state { λ n. ⌜ n ≡ dataStep t (now (register .entry)) sender s (now (line .entry)) ⌝ }
+    ensures area { λ _. ⌜ now (staging .exit) ≡ dataStaged t (now (register .entry)) sender s (now (line .entry)) (now (staging .entry)) ⌝ }
+{
+    let h = s.shape;
+    if turbo::count_fields(line) != h.count {
+        return form_fault(s);
+    }
+    if s.wrong != 0 {
+        return moved_to(s, s.place);
+    }
+    let r = rows::read_row(t, h, line);
+    row_step(t, s, r, register, sender, staging)
+}
+
+// The place after a `\T` line: whether its name is the table's.
+fn named_place(t: Table, name: &[u8]) -> u8
+    ensures { λ r. ⌜ r ≡ placeNamed t (now (name .entry)) ⌝ }
+{
+    if is_named(t, name) {
+        return 1;
+    }
+    0
+}
+
+fn is_named(t: Table, name: &[u8]) -> bool
+    ensures { λ r. ⌜ r ≡ same (now (name .entry)) (tableName t) ⌝ }
+{
+    match t {
+        Table::Message => lists::same_bytes(name, b"DATEDPASSTIME"),
+        Table::Planning => lists::same_bytes(name, b"LOCALSERVICEGROUPPASSTIME"),
+        Table::Calendar => lists::same_bytes(name, b"LOCALSERVICEGROUPVALIDITY"),
+    }
+}
+
+// One line: what it changes in the state and in the staging area. It needs nothing of the lines before but the state.
+fn line_step(t: Table, s: State, line: &[u8], register: &[u8], sender: u8, staging: &mut [u8]) -> State
+    requires { ⌜ (s .line < 4294967296) × (s .rows < 4294967296) × (s .place ≡ 2 → IsShape t (s .shape)) ⌝ }
+    ensures state { λ n. ⌜ n ≡ stepBy t (now (register .entry)) sender s (now (line .entry)) ⌝ }
+    ensures area { λ _. ⌜ now (staging .exit) ≡ stageBy t (now (register .entry)) sender s (now (line .entry)) (now (staging .entry)) ⌝ }
+{
+    let place = s.place;
+    match turbo::mark_of(line) {
+        Mark::Group => moved_to(s, 0),
+        Mark::Table => {
+            let name = turbo::first_field(turbo::after_mark(line));
+            moved_to(s, named_place(t, name))
+        }
+        Mark::Labels => {
+            if place == 1 {
+                let h = rows::read_labels(t, turbo::after_mark(line));
+                return label_step(s, h);
+            }
+            moved_to(s, 0)
+        }
+        Mark::Data => {
+            if place == 2 {
+                return data_step(t, s, line, register, sender, staging);
+            }
+            moved_to(s, place)
+        }
+    }
+}
+
+// Before any line.
+fn start() -> State
+    ensures { λ r. ⌜ Fresh r ⌝ }
+{
+    State {
+        place: 0,
+        line: 1,
+        form: 0,
+        wrong: 0,
+        column: 0,
+        owner: 0,
+        rows: 0,
+        shape: Shape {
+            fault: true,
+            count: 0,
+            stop: 0,
+            places: [0usize; 20],
+            found: 0,
+            order: [0usize; 20],
+        },
+    }
+}
+
+// The answer once no line is left, by the order of the numbers.
+fn settle(s: State) -> Answer
+    ensures { λ r. ⌜ r ≡ settled 0 (s .wrong) (s .column) (s .owner) (s .rows) ⌝ }
+{
+    if s.wrong != 0 {
+        return Answer::Field(s.wrong, s.column);
+    }
+    if s.owner != 0 {
+        return Answer::Owner(s.owner);
+    }
+    Answer::Rows(s.rows)
+}
+
+// The lines of a dossier within its size, one after another.
+fn read_lines(t: Table, d: &[u8], register: &[u8], sender: u8, staging: &mut [u8]) -> Answer
+    requires { ⌜ length (now d) ≤ largest ⌝ }
+    ensures answer { λ r. ⌜ r ≡ answerTo t (now (register .entry)) sender (itemsOf t (now (d .entry))) ⌝ }
+    ensures area { λ _. ⌜ now (staging .exit) ≡ laid t (rowsUpTo t (now (register .entry)) sender (itemsOf t (now (d .entry)))) (now (staging .entry)) ⌝ }
+{
+    let mut s = start();
+    let mut rest = d;
+    while 0 < rest.len() {
+        let mut size: usize = 0;
+        let next = turbo::read_line(rest, &mut size);
+        s = line_step(t, s, &rest[..size], register, sender, staging);
+        if s.form != 0 {
+            return Answer::Form(s.form);
+        }
+        rest = next;
+    }
+    settle(s)
+}
+
+// Any bytes, in the order of document 01's table: 2, 3, then 4 to 6.
+fn read(t: Table, d: &[u8], register: &[u8], sender: u8, staging: &mut [u8]) -> Answer
+    ensures answer { λ r. ⌜ r ≡ readingOf t (now (register .entry)) sender (now (d .entry)) ⌝ }
+    ensures area { λ _. ⌜ now (staging .exit) ≡ stagedBy t (now (register .entry)) sender (now (d .entry)) (now (staging .entry)) ⌝ }
+{
+    if 65536 < d.len() {
+        return Answer::TooLong;
+    }
+    match syntax::check_syntax(d) {
+        Verdict::FaultAt(i) => Answer::Syntax(i),
+        Verdict::Fine => read_lines(t, d, register, sender, staging),
+    }
+}
+
+// A message: its rows as 66-byte bodies into the staging area.
+pub fn read_message(d: &[u8], register: &[u8], sender: u8, staging: &mut [u8]) -> Answer
+    ensures answer { λ r. ⌜ r ≡ readingOf Table.Message (now (register .entry)) sender (now (d .entry)) ⌝ }
+    ensures area { λ _. ⌜ now (staging .exit) ≡ stagedBy Table.Message (now (register .entry)) sender (now (d .entry)) (now (staging .entry)) ⌝ }
+{
+    read(Table::Message, d, register, sender, staging)
+}
+
+// The planning: pass times of 65 bytes, without a date and with their service level.
+pub fn read_planning(d: &[u8], staging: &mut [u8]) -> Answer
+    ensures answer { λ r. ⌜ r ≡ readingOf Table.Planning [] 0 (now (d .entry)) ⌝ }
+    ensures area { λ _. ⌜ now (staging .exit) ≡ stagedBy Table.Planning [] 0 (now (d .entry)) (now (staging .entry)) ⌝ }
+{
+    read(Table::Planning, d, &d[..0], 0, staging)
+}
+
+// The calendar: owner, service level and date, 24 bytes.
+pub fn read_calendar(d: &[u8], staging: &mut [u8]) -> Answer
+    ensures answer { λ r. ⌜ r ≡ readingOf Table.Calendar [] 0 (now (d .entry)) ⌝ }
+    ensures area { λ _. ⌜ now (staging .exit) ≡ stagedBy Table.Calendar [] 0 (now (d .entry)) (now (staging .entry)) ⌝ }
+{
+    read(Table::Calendar, d, &d[..0], 0, staging)
 }
