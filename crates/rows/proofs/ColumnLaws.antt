@@ -44,7 +44,7 @@ abbrev pub AllRight : List (List ℕ) → Type 0
 AllRight xs = (k : ℕ) → k < length xs → some (getD xs k []) ≡ true
 
 -- all cells are right and it is 0, or it is the first wrong one's
-abbrev WrongIs : List (List ℕ) → List ℕ → ℕ → Type 0
+abbrev pub WrongIs : List (List ℕ) → List ℕ → ℕ → Type 0
 WrongIs xs ps w = ((w ≡ 0) × AllRight xs) ⊎ ((j : ℕ) × (w ≡ getD ps j 0 + 1) × IsFirst xs ps j)
 
 not-both : (t : Bool) → t ≡ true → t ≡ false → ⊥

@@ -9,3 +9,4 @@ pub mod FillLaws
 pub mod ReachLaws
 pub mod FieldLaws
 pub mod GoingLaws
+pub mod RowLaws
