@@ -1,24 +1,18 @@
--- How many rows a dossier can give: each row's line holds a stamp of 25 bytes, and ends in two. Assumes nothing.
 use Prim.Native.String.{String}
 use Prim.Native.Nat.{ℕ, zero, suc, _+_, _*_, _-_, _≤_, _<_}
 use native.Mathlib.Decide.{decLt}
 use native.Mathlib.Omega.{arith}
-use mathlib.Core.Path.{_≡_, refl, sym, ap, _∙_}
+use mathlib.Core.Path.{_≡_, refl, ap, _∙_}
 use mathlib.Core.Bool.{Bool, true, false, not}
 use mathlib.Core.List.{List, [], _∷_}
-use borrow.Author.Tests.{eqb-true, eqb-false, ltb-true}
+use borrow.Author.Tests.{eqb-true, eqb-false}
 use lib.Dec.{eqb, ltb}
 use lib.ListN.{length, getD, drop, length-drop}
 use Rattle.lists.specs.Logic.{on, both}
-use Rattle.lists.specs.Text.{same}
-use Rattle.lists.specs.Each.{Each}
 use Rattle.lists.proofs.LogicLaws.{both-true, both-false}
 use Rattle.fields.specs.declared.Number.{Number}
-use Rattle.fields.specs.declared.Number.the-variants as Numbers
-use Rattle.fields.specs.Digits.{given as numberGiven, andThen}
-use Rattle.fields.specs.Stamps.{stamp, stampShape, stampSeconds, offset}
-use Rattle.fields.specs.Dates.{date}
-use Rattle.fields.specs.Times.{clock}
+use Rattle.fields.specs.Digits.{given as numberGiven}
+use Rattle.fields.specs.Stamps.{stamp, stampShape}
 use Rattle.turbo.specs.declared.Mark.{Mark}
 use Rattle.turbo.specs.declared.Mark.the-variants as Marks
 use Rattle.turbo.specs.Split.{until, past, tailAt, fields, fieldAt, lines, markOf, afterMark}
@@ -26,11 +20,13 @@ use Rattle.turbo.specs.Columns.{place}
 use Rattle.turbo.proofs.SplitLaws.{until-le, past-drop, field-tail, lines-cons, lines-none}
 use Rattle.cells.specs.declared.Table.{Table}
 use Rattle.cells.specs.declared.Table.the-variants.{Message}
-use Rattle.cells.specs.Cell.{cell, numberCell, some, null}
+use Rattle.cells.specs.Cell.{cell, numberCell, some}
 use Rattle.cells.specs.Cell as Cell
-use Rattle.cells.specs.Tables.{Column, must, nameOf, isOptional, cellAt, stopPlace, lesser, wrongIn, wrongColumn, rowOf, columnsIn, messageColumns}
+use Rattle.cells.specs.Tables.{Column, must, nameOf, cellAt, stopPlace, lesser, wrongIn, wrongColumn, rowOf, columnsIn, messageColumns}
 use Rattle.reader.specs.Items.{Item, head, row, Place, outside, awaiting, under, after, seen, before, items}
-use Rattle.reader.specs.Rules.{formBad, isWrong, ownerBad, wrongAt, rowsUpTo, given, itemsOf, fine}
+use Rattle.reader.specs.Rules.{formBad, ownerBad, rowsUpTo, itemsOf, fine}
+
+-- How many rows a dossier can give: each row's line holds a stamp of 25 bytes, and ends in two. Assumes nothing.
 
 -- a line's bytes with its line end
 abbrev weights : List (List ℕ) → ℕ

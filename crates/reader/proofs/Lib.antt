@@ -1,10 +1,12 @@
 pub mod WidthLaws
 pub mod RowStepLaws
 pub mod StepLaws
-pub mod ReadLaws
 pub mod FoldLaws
 pub mod StageLaws
+pub mod ReadLaws
 pub mod LinesLaws
+pub mod LookLaws
 pub mod BoundLaws
 pub mod AnswerLaws
 pub mod Claims
+pub mod Determined

@@ -1,7 +1,5 @@
--- Which case of a line's step holds. Assumes nothing.
 use Prim.Native.Nat.{ℕ}
-use mathlib.Core.Path.{_≡_, refl, sym, ap}
-use mathlib.Core.Bool.{true, false}
+use mathlib.Core.Path.{_≡_, refl}
 use mathlib.Core.List.{List}
 use borrow.Author.Tests.{eq-eqb, ne-eqb}
 use lib.ListN.{length}
@@ -12,6 +10,8 @@ use Rattle.rows.specs.Shape.{shapeOf}
 use Rattle.rows.specs.Reading.{readBy}
 use Rattle.reader.specs.declared.State.{State}
 use Rattle.reader.specs.Step.{moved, misformed, rowStep, dataStep, labelStep, placeNamed, stepBy, rowStaged, dataStaged, stageBy}
+
+-- Which case of a line's step holds. Assumes nothing.
 
 module _ (t : Tables.Table) (register : List ℕ) (sender : ℕ) (s : State) (l st : List ℕ) where
   -- ---- a data line

@@ -1,24 +1,10 @@
-use Prim.Native.Nat.{ℕ, suc, _+_, _*_, _-_, _≤_, _<_}
-use native.Mathlib.Omega.{arith}
-use mathlib.Core.Path.{_≡_, refl, sym, ap, _∙_}
-use mathlib.Core.List.{List, [], _∷_, _++_}
-use lib.ListN.{length, take, drop, getD, set, length-set, length-drop}
-use mathlib.Core.Bool.{Bool, true, false}
-use mathlib.Core.Logic.{_⊎_, ⊎-elim}
-use borrow.Author.Tests.{eq-eqb, ne-eqb, lt-ltb, le-ltb, le-leb, lt-leb}
+use Prim.Native.Nat.{_-_}
+use mathlib.Core.Path.{sym, ap, _∙_}
 use borrow.Author.Needs.{needs}
-use Rattle.reader.specs.declared.State.{State}
 use Rattle.reader.specs.Step.{rowStep, rowStaged}
 use Rattle.reader.proofs.StepLaws.{data-many, data-known, data-read}
 use Rattle.reader.proofs.data_step.Statement.{statement}
 use Rattle.reader.proofs.data_step.Tie as tie
-use Rattle.reader.proofs.data_step.Reads as reads
-use Rattle.reader.proofs.data_step.Lts as lts
-use Rattle.reader.proofs.form_fault.Reads as form-fault-reads
-use Rattle.reader.proofs.moved_to.Reads as moved-to-reads
-use Rattle.reader.proofs.row_step.Reads as row-step-reads
-use Rattle.rows.proofs.read_row.Reads as read-row-reads
-use Rattle.turbo.proofs.count_fields.Reads as count-fields-reads
 
 count-fields-requires : tie.Need-count-fields-requires
 count-fields-requires c κs = search needs

@@ -1,28 +1,13 @@
-use Prim.Native.Nat.{ℕ, suc, _+_, _*_, _-_, _≤_, _<_}
-use native.Mathlib.Omega.{arith}
-use mathlib.Core.Path.{_≡_, refl, sym, ap, _∙_}
-use mathlib.Core.List.{List, [], _∷_, _++_}
-use lib.ListN.{length, take, drop, getD, set, length-set, length-drop}
-use mathlib.Core.Bool.{Bool, true, false}
-use mathlib.Core.Logic.{_⊎_, ⊎-elim}
-use borrow.Author.Tests.{eq-eqb, ne-eqb, lt-ltb, le-ltb, le-leb, lt-leb}
+use Prim.Native.Nat.{ℕ, _-_}
+use mathlib.Core.Path.{sym, ap, _∙_}
+use mathlib.Core.List.{List}
 use borrow.Author.Needs.{needs}
-use Rattle.turbo.specs.Split.{until, fields, afterMark}
+use Rattle.turbo.specs.Split.{until, fields}
 use Rattle.rows.specs.Shape.{shapeOf}
 use Rattle.reader.specs.Step.{moved, labelStep, placeNamed}
 use Rattle.reader.proofs.StepLaws.{line-group, line-table, line-labels, line-labels-skipped, line-data, line-data-skipped}
 use Rattle.reader.proofs.line_step.Statement.{statement}
 use Rattle.reader.proofs.line_step.Tie as tie
-use Rattle.reader.proofs.line_step.Reads as reads
-use Rattle.reader.proofs.line_step.Lts as lts
-use Rattle.reader.proofs.data_step.Reads as data-step-reads
-use Rattle.reader.proofs.label_step.Reads as label-step-reads
-use Rattle.reader.proofs.moved_to.Reads as moved-to-reads
-use Rattle.reader.proofs.named_place.Reads as named-place-reads
-use Rattle.rows.proofs.read_labels.Reads as read-labels-reads
-use Rattle.turbo.proofs.after_mark.Reads as after-mark-reads
-use Rattle.turbo.proofs.first_field.Reads as first-field-reads
-use Rattle.turbo.proofs.mark_of.Reads as mark-of-reads
 
 mark-of-requires : tie.Need-mark-of-requires
 mark-of-requires c κs = search needs
