@@ -6,6 +6,7 @@ pub mod StageLaws
 pub mod ReadLaws
 pub mod LinesLaws
 pub mod LookLaws
+pub mod RangeLaws
 pub mod BoundLaws
 pub mod AnswerLaws
 pub mod Claims

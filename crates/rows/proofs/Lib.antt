@@ -10,3 +10,6 @@ pub mod ReachLaws
 pub mod FieldLaws
 pub mod GoingLaws
 pub mod RowLaws
+pub mod LabelLaws
+pub mod Claims
+pub mod Determined

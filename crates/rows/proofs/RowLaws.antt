@@ -85,7 +85,7 @@ shape-sound t labels e = record { labels = labels; shape = refl; faultless = sha
 abbrev pub cellFor : Table → List (List ℕ) → List ℕ → ℕ → List ℕ
 cellFor t labels line k = cellAt (length labels) (stopPlace labels) line (columnAt t k) (place (nameOf (columnAt t k)) labels)
 
-of-length : (cs : List Column) (labels : List (List ℕ)) (line : List ℕ) → length (cellsOf cs labels line) ≡ length cs
+pub of-length : (cs : List Column) (labels : List (List ℕ)) (line : List ℕ) → length (cellsOf cs labels line) ≡ length cs
 of-length [] labels line = refl
 of-length (c ∷ cs) labels line = ap suc (of-length cs labels line)
 

@@ -106,7 +106,7 @@ pub places-room : (t : Table) (labels : List (List ℕ)) → length (placesOf t 
 places-room t labels = places-length 0 (names t) labels (replicate most 0) ∙ length-replicate {A = ℕ} most 0
 
 module _ (t : Table) (labels : List (List ℕ)) (e : labelFault t labels ≡ false) where
-  fault-parts : (anyTwice (names t) labels ≡ false) × (misses t labels ≡ false)
+  pub fault-parts : (anyTwice (names t) labels ≡ false) × (misses t labels ≡ false)
   unfolding labelFault
   fault-parts = either-false (anyTwice (names t) labels) (misses t labels) e
 
