@@ -1,11 +1,10 @@
--- What an answer says of the items. Assumes nothing.
-use Prim.Native.Nat.{ℕ, zero, suc, _+_, _*_, _≤_, _<_}
+use Prim.Native.Nat.{ℕ, suc, _+_, _*_, _≤_}
 use native.Mathlib.Omega.{arith}
 use mathlib.Core.Path.{_≡_, refl, sym, ap, _∙_}
 use mathlib.Core.Bool.{Bool, true, false, not}
 use mathlib.Core.List.{List, [], _∷_}
 use mathlib.Core.Logic.{_↔_}
-use borrow.Author.Tests.{eq-eqb, ne-eqb, eqb-true, eqb-false, ltb-true, ltb-false, le-ltb, lt-ltb}
+use borrow.Author.Tests.{eq-eqb, eqb-true, ltb-false, le-ltb}
 use lib.Dec.{eqb, ltb}
 use lib.ListN.{length}
 use Rattle.lists.specs.Logic.{on, both}
@@ -26,11 +25,11 @@ use Rattle.cells.specs.Tables.{rowOf}
 use Rattle.passage.specs.Register.{grants}
 use Rattle.passage.proofs.RegisterLaws.{grants-desk}
 use Rattle.reader.proofs.BoundLaws.{rows-bounded}
-use Rattle.reader.specs.declared.Answer.{Answer}
-use Rattle.reader.specs.declared.Answer.the-variants.{TooLong, Syntax, Form, Field, Owner, Rows}
+use Rattle.reader.specs.declared.Answer.the-variants.{TooLong, Form, Field, Owner, Rows}
 use Rattle.reader.specs.Items.{Item, head, row, Place, outside, awaiting, under, after, seen, before, items}
-use Rattle.reader.specs.Rules as Rules
-use Rattle.reader.specs.Rules.{largest, formBad, isWrong, wrongAt, ownerBad, lineOf, given, firstLine, firstColumn, rowsUpTo, settled, answerTo, itemsOf, bySyntax, bySyntaxStaged, readingOf, stagedBy, laid}
+use Rattle.reader.specs.Rules.{largest, formBad, isWrong, wrongAt, ownerBad, lineOf, firstLine, rowsUpTo, settled, answerTo, itemsOf, bySyntax, bySyntaxStaged, readingOf, stagedBy, laid}
+
+-- What an answer says of the items. Assumes nothing.
 
 -- lines are numbered from 1
 seen-numbered : (m : Mark) (n : ℕ) (l : List ℕ) (p : Place) (xs : List Item) → 1 ≤ n → Each (λ (x : Item). 1 ≤ lineOf x) xs → Each (λ (x : Item). 1 ≤ lineOf x) (before (seen m n l p) xs)

@@ -1,24 +1,16 @@
--- How many rows a dossier can give: each row's line holds a stamp of 25 bytes, and ends in two. Assumes nothing.
-use Prim.Native.String.{String}
 use Prim.Native.Nat.{ℕ, zero, suc, _+_, _*_, _-_, _≤_, _<_}
 use native.Mathlib.Decide.{decLt}
 use native.Mathlib.Omega.{arith}
-use mathlib.Core.Path.{_≡_, refl, sym, ap, _∙_}
+use mathlib.Core.Path.{_≡_, refl, ap, _∙_}
 use mathlib.Core.Bool.{Bool, true, false, not}
 use mathlib.Core.List.{List, [], _∷_}
-use borrow.Author.Tests.{eqb-true, eqb-false, ltb-true}
-use lib.Dec.{eqb, ltb}
-use lib.ListN.{length, getD, drop, length-drop}
+use borrow.Author.Tests.{eqb-true}
+use lib.Dec.{eqb}
+use lib.ListN.{length, drop, length-drop}
 use Rattle.lists.specs.Logic.{on, both}
-use Rattle.lists.specs.Text.{same}
-use Rattle.lists.specs.Each.{Each}
 use Rattle.lists.proofs.LogicLaws.{both-true, both-false}
 use Rattle.fields.specs.declared.Number.{Number}
-use Rattle.fields.specs.declared.Number.the-variants as Numbers
-use Rattle.fields.specs.Digits.{given as numberGiven, andThen}
-use Rattle.fields.specs.Stamps.{stamp, stampShape, stampSeconds, offset}
-use Rattle.fields.specs.Dates.{date}
-use Rattle.fields.specs.Times.{clock}
+use Rattle.fields.specs.Stamps.{stamp, stampShape}
 use Rattle.turbo.specs.declared.Mark.{Mark}
 use Rattle.turbo.specs.declared.Mark.the-variants as Marks
 use Rattle.turbo.specs.Split.{until, past, tailAt, fields, fieldAt, lines, markOf, afterMark}
@@ -26,11 +18,17 @@ use Rattle.turbo.specs.Columns.{place}
 use Rattle.turbo.proofs.SplitLaws.{until-le, past-drop, field-tail, lines-cons, lines-none}
 use Rattle.cells.specs.declared.Table.{Table}
 use Rattle.cells.specs.declared.Table.the-variants.{Message}
-use Rattle.cells.specs.Cell.{cell, numberCell, some, null}
+use Rattle.cells.specs.Cell.{cell, numberCell, some}
 use Rattle.cells.specs.Cell as Cell
-use Rattle.cells.specs.Tables.{Column, must, nameOf, isOptional, cellAt, stopPlace, lesser, wrongIn, wrongColumn, rowOf, columnsIn, messageColumns}
+use Rattle.cells.specs.Layout.{columnAt}
+use Rattle.rows.proofs.RowLaws.{all-right}
+use Rattle.reader.proofs.RangeLaws.{must-cell}
+use Rattle.lists.specs.Text.{bytes}
+use Rattle.cells.specs.Tables.{stopPlace, wrongColumn, rowOf, columnsIn, messageColumns}
 use Rattle.reader.specs.Items.{Item, head, row, Place, outside, awaiting, under, after, seen, before, items}
-use Rattle.reader.specs.Rules.{formBad, isWrong, ownerBad, wrongAt, rowsUpTo, given, itemsOf, fine}
+use Rattle.reader.specs.Rules.{formBad, ownerBad, rowsUpTo, itemsOf, fine}
+
+-- How many rows a dossier can give: each row's line holds a stamp of 25 bytes, and ends in two. Assumes nothing.
 
 -- a line's bytes with its line end
 abbrev weights : List (List ℕ) → ℕ
@@ -81,48 +79,13 @@ stamp-long : (s f : List ℕ) → some (cell Cell.stamp s f) ≡ true → length
 unfolding cell stamp
 stamp-long s f e = eqb-true _ _ (both-true (eqb (length f) 25) _ (given-some (stampShape f) _ e) .0)
 
--- a column that must be there, and whose field is in its type, is there
-must-there : (n s : ℕ) (line : List ℕ) (name : String) (k p : ℕ) → some (cellAt n s line (must name k) p) ≡ true → some (cell k (fieldAt s line) (fieldAt p line)) ≡ true
-must-there n s line name k p = go (ltb p n)
-  where
-    go : (b : Bool) → some (on b (cell k (fieldAt s line) (fieldAt p line)) []) ≡ true → some (cell k (fieldAt s line) (fieldAt p line)) ≡ true
-    go true e = e
-    go false e = absurd (let z : _≡_ {A = ℕ} 0 1 = cc in omega arith)
-
-lesser-some : (a b : ℕ) → lesser (a + 1) b ≡ 0 → ⊥
-lesser-some a b = go (eqb b 0) (ltb (a + 1) b) refl
-  where
-    go : (x y : Bool) → eqb b 0 ≡ x → on x (a + 1) (on y (a + 1) b) ≡ 0 → ⊥
-    go true y e h = omega arith
-    go false true e h = omega arith
-    go false false e h = eqb-false b 0 e h
-
--- no wrong column: this one is right, and none of the rest is wrong
-wrong-cons : (c : Column) (cs : List Column) (ls : List (List ℕ)) (l : List ℕ) → wrongIn (c ∷ cs) ls l ≡ 0
-    → (some (cellAt (length ls) (stopPlace ls) l c (place (nameOf c) ls)) ≡ true) × (wrongIn cs ls l ≡ 0)
-wrong-cons c cs ls l = go (some (cellAt (length ls) (stopPlace ls) l c (place (nameOf c) ls)))
-  where
-    go : (b : Bool) → on b (wrongIn cs ls l) (lesser (place (nameOf c) ls + 1) (wrongIn cs ls l)) ≡ 0 → (b ≡ true) × (wrongIn cs ls l ≡ 0)
-    go true h = (refl, h)
-    go false h = absurd (lesser-some (place (nameOf c) ls) (wrongIn cs ls l) h)
-
--- no wrong column: the k-th is right
-wrong-at : (k : ℕ) (cs : List Column) (ls : List (List ℕ)) (l : List ℕ) (c : Column) → wrongIn cs ls l ≡ 0 → k < length cs
-    → some (cellAt (length ls) (stopPlace ls) l (getD cs k c) (place (nameOf (getD cs k c)) ls)) ≡ true
-wrong-at k [] ls l c e h = absurd (omega arith)
-wrong-at zero (x ∷ cs) ls l c e h = wrong-cons x cs ls l e .0
-wrong-at (suc k) (x ∷ cs) ls l c e h = wrong-at k cs ls l c (wrong-cons x cs ls l e .1) (omega arith)
-
 -- the ninth column of a message is its stamp
-stampColumn : Column
-stampColumn = must "LastUpdateTimeStamp" Cell.stamp
-
 row-long : (ls : List (List ℕ)) (l : List ℕ) → wrongColumn Message ls l ≡ 0 → 25 ≤ length l
-unfolding wrongColumn columnsIn messageColumns stampColumn
+unfolding columnsIn messageColumns columnAt
 row-long ls l e =
-    let j : some (cellAt (length ls) (stopPlace ls) l stampColumn (place (nameOf stampColumn) ls)) ≡ true = wrong-at 8 messageColumns ls l stampColumn e (omega arith) in
-    let p = place (nameOf stampColumn) ls in
-    omega (arith, field-shorter p l, stamp-long (fieldAt (stopPlace ls) l) (fieldAt p l) (must-there (length ls) (stopPlace ls) l "LastUpdateTimeStamp" Cell.stamp p j))
+    let p = place (bytes "LastUpdateTimeStamp") ls in
+    let m = must-cell (length ls) (stopPlace ls) l "LastUpdateTimeStamp" Cell.stamp p (all-right Message ls l e 8 (omega arith)) in
+    omega (arith, field-shorter p l, stamp-long (fieldAt (stopPlace ls) l) (fieldAt p l) (m .1))
 
 -- ---- the rows of a message
 

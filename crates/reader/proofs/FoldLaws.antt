@@ -1,5 +1,4 @@
--- The answer by lines: what a line changes in the state is what its item changes in the answer. Assumes nothing.
-use Prim.Native.Nat.{ℕ, zero, suc, _+_, _≤_, _<_}
+use Prim.Native.Nat.{ℕ, _+_}
 use native.Mathlib.Omega.{arith}
 use mathlib.Core.Path.{_≡_, refl, sym, ap, subst, _∙_}
 use mathlib.Core.Bool.{Bool, true, false, not}
@@ -16,15 +15,17 @@ use Rattle.turbo.specs.Split.{until, fields, markOf, afterMark}
 use Rattle.cells.specs.declared.Table.{Table}
 use Rattle.cells.specs.Tables.{tableName, rowOf, wrongColumn}
 use Rattle.rows.specs.declared.Shape.{Shape}
-use Rattle.rows.specs.declared.Read.{Read}
 use Rattle.rows.specs.Shape.{labelFault, shapeOf}
-use Rattle.rows.specs.Reading.{readBy, readGiven, widest}
+use Rattle.rows.specs.Reading.{readBy, readGiven}
+use Rattle.cells.specs.Layout.{room}
 use Rattle.reader.specs.declared.State.{State}
 use Rattle.reader.specs.declared.Answer.{Answer}
-use Rattle.reader.specs.declared.Answer.the-variants.{Form, Field, Owner, Rows}
-use Rattle.reader.specs.Items.{Item, head, row, Place, outside, awaiting, under, named, after, seen, before}
-use Rattle.reader.specs.Rules.{formBad, isWrong, wrongAt, maySend, ownerBad, fine, given, lineOf, firstLine, firstColumn, rowsUpTo, settled, orElse}
+use Rattle.reader.specs.declared.Answer.the-variants.{Form}
+use Rattle.reader.specs.Items.{Item, head, row, Place, outside, awaiting, under, after, seen, before}
+use Rattle.reader.specs.Rules.{formBad, isWrong, maySend, ownerBad, firstLine, firstColumn, rowsUpTo, settled}
 use Rattle.reader.specs.Step.{moved, misformed, labelled, mistyped, disowned, counted, rowStep, dataStep, labelStep, stepAt, stepBy}
+
+-- The answer by lines: what a line changes in the state is what its item changes in the answer. Assumes nothing.
 
 -- a where there is one, else b
 abbrev pub first : ℕ → ℕ → ℕ
@@ -118,7 +119,7 @@ module _ (t : Table) (register : List ℕ) (sender : ℕ) (s : State) (form : s 
       (ls : List (List ℕ)) (l : List ℕ) (xs : List Item)
       (there : s .place ≡ 2) (shape : s .shape ≡ shapeOf t ls) (right : labelFault t ls ≡ false)
       (reads : readBy t (shapeOf t ls) l ≡ readGiven (wrongColumn t ls l) (rowOf t ls l))
-      (sends : wrongColumn t ls l ≡ 0 → maySend t register sender (over 0 (rowOf t ls l) (replicate widest 0)) ≡ maySend t register sender (rowOf t ls l)) where
+      (sends : wrongColumn t ls l ≡ 0 → maySend t register sender (over 0 (rowOf t ls l) (replicate room 0)) ≡ maySend t register sender (rowOf t ls l)) where
     stays : (n : State) → n .place ≡ s .place → n .shape ≡ s .shape → Agrees t n (under ls)
     stays n p q = (p ∙ there, q ∙ shape, right)
 
@@ -223,7 +224,7 @@ abbrev pub Reads : Table → List ℕ → ℕ → List ℕ → Type 0
 Reads t register sender l =
     (ls : List (List ℕ)) → labelFault t ls ≡ false →
     (readBy t (shapeOf t ls) l ≡ readGiven (wrongColumn t ls l) (rowOf t ls l))
-    × (wrongColumn t ls l ≡ 0 → maySend t register sender (over 0 (rowOf t ls l) (replicate widest 0)) ≡ maySend t register sender (rowOf t ls l))
+    × (wrongColumn t ls l ≡ 0 → maySend t register sender (over 0 (rowOf t ls l) (replicate room 0)) ≡ maySend t register sender (rowOf t ls l))
 
 -- a line, whatever its mark
 module _ (t : Table) (register : List ℕ) (sender : ℕ) (s : State) (form : s .form ≡ 0) (from : s .line ≡ 0 → ⊥) (l : List ℕ) (reads : Reads t register sender l) (xs : List Item) where

@@ -1,9 +1,13 @@
 pub mod WidthLaws
 pub mod RowStepLaws
-pub mod ReadLaws
+pub mod StepLaws
 pub mod FoldLaws
 pub mod StageLaws
+pub mod ReadLaws
 pub mod LinesLaws
+pub mod LookLaws
+pub mod RangeLaws
 pub mod BoundLaws
 pub mod AnswerLaws
 pub mod Claims
+pub mod Determined

@@ -1,5 +1,4 @@
--- The loop over a dossier's lines: what holds at its start, after a line, and at each way out. Assumes nothing.
-use Prim.Native.Nat.{ℕ, zero, suc, _+_, _/_, _≤_, _<_}
+use Prim.Native.Nat.{ℕ, suc, _+_, _/_, _≤_, _<_}
 use native.Mathlib.Omega.{arith}
 use native.Mathlib.Numerals.{add-one}
 use mathlib.Core.Path.{_≡_, refl, sym, ap, subst, _∙_}
@@ -7,12 +6,12 @@ use mathlib.Core.Bool.{Bool, true, false}
 use mathlib.Core.List.{List, [], _∷_, _++_, append-assoc, append-nil}
 use borrow.Author.Tests.{eqb-true}
 use lib.Dec.{eqb}
-use lib.ListN.{length, take, drop}
+use lib.ListN.{length, drop}
 use lib.Seq.{take-nil}
 use Rattle.lists.specs.Logic.{on}
 use Rattle.lists.specs.Part.{over}
 use Rattle.lists.specs.Rows.{flat, Wide}
-use Rattle.lists.proofs.OverLaws.{over-nil}
+use Rattle.lists.proofs.OverLaws.{over-nil, length-over}
 use Rattle.turbo.specs.declared.Mark.{Mark}
 use Rattle.turbo.specs.declared.Mark.the-variants as Marks
 use Rattle.turbo.specs.Split.{until, past, fields, lines, markOf, afterMark}
@@ -20,7 +19,6 @@ use Rattle.turbo.proofs.SplitLaws.{lines-cons, lines-none, after-line-shorter}
 use Rattle.cells.specs.declared.Table.{Table}
 use Rattle.cells.specs.Tables.{rowWidth}
 use Rattle.reader.specs.declared.State.{State}
-use Rattle.reader.specs.declared.Answer.{Answer}
 use Rattle.reader.specs.declared.Answer.the-variants.{Form, Field, Owner, Rows}
 use Rattle.reader.specs.Items.{Item, Place, outside, after, seen, before, items}
 use Rattle.rows.specs.declared.Shape.{Shape}
@@ -32,6 +30,8 @@ use Rattle.reader.specs.Step.{moved, misformed, labelled, mistyped, diso
 use Rattle.reader.proofs.WidthLaws.{width-some}
 use Rattle.reader.proofs.FoldLaws.{first, clean, rowsFrom, settledFrom, Agrees, Goes, Reads, line-go}
 use Rattle.reader.proofs.StageLaws.{Stages, Fronts, line-stages, on-same}
+
+-- The loop over a dossier's lines: what holds at its start, after a line, and at each way out. Assumes nothing.
 
 -- after some lines of d: s is kept of them, rest is left, and st is the staging area
 pub record Reading (t : Table) (register : List ℕ) (sender : ℕ) (d st₀ : List ℕ) (s : State) (rest st : List ℕ) : Type 0 where
@@ -211,3 +211,7 @@ module _ (t : Table) (register : List ℕ) (sender : ℕ) (d st₀ : List ℕ) w
         settled-none t register sender s ∙ sym (now .answer ∙ ap (settledFrom t register sender s) e),
         now .area ∙ ap (λ (rs : List (List ℕ)). laid t rs st₀) (sym (now .rows ∙ ap (λ (xs : List Item). now .done ++ rowsFrom t register sender s xs) e ∙ ap (λ (rs : List (List ℕ)). now .done ++ rs) (on-same (clean s) []) ∙ append-nil (now .done))),
       )
+
+-- the staging area keeps its length
+pub reading-length : (t : Table) (register : List ℕ) (sender : ℕ) (d st₀ : List ℕ) (s : State) (rest st : List ℕ) → Reading t register sender d st₀ s rest st → length st ≡ length st₀
+reading-length t register sender d st₀ s rest st now = ap length (now .area) ∙ length-over 0 _ st₀

@@ -1,33 +1,54 @@
--- What the reader uses of the rows below: a shape reads a line as the rule says, and the row stands in front of what is read. Assumes nothing.
-use Prim.Native.Nat.{ℕ, _+_, _≤_, _<_}
+use Prim.Native.Nat.{ℕ, _+_, _≤_}
 use native.Mathlib.Omega.{arith}
 use mathlib.Core.Path.{_≡_, refl, sym, ap, _∙_}
 use mathlib.Core.List.{List}
-use lib.ListN.{length, take, drop, replicate, length-replicate}
+use lib.ListN.{length, take, replicate, length-replicate}
 use lib.Seq.{take-take}
 use Rattle.lists.specs.Part.{part, over}
 use Rattle.lists.proofs.ReadLaws.{part-written}
 use Rattle.cells.specs.declared.Table.{Table}
 use Rattle.cells.specs.declared.Table.the-variants.{Message, Planning, Calendar}
-use Rattle.cells.specs.Tables.{rowOf, rowWidth, wrongColumn}
-use Rattle.rows.specs.Reading.{widest}
+use Rattle.cells.specs.Tables.{rowOf, rowWidth}
+use Rattle.cells.specs.Layout.{room}
 use Rattle.passage.specs.Register.{grants}
+use Rattle.rows.specs.declared.Shape.{Shape}
+use Rattle.rows.specs.Reading.{IsShape}
+use Rattle.rows.proofs.RowLaws.{shape-reads, row-length}
+use Rattle.reader.specs.declared.State.{State}
+use Rattle.reader.specs.Items.{Place, outside, awaiting, under}
 use Rattle.reader.specs.Rules.{maySend}
 use Rattle.reader.proofs.WidthLaws.{width-most, width-owner}
+use Rattle.reader.proofs.FoldLaws.{Agrees, Reads, shape-fault}
+use Rattle.reader.proofs.StageLaws.{Fronts}
+
+-- What the reader uses of the rows below: a shape reads a line as the rule says, and the row stands in front of what is read. Assumes nothing.
 
 module _ (t : Table) (r : List ℕ) (w : length r ≡ rowWidth t) where
   -- the front of what is read is the row
-  pub row-front : take (rowWidth t) (over 0 r (replicate widest 0)) ≡ r
+  pub row-front : take (rowWidth t) (over 0 r (replicate room 0)) ≡ r
   unfolding part
   row-front =
-      let h : 0 + length r ≤ length (replicate {A = ℕ} widest 0) = omega (arith, length-replicate {A = ℕ} widest 0, width-most t) in
-      ap (λ (n : ℕ). take n (over 0 r (replicate widest 0))) (sym w) ∙ part-written 0 r (replicate widest 0) h
+      let h : 0 + length r ≤ length (replicate {A = ℕ} room 0) = omega (arith, length-replicate {A = ℕ} room 0, width-most t) in
+      ap (λ (n : ℕ). take n (over 0 r (replicate room 0))) (sym w) ∙ part-written 0 r (replicate room 0) h
 
-  owner-front : part 0 10 (over 0 r (replicate widest 0)) ≡ part 0 10 r
+  owner-front : part 0 10 (over 0 r (replicate room 0)) ≡ part 0 10 r
   unfolding part
-  owner-front = sym (take-take 10 (rowWidth t) (over 0 r (replicate widest 0)) (width-owner t)) ∙ ap (take 10) row-front
+  owner-front = sym (take-take 10 (rowWidth t) (over 0 r (replicate room 0)) (width-owner t)) ∙ ap (take 10) row-front
 
-pub sends-front : (t : Table) (register : List ℕ) (sender : ℕ) (r : List ℕ) → length r ≡ rowWidth t → maySend t register sender (over 0 r (replicate widest 0)) ≡ maySend t register sender r
+pub sends-front : (t : Table) (register : List ℕ) (sender : ℕ) (r : List ℕ) → length r ≡ rowWidth t → maySend t register sender (over 0 r (replicate room 0)) ≡ maySend t register sender r
 sends-front Message register sender r w = ap (grants register sender) (owner-front Message r w)
 sends-front Planning register sender r w = refl
 sends-front Calendar register sender r w = refl
+
+-- a line is read as the rule says, whatever its labels
+pub line-reads : (t : Table) (register : List ℕ) (sender : ℕ) (l : List ℕ) → Reads t register sender l
+line-reads t register sender l ls e = (shape-reads t ls l e, λ w. sends-front t register sender (rowOf t ls l) (row-length t ls l w))
+
+pub line-fronts : (t : Table) (l : List ℕ) → Fronts t l
+line-fronts t l ls e w = (row-length t ls l w, row-front t (rowOf t ls l) (row-length t ls l w))
+
+-- a state under labels holds their shape
+pub holds-shape : (t : Table) (s : State) (p : Place) → Agrees t s p → s .place ≡ 2 → IsShape t (s .shape)
+holds-shape t s outside a h = absurd (omega arith)
+holds-shape t s awaiting a h = absurd (omega arith)
+holds-shape t s (under ls) a h = record { labels = ls; shape = a .1; faultless = ap (λ (x : Shape). x .fault) (a .1) ∙ shape-fault t ls ∙ a .2 }

@@ -1,4 +1,3 @@
--- Which case of a row's step holds. Assumes nothing.
 use Prim.Native.Nat.{ℕ}
 use mathlib.Core.Path.{_≡_, refl}
 use mathlib.Core.Bool.{true, false}
@@ -9,6 +8,8 @@ use Rattle.rows.specs.declared.Read.{Read}
 use Rattle.reader.specs.declared.State.{State}
 use Rattle.reader.specs.Rules.{maySend}
 use Rattle.reader.specs.Step.{moved, mistyped, disowned, counted, rowStep, staged, rowStaged}
+
+-- Which case of a row's step holds. Assumes nothing.
 
 module _ (t : Table) (register : List ℕ) (sender : ℕ) (s : State) (r : Read) (st : List ℕ) where
   pub row-wrong : (r .wrong ≡ 0 → ⊥) → (mistyped s (r .wrong) ≡ rowStep t register sender s r) × (st ≡ rowStaged t register sender s r st)

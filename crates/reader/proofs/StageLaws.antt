@@ -1,11 +1,10 @@
--- The staging area by lines: what a line stages is what its item gives. Assumes nothing.
-use Prim.Native.Nat.{ℕ, zero, suc, _+_, _*_, _/_, _≤_, _<_}
+use Prim.Native.Nat.{ℕ, _+_, _*_, _/_, _≤_, _<_}
 use native.Mathlib.Omega.{arith}
-use native.Mathlib.Nat.{le-div-iff-mul-le, zero-add}
+use native.Mathlib.Nat.{le-div-iff-mul-le}
 use mathlib.Core.Path.{_≡_, refl, sym, ap, subst, _∙_}
 use mathlib.Core.Bool.{Bool, true, false, not}
 use mathlib.Core.List.{List, [], _∷_, _++_, append-nil}
-use borrow.Author.Tests.{eq-eqb, ne-eqb, eqb-true, eqb-false, leb-true, leb-false}
+use borrow.Author.Tests.{eq-eqb, ne-eqb, eqb-true, leb-true, leb-false}
 use lib.Dec.{eqb, leb}
 use lib.ListN.{length, take, replicate, length-append}
 use lib.Seq.{take-all, take-append-le}
@@ -26,12 +25,15 @@ use Rattle.cells.specs.Tables.{tableName, rowOf, rowWidth, wrongColumn}
 use Rattle.rows.specs.declared.Shape.{Shape}
 use Rattle.rows.specs.declared.Read.{Read}
 use Rattle.rows.specs.Shape.{labelFault, shapeOf}
-use Rattle.rows.specs.Reading.{readBy, readGiven, widest}
+use Rattle.rows.specs.Reading.{readBy, readGiven}
+use Rattle.cells.specs.Layout.{room}
 use Rattle.reader.specs.declared.State.{State}
-use Rattle.reader.specs.Items.{Item, head, row, Place, outside, awaiting, under, named, after, seen, before}
-use Rattle.reader.specs.Rules.{formBad, isWrong, wrongAt, maySend, ownerBad, fine, given, rowsUpTo, laid}
-use Rattle.reader.specs.Step.{moved, misformed, labelled, mistyped, disowned, counted, rowStep, dataStep, labelStep, stepAt, stepBy, staged, rowStaged, dataStaged, stagedAt, stageBy}
+use Rattle.reader.specs.Items.{Item, head, row, Place, outside, awaiting, under, after, seen, before}
+use Rattle.reader.specs.Rules.{maySend, rowsUpTo, laid}
+use Rattle.reader.specs.Step.{moved, misformed, labelled, mistyped, disowned, counted, dataStep, labelStep, stepAt, stepBy, staged, rowStaged, dataStaged, stagedAt, stageBy}
 use Rattle.reader.proofs.FoldLaws.{clean, rowsFrom, Agrees, Reads, shape-fault, shape-count, data-tested}
+
+-- The staging area by lines: what a line stages is what its item gives. Assumes nothing.
 
 -- one row more behind those that are laid
 module _ (t : Table) (wide : 0 < rowWidth t) (done : List (List ℕ)) (r st₀ : List ℕ) (all : Wide (rowWidth t) done) where
@@ -127,11 +129,11 @@ module _
   stage-labels ls xs false e = nothing (labelled s (shapeOf t ls)) (head (s .line) ls ∷ []) xs (λ h. absurd (h form)) (λ h. rw e) so-far
 
   module _ (ls : List (List ℕ)) (l : List ℕ) (xs : List Item)
-      (front : wrongColumn t ls l ≡ 0 → (length (rowOf t ls l) ≡ rowWidth t) × (take (rowWidth t) (over 0 (rowOf t ls l) (replicate widest 0)) ≡ rowOf t ls l)) where
+      (front : wrongColumn t ls l ≡ 0 → (length (rowOf t ls l) ≡ rowWidth t) × (take (rowWidth t) (over 0 (rowOf t ls l) (replicate room 0)) ≡ rowOf t ls l)) where
     -- the area after a data line, by the tests that are made of it
     abbrev laying : Bool → Bool → Bool → Bool → Bool → List ℕ
     laying b₁ b₂ b₃ b₄ b₅ =
-        on b₁ (on b₂ (on b₃ (on b₄ (on b₅ (staged t (s .rows) (over 0 (rowOf t ls l) (replicate widest 0)) (laid t done st₀)) (laid t done st₀)) (laid t done st₀)) (laid t done st₀)) (laid t done st₀)) (laid t done st₀)
+        on b₁ (on b₂ (on b₃ (on b₄ (on b₅ (staged t (s .rows) (over 0 (rowOf t ls l) (replicate room 0)) (laid t done st₀)) (laid t done st₀)) (laid t done st₀)) (laid t done st₀)) (laid t done st₀)) (laid t done st₀)
 
     abbrev leading : Bool → Bool → Bool → Bool → Bool → State
     leading b₁ b₂ b₃ b₄ b₅ =
@@ -140,7 +142,7 @@ module _
         (misformed s)
 
     stage-sent : eqb (length (fields l)) (length ls) ≡ true → s .wrong ≡ 0 → wrongColumn t ls l ≡ 0 → s .owner ≡ 0 → maySend t register sender (rowOf t ls l) ≡ true
-        → Stages t register sender s (counted s) (row (s .line) ls l ∷ []) xs done st₀ (staged t (s .rows) (over 0 (rowOf t ls l) (replicate widest 0)) (laid t done st₀))
+        → Stages t register sender s (counted s) (row (s .line) ls l ∷ []) xs done st₀ (staged t (s .rows) (over 0 (rowOf t ls l) (replicate room 0)) (laid t done st₀))
     unfolding rowsUpTo staged
     stage-sent p q r u v =
         let f = front r in
@@ -175,14 +177,14 @@ module _
     module _
         (shape : s .shape ≡ shapeOf t ls) (right : labelFault t ls ≡ false)
         (reads : readBy t (shapeOf t ls) l ≡ readGiven (wrongColumn t ls l) (rowOf t ls l))
-        (sends : wrongColumn t ls l ≡ 0 → maySend t register sender (over 0 (rowOf t ls l) (replicate widest 0)) ≡ maySend t register sender (rowOf t ls l)) where
+        (sends : wrongColumn t ls l ≡ 0 → maySend t register sender (over 0 (rowOf t ls l) (replicate room 0)) ≡ maySend t register sender (rowOf t ls l)) where
       abbrev area : List ℕ
       area = laid t done st₀
 
       row-laying : (b : Bool) → eqb (wrongColumn t ls l) 0 ≡ b → rowStaged t register sender s (readGiven (wrongColumn t ls l) (rowOf t ls l)) area
-          ≡ on b (on (eqb (s .owner) 0) (on (maySend t register sender (rowOf t ls l)) (staged t (s .rows) (over 0 (rowOf t ls l) (replicate widest 0)) area) area) area) area
+          ≡ on b (on (eqb (s .owner) 0) (on (maySend t register sender (rowOf t ls l)) (staged t (s .rows) (over 0 (rowOf t ls l) (replicate room 0)) area) area) area) area
       unfolding rowStaged
-      row-laying true e = rw e (ap (λ (b : Bool). on (eqb (s .owner) 0) (on b (staged t (s .rows) (over 0 (rowOf t ls l) (replicate widest 0)) area) area) area) (sends (eqb-true _ _ e)))
+      row-laying true e = rw e (ap (λ (b : Bool). on (eqb (s .owner) 0) (on b (staged t (s .rows) (over 0 (rowOf t ls l) (replicate room 0)) area) area) area) (sends (eqb-true _ _ e)))
       row-laying false e = simp e
 
       data-laying : dataStaged t register sender s l area
@@ -204,7 +206,7 @@ module _
 abbrev pub Fronts : Table → List ℕ → Type 0
 Fronts t l =
     (ls : List (List ℕ)) → labelFault t ls ≡ false → wrongColumn t ls l ≡ 0 →
-    (length (rowOf t ls l) ≡ rowWidth t) × (take (rowWidth t) (over 0 (rowOf t ls l) (replicate widest 0)) ≡ rowOf t ls l)
+    (length (rowOf t ls l) ≡ rowWidth t) × (take (rowWidth t) (over 0 (rowOf t ls l) (replicate room 0)) ≡ rowOf t ls l)
 
 -- a line, whatever its mark
 module _

@@ -1,9 +1,8 @@
--- How wide a row is, and where it goes. Assumes nothing.
-use Prim.Native.Nat.{ℕ, suc, _+_, _*_, _≤_, _<_}
+use Prim.Native.Nat.{ℕ, _+_, _*_, _≤_, _<_}
 use native.Mathlib.Omega.{arith}
-use native.Mathlib.Nat.{mul-le-mul-right, mul-le-mul-left, suc-mul, le-trans}
+use native.Mathlib.Nat.{mul-le-mul-right, mul-le-mul-left, suc-mul}
 use native.Mathlib.Numerals.{add-one}
-use mathlib.Core.Path.{_≡_, refl, sym, ap, _∙_}
+use mathlib.Core.Path.{_≡_, sym, ap, _∙_}
 use mathlib.Core.Bool.{true, false}
 use mathlib.Core.List.{List}
 use lib.Dec.{leb}
@@ -15,6 +14,8 @@ use Rattle.cells.specs.declared.Table.the-variants.{Message, Planning, Calendar
 use Rattle.cells.specs.Cell.{width}
 use Rattle.cells.specs.Tables.{messageColumns, planningColumns, calendarColumns, columnsIn, rowWidth}
 use Rattle.reader.specs.Step.{staged}
+
+-- How wide a row is, and where it goes. Assumes nothing.
 
 pub width-some : (t : Table) → 0 < rowWidth t
 unfolding rowWidth columnsIn messageColumns planningColumns calendarColumns width

@@ -11,6 +11,7 @@ use Rattle.cells.specs.declared.Table.{Table}
 use Rattle.cells.specs.declared.Table.the-variants.{Message}
 use Rattle.reader.specs.declared.Answer.{Answer}
 use Rattle.reader.specs.declared.Answer.the-variants.{TooLong, Syntax, Form, Field, Owner, Rows}
+use Rattle.passage.specs.Ranges.{updateInRange}
 use Rattle.reader.specs.Items.{Item}
 use Rattle.reader.specs.Rules.{largest, formBad, wrongAt, ownerBad, rowsUpTo, itemsOf, readingOf, stagedBy}
 
@@ -47,9 +48,13 @@ DeskSendsNothing = (register d : List ℕ) (n : ℕ) → readingOf Message regis
 abbrev pub RowsBounded : Type 0
 RowsBounded = (register : List ℕ) (sender : ℕ) (d : List ℕ) (n : ℕ) → readingOf Message register sender d ≡ Rows n → (n * 27 ≤ length d + 2) × (n ≤ 2427)
 
+-- every row of a message that is staged is an update in range
+abbrev pub StagedInRange : Type 0
+StagedInRange = (register : List ℕ) (sender : ℕ) (d : List ℕ) → Each (λ (r : List ℕ). updateInRange r ≡ true) (rowsUpTo Message register sender (itemsOf Message d))
+
 -- the staging area keeps its length
 abbrev pub AreaKeepsLength : Type 0
 AreaKeepsLength = (t : Table) (register : List ℕ) (sender : ℕ) (d staging : List ℕ) → length (stagedBy t register sender d staging) ≡ length staging
 
 abbrev pub All : Type 0
-All = AcceptedExactly × RowsCounted × DeskSendsNothing × RowsBounded × AreaKeepsLength
+All = AcceptedExactly × RowsCounted × DeskSendsNothing × RowsBounded × StagedInRange × AreaKeepsLength

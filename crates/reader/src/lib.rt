@@ -161,7 +161,14 @@ fn row_step(t: Table, s: State, r: Read, register: &[u8], sender: u8, staging: &
 }
 
 // A data line: its count of fields first, and no more once a field was wrong.
-fn data_step(t: Table, s: State, line: &[u8], register: &[u8], sender: u8, staging: &mut [u8]) -> State
+fn data_step(
+    t: Table,
+    s: State,
+    line: &[u8],
+    register: &[u8],
+    sender: u8,
+    staging: &mut [u8],
+) -> State
     requires { ⌜ (s .line < 4294967296) × (s .rows < 4294967296) × IsShape t (s .shape) ⌝ }
     ensures state { λ n. ⌜ n ≡ dataStep t (now (register .entry)) sender s (now (line .entry)) ⌝ }
     ensures area { λ _. ⌜ now (staging .exit) ≡ dataStaged t (now (register .entry)) sender s (now (line .entry)) (now (staging .entry)) ⌝ }
@@ -198,7 +205,14 @@ fn is_named(t: Table, name: &[u8]) -> bool
 }
 
 // One line: what it changes in the state and in the staging area. It needs nothing of the lines before but the state.
-fn line_step(t: Table, s: State, line: &[u8], register: &[u8], sender: u8, staging: &mut [u8]) -> State
+fn line_step(
+    t: Table,
+    s: State,
+    line: &[u8],
+    register: &[u8],
+    sender: u8,
+    staging: &mut [u8],
+) -> State
     requires { ⌜ (s .line < 4294967296) × (s .rows < 4294967296) × (s .place ≡ 2 → IsShape t (s .shape)) ⌝ }
     ensures state { λ n. ⌜ n ≡ stepBy t (now (register .entry)) sender s (now (line .entry)) ⌝ }
     ensures area { λ _. ⌜ now (staging .exit) ≡ stageBy t (now (register .entry)) sender s (now (line .entry)) (now (staging .entry)) ⌝ }

@@ -1,3 +1,15 @@
 pub mod NextLaws
 pub mod OrderLaws
+pub mod AheadLaws
 pub mod ShapeLaws
+pub mod SoundLaws
+pub mod TailLaws
+pub mod ColumnLaws
+pub mod FillLaws
+pub mod ReachLaws
+pub mod FieldLaws
+pub mod GoingLaws
+pub mod RowLaws
+pub mod LabelLaws
+pub mod Claims
+pub mod Determined

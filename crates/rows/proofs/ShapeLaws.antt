@@ -13,14 +13,9 @@ use Rattle.turbo.specs.Columns.{anyTwice, placesFrom, columnsOf, most}
 use Rattle.cells.specs.declared.Table.{Table}
 use Rattle.cells.specs.declared.Table.the-variants.{Message, Planning, Calendar}
 use Rattle.cells.specs.Tables.{messageColumns, planningColumns, calendarColumns, columnsIn, names, misses, stopPlace}
+use Rattle.cells.specs.Layout.{wanted}
 use Rattle.rows.specs.declared.Shape.{Shape}
-use Rattle.rows.specs.Shape.{placesOf, wanted, mustCount, lacking, labelFault, visits, order, noShape, shapeOf}
-
-pub wanted-most : (t : Table) → wanted t ≤ most
-unfolding columnsIn messageColumns planningColumns calendarColumns
-wanted-most Message = omega arith
-wanted-most Planning = omega arith
-wanted-most Calendar = omega arith
+use Rattle.rows.specs.Shape.{placesOf, mustCount, lacking, labelFault, visits, order, noShape, shapeOf}
 
 pub must-most : (t : Table) → mustCount t ≤ most
 unfolding mustCount
@@ -43,7 +38,7 @@ module _ (t : Table) (labels : List (List ℕ)) where
   search-cases true e = (rw e, λ q. absurd (let z : _≡_ {A = ℕ} 0 1 = cc in omega arith))
   search-cases false e = (rw e, λ q. rw e)
 
-  found-twice : columnsOf (names t) labels .twice ≡ anyTwice (names t) labels
+  pub found-twice : columnsOf (names t) labels .twice ≡ anyTwice (names t) labels
   found-twice = search-cases (anyTwice (names t) labels) refl .0
 
   pub found-places : columnsOf (names t) labels .twice ≡ false → columnsOf (names t) labels .places ≡ placesOf t labels

@@ -1,2 +1,4 @@
 pub mod Shape
 pub mod Reading
+pub mod Claims
+pub mod Cases

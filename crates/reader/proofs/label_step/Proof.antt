@@ -1,21 +1,12 @@
 use Rattle.lists.specs.Logic.{on}
-use Prim.Native.Nat.{ℕ, suc, _+_, _*_, _-_, _≤_, _<_}
-use native.Mathlib.Omega.{arith}
-use mathlib.Core.Path.{_≡_, refl, sym, ap, _∙_}
-use mathlib.Core.List.{List, [], _∷_, _++_}
-use lib.ListN.{length, take, drop, getD, set, length-set, length-drop}
-use mathlib.Core.Bool.{Bool, true, false}
-use mathlib.Core.Logic.{_⊎_, ⊎-elim}
-use borrow.Author.Tests.{eq-eqb, ne-eqb, lt-ltb, le-ltb, le-leb, lt-leb}
+use Prim.Native.Nat.{_-_}
+use mathlib.Core.Path.{sym, ap, _∙_}
+use mathlib.Core.Bool.{Bool}
 use borrow.Author.Needs.{needs}
 use Rattle.reader.specs.declared.State.{State}
 use Rattle.reader.specs.Step.{labelStep, misformed, labelled}
 use Rattle.reader.proofs.label_step.Statement.{statement}
 use Rattle.reader.proofs.label_step.Tie as tie
-use Rattle.reader.proofs.label_step.Reads as reads
-use Rattle.reader.proofs.label_step.Lts as lts
-use Rattle.reader.proofs.form_fault.Reads as form-fault-reads
-use Rattle.reader.proofs.under_labels.Reads as under-labels-reads
 
 form-fault-requires : tie.Need-form-fault-requires
 form-fault-requires c κs = search needs

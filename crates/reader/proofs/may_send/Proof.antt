@@ -1,18 +1,8 @@
-use Prim.Native.Nat.{ℕ, suc, _+_, _*_, _-_, _≤_, _<_}
-use native.Mathlib.Omega.{arith}
-use mathlib.Core.Path.{_≡_, refl, sym, ap, _∙_}
-use mathlib.Core.List.{List, [], _∷_, _++_}
-use lib.ListN.{length, take, drop, getD, set, length-set, length-drop}
-use mathlib.Core.Bool.{Bool, true, false}
-use mathlib.Core.Logic.{_⊎_, ⊎-elim}
-use borrow.Author.Tests.{eq-eqb, ne-eqb, lt-ltb, le-ltb, le-leb, lt-leb}
+use Prim.Native.Nat.{_-_}
+use mathlib.Core.Path.{_∙_}
 use borrow.Author.Needs.{needs}
-use Rattle.reader.specs.Rules.{maySend}
 use Rattle.reader.proofs.may_send.Statement.{statement}
 use Rattle.reader.proofs.may_send.Tie as tie
-use Rattle.reader.proofs.may_send.Reads as reads
-use Rattle.reader.proofs.may_send.Lts as lts
-use Rattle.passage.proofs.registered.Reads as registered-reads
 
 enum-told : tie.Need-enum-told
 enum-told c = search needs

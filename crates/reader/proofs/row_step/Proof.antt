@@ -1,23 +1,11 @@
-use lib.ListN.{length, take, drop, getD, set, length-set, length-drop}
-use Prim.Native.Nat.{ℕ, suc, _+_, _*_, _-_, _≤_, _<_}
+use lib.ListN.{length}
+use Prim.Native.Nat.{_-_}
 use native.Mathlib.Omega.{arith}
-use mathlib.Core.Path.{_≡_, refl, sym, ap, _∙_}
-use mathlib.Core.List.{List, [], _∷_, _++_}
-use mathlib.Core.Bool.{Bool, true, false}
-use mathlib.Core.Logic.{_⊎_, ⊎-elim}
-use borrow.Author.Tests.{eq-eqb, ne-eqb, lt-ltb, le-ltb, le-leb, lt-leb}
+use mathlib.Core.Path.{_≡_, sym, _∙_}
 use borrow.Author.Needs.{needs}
 use Rattle.reader.proofs.RowStepLaws.{row-wrong, row-before, row-sent, row-refused}
 use Rattle.reader.proofs.row_step.Statement.{statement}
 use Rattle.reader.proofs.row_step.Tie as tie
-use Rattle.reader.proofs.row_step.Reads as reads
-use Rattle.reader.proofs.row_step.Lts as lts
-use Rattle.reader.proofs.may_send.Reads as may-send-reads
-use Rattle.reader.proofs.moved_to.Reads as moved-to-reads
-use Rattle.reader.proofs.one_more.Reads as one-more-reads
-use Rattle.reader.proofs.stage.Reads as stage-reads
-use Rattle.reader.proofs.wrong_field.Reads as wrong-field-reads
-use Rattle.reader.proofs.wrong_owner.Reads as wrong-owner-reads
 
 wrong-field-requires : tie.Need-wrong-field-requires
 wrong-field-requires c κs = search needs

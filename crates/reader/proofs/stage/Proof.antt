@@ -1,20 +1,11 @@
-use Prim.Native.Nat.{ℕ, suc, _+_, _*_, _-_, _≤_, _<_}
+use Prim.Native.Nat.{_-_}
 use native.Mathlib.Omega.{arith}
-use mathlib.Core.Path.{_≡_, refl, sym, ap, _∙_}
-use mathlib.Core.List.{List, [], _∷_, _++_}
-use lib.ListN.{length, take, drop, getD, set, length-set, length-drop}
-use mathlib.Core.Bool.{Bool, true, false}
-use mathlib.Core.Logic.{_⊎_, ⊎-elim}
-use borrow.Author.Tests.{eq-eqb, ne-eqb, lt-ltb, le-ltb, le-leb, lt-leb}
+use mathlib.Core.Path.{sym, _∙_}
 use borrow.Author.Needs.{needs}
 use lib.Seq.{length-take-le}
 use Rattle.reader.proofs.WidthLaws.{width-most, place-fits, stage-fits, stage-full}
 use Rattle.reader.proofs.stage.Statement.{statement}
 use Rattle.reader.proofs.stage.Tie as tie
-use Rattle.reader.proofs.stage.Reads as reads
-use Rattle.reader.proofs.stage.Lts as lts
-use Rattle.cells.proofs.row_width.Reads as row-width-reads
-use Rattle.lists.proofs.copy_to.Reads as copy-to-reads
 
 row-width-requires : tie.Need-row-width-requires
 row-width-requires c κs = search needs

@@ -1,0 +1,54 @@
+use Prim.Native.Nat.{ℕ}
+use mathlib.Core.Path.{_≡_, refl}
+use mathlib.Core.List.{List}
+use borrow.Author.Tests.{eq-eqb, ne-eqb}
+use lib.ListN.{length}
+use Rattle.turbo.specs.declared.Mark.the-variants.{Group, Table, Labels, Data}
+use Rattle.turbo.specs.Split.{until, fields, markOf, afterMark}
+use Rattle.cells.specs.declared.Table as Tables
+use Rattle.rows.specs.Shape.{shapeOf}
+use Rattle.rows.specs.Reading.{readBy}
+use Rattle.reader.specs.declared.State.{State}
+use Rattle.reader.specs.Step.{moved, misformed, rowStep, dataStep, labelStep, placeNamed, stepBy, rowStaged, dataStaged, stageBy}
+
+-- Which case of a line's step holds. Assumes nothing.
+
+module _ (t : Tables.Table) (register : List ℕ) (sender : ℕ) (s : State) (l st : List ℕ) where
+  -- ---- a data line
+  pub data-many : (length (fields l) ≡ s .shape .count → ⊥) → (misformed s ≡ dataStep t register sender s l) × (st ≡ dataStaged t register sender s l st)
+  unfolding dataStep dataStaged
+  data-many h = rw (ne-eqb _ _ h) (refl, refl)
+
+  module _ (count : length (fields l) ≡ s .shape .count) where
+    pub data-known : (s .wrong ≡ 0 → ⊥) → (moved s (s .place) ≡ dataStep t register sender s l) × (st ≡ dataStaged t register sender s l st)
+    unfolding dataStep dataStaged
+    data-known h = rw (eq-eqb _ _ count, ne-eqb (s .wrong) 0 h) (refl, refl)
+
+    pub data-read : s .wrong ≡ 0 → (rowStep t register sender s (readBy t (s .shape) l) ≡ dataStep t register sender s l) × (rowStaged t register sender s (readBy t (s .shape) l) st ≡ dataStaged t register sender s l st)
+    unfolding dataStep dataStaged
+    data-read h = rw (eq-eqb _ _ count, eq-eqb (s .wrong) 0 h) (refl, refl)
+
+  -- ---- a line of each mark
+  pub line-group : markOf l ≡ Group → (moved s 0 ≡ stepBy t register sender s l) × (st ≡ stageBy t register sender s l st)
+  unfolding stepBy stageBy
+  line-group m = rw m (refl, refl)
+
+  pub line-table : markOf l ≡ Table → (moved s (placeNamed t (until 124 (afterMark l))) ≡ stepBy t register sender s l) × (st ≡ stageBy t register sender s l st)
+  unfolding stepBy stageBy
+  line-table m = rw m (refl, refl)
+
+  pub line-labels : markOf l ≡ Labels → s .place ≡ 1 → (labelStep s (shapeOf t (fields (afterMark l))) ≡ stepBy t register sender s l) × (st ≡ stageBy t register sender s l st)
+  unfolding stepBy stageBy
+  line-labels m h = rw (m, eq-eqb (s .place) 1 h) (refl, refl)
+
+  pub line-labels-skipped : markOf l ≡ Labels → (s .place ≡ 1 → ⊥) → (moved s 0 ≡ stepBy t register sender s l) × (st ≡ stageBy t register sender s l st)
+  unfolding stepBy stageBy
+  line-labels-skipped m h = rw (m, ne-eqb (s .place) 1 h) (refl, refl)
+
+  pub line-data : markOf l ≡ Data → s .place ≡ 2 → (dataStep t register sender s l ≡ stepBy t register sender s l) × (dataStaged t register sender s l st ≡ stageBy t register sender s l st)
+  unfolding stepBy stageBy
+  line-data m h = rw (m, eq-eqb (s .place) 2 h) (refl, refl)
+
+  pub line-data-skipped : markOf l ≡ Data → (s .place ≡ 2 → ⊥) → (moved s (s .place) ≡ stepBy t register sender s l) × (st ≡ stageBy t register sender s l st)
+  unfolding stepBy stageBy
+  line-data-skipped m h = rw (m, ne-eqb (s .place) 2 h) (refl, refl)

@@ -1,0 +1,87 @@
+-- Small label lines and data lines, by computation. Assumes nothing.
+use Prim.Native.Nat.{ℕ}
+use mathlib.Core.Path.{_≡_, refl}
+use mathlib.Core.Bool.{true, false}
+use mathlib.Core.List.{List, [], _∷_, _++_}
+use lib.ListN.{take, drop, replicate}
+use Rattle.lists.specs.Text.{bytes, same}
+use Rattle.lists.specs.Part.{onto, over}
+use Rattle.lists.specs.Rows.{flat}
+use Rattle.lists.specs.BigEndian.{spelled}
+use Rattle.clock.specs.Date.{daysIn, isDate}
+use Rattle.clock.specs.Moment.{monthStart, dayCount}
+use Rattle.turbo.specs.Escape.{escaped, decode}
+use Rattle.turbo.specs.Split.{fields, fieldAt}
+use Rattle.turbo.specs.Columns.{count, place, anyTwice, placesFrom}
+use Rattle.fields.specs.Digits.{number, triple}
+use Rattle.fields.specs.Times.{clock, time}
+use Rattle.fields.specs.Dates.{date}
+use Rattle.fields.specs.Stamps.{offset, stampSeconds, stamp}
+use Rattle.fields.specs.Names.{bit, status, stopType, flexible}
+use Rattle.fields.specs.Texts.{text}
+use Rattle.cells.specs.declared.Table.the-variants.{Message, Calendar}
+use Rattle.cells.specs.Cell.{cell}
+use Rattle.cells.specs.Tables.{messageColumns, calendarColumns, columnsIn, names, misses, rowOf, wrongColumn}
+use Rattle.rows.specs.Shape.{nextFrom, visits, labelFault, shapeOf}
+use Rattle.rows.specs.Reading.{perColumn, firstWrong, readBy}
+
+-- ---- labels
+
+-- a calendar's columns out of order, among others: the level is first, the date third, the owner fifth
+unfoldable pub labels : List (List ℕ)
+labels = bytes "LocalServiceLevelCode" ∷ bytes "X" ∷ bytes "OperationDate" ∷ bytes "Y" ∷ bytes "DataOwnerCode" ∷ []
+
+pub calendar-shape :
+    (shapeOf Calendar labels .fault ≡ false)
+    × (shapeOf Calendar labels .count ≡ 5)
+    × (take 3 (shapeOf Calendar labels .places) ≡ 4 ∷ 0 ∷ 2 ∷ [])
+    × (take 3 (shapeOf Calendar labels .order) ≡ 1 ∷ 2 ∷ 0 ∷ [])
+unfolding labels shapeOf labelFault anyTwice count placesFrom place names columnsIn calendarColumns misses same visits nextFrom over onto
+calendar-shape = (refl, refl, refl, refl)
+
+-- a missing column, and a wanted name that stands twice; an unwanted one may
+pub label-faults :
+    (labelFault Calendar (drop 1 labels) ≡ true)
+    × (labelFault Calendar (bytes "OperationDate" ∷ labels) ≡ true)
+    × (labelFault Calendar (bytes "X" ∷ labels) ≡ false)
+unfolding labels labelFault anyTwice count place names columnsIn calendarColumns misses same
+label-faults = (refl, refl, refl)
+
+-- ---- rows
+
+-- a message's stop type in front, an unwanted column, and two optional columns missing
+unfoldable pub messageLabels : List (List ℕ)
+messageLabels =
+    bytes "JourneyStopType" ∷ bytes "X" ∷ bytes "DataOwnerCode" ∷ bytes "OperationDate" ∷ bytes "LinePlanningNumber" ∷ bytes "VehicleJourneyNumber"
+    ∷ bytes "FortifyOrderNumber" ∷ bytes "UserStopCode" ∷ bytes "UserStopOrderNumber" ∷ bytes "DestinationCode" ∷ bytes "LastUpdateTimeStamp"
+    ∷ bytes "TripStopStatus" ∷ bytes "ExpectedArrivalTime" ∷ bytes "ExpectedDepartureTime" ∷ bytes "Monitored" ∷ []
+
+-- its arrival is missing, as it may be at FIRST, and Monitored has no content
+unfoldable pub message : List ℕ
+message = bytes "FIRST|?|GVB|2017-01-01|M5|7|0|057|3|D1|2016-03-01T15:15:30+01:00|DRIVING|\\0|25:20:00|\\0"
+
+unfoldable pub messageRow : List ℕ
+messageRow =
+    bytes "GVB" ++ replicate 7 0
+    ++ spelled 4 20170101
+    ++ bytes "M5" ++ replicate 8 0
+    ++ 0 ∷ 0 ∷ 0 ∷ 7 ∷ 0
+    ∷ bytes "057" ++ replicate 7 0
+    ++ 0 ∷ 3
+    ∷ bytes "D1" ++ replicate 8 0
+    ++ spelled 4 1456841730
+    ++ 3 ∷ 255 ∷ 255 ∷ 255
+    ∷ spelled 3 91200
+    ++ 0 ∷ 255 ∷ 255 ∷ 255 ∷ []
+
+pub message-row : (wrongColumn Message messageLabels message ≡ 0) × (rowOf Message messageLabels message ≡ messageRow)
+unfolding messageLabels message messageRow wrongColumn rowOf flat columnsIn messageColumns place same fieldAt fields cell spelled text decode escaped date isDate daysIn triple number stamp stampSeconds monthStart dayCount offset clock time status stopType bit flexible
+message-row = (refl, refl)
+
+-- the date in column 3 and the owner in column 5 are both outside their types: the first in the line's order is told, though the owner is the table's first column
+pub calendar-wrong :
+    (readBy Calendar (shapeOf Calendar labels) (bytes "L|?|2017-13-01|?|") .wrong ≡ 3)
+    × (readBy Calendar (shapeOf Calendar labels) (bytes "L|?|2017-12-01|?|") .wrong ≡ 5)
+    × (readBy Calendar (shapeOf Calendar labels) (bytes "L|?|2017-12-01|?|O") .wrong ≡ 0)
+unfolding readBy perColumn firstWrong labels shapeOf labelFault anyTwice count placesFrom place names columnsIn calendarColumns misses same fieldAt fields cell spelled text decode escaped date isDate daysIn triple number
+calendar-wrong = (refl, refl, refl)
