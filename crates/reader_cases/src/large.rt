@@ -25,14 +25,9 @@ fn fill(d: &mut [u8], from: usize, rows: usize) {
 }
 
 // The answer, and the last row that is staged.
-fn ask(what: &[u8], d: &[u8], size: usize) {
-    if 41778 < size {
-        return;
-    }
-    let mut area = [238u8; 41778];
-    say::words(what);
-    say::answer(reader::read_message(d, b"\x01CXX\0\0\0\0\0\0\0", 1, &mut area[0..size]));
-    let n = run::written(&area);
+fn told(d: &[u8], area: &mut [u8]) {
+    say::answer(reader::read_message(d, b"\x01CXX\0\0\0\0\0\0\0", 1, area));
+    let n = run::written(area);
     say::count(b", staged ", n);
     if 65 < n {
         let a = n - 66;
@@ -41,27 +36,55 @@ fn ask(what: &[u8], d: &[u8], size: usize) {
     say::words(b"\n");
 }
 
-// A group line of 88 bytes, header lines of 249, and 633 rows of 103.
+// The first n bytes are asked, once b stands at `at`.
+fn ask(d: &mut [u8], at: usize, b: &[u8], n: usize, size: usize, what: &[u8]) {
+    spell::put(d, at, b);
+    if d.len() < n {
+        return;
+    }
+    if 41778 < size {
+        return;
+    }
+    let mut area = [238u8; 41778];
+    say::words(what);
+    told(&d[0..n], &mut area[0..size]);
+}
+
+// A group line of 88 bytes, header lines of 249, and 633 rows of 103. Each change stays.
 pub fn sizes() {
     let mut d = [b'a'; 65537];
-    lists::copy_to(&mut d, 0, b"\\G");
     let n = spell::out(&mut d, 86, b"/#\\L@AM/");
     fill(&mut d, n, 633);
     say::words(b"== sizes: full of rows\n");
-    ask(b"65,536 bytes", &d[0..65536], 41778);
-    ask(b"room for a row less", &d[0..65536], 41777);
-    ask(b"a byte more", &d, 41778);
-    ask(b"a byte less", &d[0..65535], 41778);
-    d[65533] = b'X';
-    ask(b"the last field is wrong", &d[0..65536], 41778);
-    d[337] = b'R';
-    ask(b"the first owner is wrong too", &d[0..65536], 41778);
-    d[65521] = b'x';
-    ask(b"the last line is a field short too", &d[0..65536], 41778);
-    d[65534] = b'a';
-    d[65535] = b'a';
-    ask(b"no line end too", &d[0..65536], 41778);
-    d[0] = b'x';
-    ask(b"no group line too", &d[0..65536], 41778);
-    ask(b"a byte more", &d, 41778);
+    ask(&mut d, 0, b"\\G", 65536, 41778, b"65,536 bytes");
+    ask(&mut d, 0, b"", 65536, 41777, b"room for a row less");
+    ask(&mut d, 0, b"", 65537, 41778, b"a byte more");
+    ask(&mut d, 0, b"", 65535, 41778, b"a byte less");
+    ask(
+        &mut d,
+        65533,
+        b"X",
+        65536,
+        41778,
+        b"the last field is wrong",
+    );
+    ask(
+        &mut d,
+        337,
+        b"R",
+        65536,
+        41778,
+        b"the first owner is wrong too",
+    );
+    ask(
+        &mut d,
+        65521,
+        b"x",
+        65536,
+        41778,
+        b"the last line is a field short too",
+    );
+    ask(&mut d, 65534, b"aa", 65536, 41778, b"no line end too");
+    ask(&mut d, 0, b"x", 65536, 41778, b"no group line too");
+    ask(&mut d, 0, b"x", 65537, 41778, b"a byte more");
 }

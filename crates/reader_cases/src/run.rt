@@ -96,6 +96,21 @@ fn left(r: u8, area: &[u8]) {
     }
 }
 
+fn spelled(r: u8, d: &mut [u8], v: &[u8]) -> usize {
+    if r == b'f' {
+        if v.len() < 1 {
+            return 0;
+        }
+        return spell::with_field(d, v[0], &v[1..]);
+    }
+    spell::out(d, 0, v)
+}
+
+fn told(r: u8, who: &[u8], d: &[u8], area: &mut [u8]) {
+    say::answer(asked(r, who, d, area));
+    left(r, area);
+}
+
 fn ask(r: u8, who: &[u8], size: usize, v: &[u8]) {
     let mut d = [0u8; 4096];
     let n = spelled(r, &mut d, v);
@@ -106,15 +121,7 @@ fn ask(r: u8, who: &[u8], size: usize, v: &[u8]) {
         return;
     }
     let mut area = [238u8; 660];
-    say::answer(asked(r, who, &d[0..n], &mut area[0..size]));
-    left(r, &area);
-}
-
-fn spelled(r: u8, d: &mut [u8], v: &[u8]) -> usize {
-    if r == b'f' {
-        return spell::with_field(d, v);
-    }
-    spell::out(d, 0, v)
+    told(r, who, &d[0..n], &mut area[0..size]);
 }
 
 fn number(s: &[u8]) -> usize {

@@ -116,20 +116,17 @@ pub fn out(d: &mut [u8], from: usize, v: &[u8]) -> usize {
     n
 }
 
-// A message of one row, in which one field is another: the column's letter, and the field. The first and the last column are unwanted.
-pub fn with_field(d: &mut [u8], v: &[u8]) -> usize {
-    if v.len() < 1 {
-        return 0;
-    }
-    let x = v[0] as usize;
+// A message of one row, in which the field of the column with this letter is another. The first and the last column are unwanted.
+pub fn with_field(d: &mut [u8], letter: u8, field: &[u8]) -> usize {
+    let x = letter as usize;
     if x < 97 {
         return 0;
     }
     let c = x - 97;
     let labels = out(d, 0, b"\\G/#\\L|@AP|/|");
     let before = values(d, labels, 0, c);
-    let field = put(d, before, &v[1..]);
-    let bar = put(d, field, b"|");
+    let here = put(d, before, field);
+    let bar = put(d, here, b"|");
     let after = values(d, bar, c + 1, 16);
     put(d, after, b"\r\n")
 }

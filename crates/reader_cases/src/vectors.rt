@@ -11,6 +11,8 @@ pub fn form() {
         =m rows;\
         \\G/#\\L@AM/@am/;\\G/#\\L@AP/@ap/;\\G/#\\L@AM/@am/@ab|B\\p|7|01|S2|016|\\i\\p|@ii|PASSED|@km/@am/;\
         \\G/#\\L@MM|x|@CH|@AB|@II|y|@LL|@JK/@mm|\\0|@ch|@ab|@ii||@ll|@jk/LAST|1|@ch|@ab|@ii|\\p|\\0|@jk/;\
+        =m optional columns that are absent;\
+        \\G/#\\L@AN/@am|0/;\\G/#\\L@AM|@OO/@am|FALSE/;\\G/#\\L@PP|@NN|@AM/1|\\0|@am/;\\G/#\\L@AM|@OP/@am|\\0|\\0/;\
         =M 3 in the group line;\
         ;\\;G/;\\g/;\\G;\\G\r;\\Ga\\0/;\\G\\x/;\\G\n;\\T/\\G/;\
         =M 3 in header lines;\
