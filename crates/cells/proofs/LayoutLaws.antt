@@ -169,10 +169,6 @@ module _ (t : Table) (j : ℕ) (h : j < wanted t) where
       let n : k < length (widths t) = rw length-widths m in
       rw (← (width-at t j h)) (begins-apart (widths t) j k l n)
 
--- an offset fits a byte, as the arrays keep it
-pub offset-small : (t : Table) (j : ℕ) → j < wanted t → getD (places 0 (widths t)) j 0 ≤ room
-offset-small t j h = omega (arith, offset-listed t j h, offset-within t j h, row-room t)
-
 -- a row whose parts are the cells
 pub row-flat :
     (t : Table) (cells : List (List ℕ)) (row : List ℕ) → length cells ≡ wanted t
