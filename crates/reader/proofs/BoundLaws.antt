@@ -10,6 +10,7 @@ use lib.ListN.{length, drop, length-drop}
 use Rattle.lists.specs.Logic.{on, both}
 use Rattle.lists.proofs.LogicLaws.{both-true, both-false}
 use Rattle.fields.specs.declared.Number.{Number}
+use Rattle.fields.specs.Digits.{given as numberGiven}
 use Rattle.fields.specs.Stamps.{stamp, stampShape}
 use Rattle.turbo.specs.declared.Mark.{Mark}
 use Rattle.turbo.specs.declared.Mark.the-variants as Marks
