@@ -37,17 +37,14 @@ fn told(d: &[u8], area: &mut [u8]) {
 }
 
 // The first n bytes are asked, once b stands at `at`.
-fn ask(d: &mut [u8], at: usize, b: &[u8], n: usize, size: usize, what: &[u8]) {
+fn ask(d: &mut [u8], at: usize, b: &[u8], n: usize, what: &[u8]) {
     spell::put(d, at, b);
     if d.len() < n {
         return;
     }
-    if 41778 < size {
-        return;
-    }
     let mut area = [238u8; 41778];
     say::words(what);
-    told(&d[0..n], &mut area[0..size]);
+    told(&d[0..n], &mut area);
 }
 
 // A group line of 88 bytes, header lines of 249, and 633 rows of 103. Each change stays.
@@ -55,36 +52,23 @@ pub fn sizes() {
     let mut d = [b'a'; 65537];
     let n = spell::out(&mut d, 86, b"/#\\L@AM/");
     fill(&mut d, n, 633);
-    say::words(b"== sizes: full of rows\n");
-    ask(&mut d, 0, b"\\G", 65536, 41778, b"65,536 bytes");
-    ask(&mut d, 0, b"", 65536, 41777, b"room for a row less");
-    ask(&mut d, 0, b"", 65537, 41778, b"a byte more");
-    ask(&mut d, 0, b"", 65535, 41778, b"a byte less");
     ask(
         &mut d,
-        65533,
-        b"X",
+        0,
+        b"\\G",
         65536,
-        41778,
-        b"the last field is wrong",
+        b"== sizes: full of rows\n65,536 bytes",
     );
-    ask(
-        &mut d,
-        337,
-        b"R",
-        65536,
-        41778,
-        b"the first owner is wrong too",
-    );
+    ask(&mut d, 0, b"", 65535, b"a byte less");
+    ask(&mut d, 65533, b"X", 65536, b"the last field is wrong");
+    ask(&mut d, 337, b"R", 65536, b"the first owner is wrong too");
     ask(
         &mut d,
         65521,
         b"x",
         65536,
-        41778,
         b"the last line is a field short too",
     );
-    ask(&mut d, 65534, b"aa", 65536, 41778, b"no line end too");
-    ask(&mut d, 0, b"x", 65536, 41778, b"no group line too");
-    ask(&mut d, 0, b"x", 65537, 41778, b"a byte more");
+    ask(&mut d, 65534, b"aa", 65536, b"no line end too");
+    ask(&mut d, 0, b"x", 65537, b"no group line, and a byte more");
 }

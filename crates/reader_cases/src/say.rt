@@ -15,18 +15,10 @@ pub fn hex(b: u8) {
     io::print_hex(STDOUT_FILENO, b as u64, 2);
 }
 
-fn hidden(b: u8) {
-    words(b"\\x");
-    hex(b);
-}
-
 fn byte(b: u8) {
-    if b < 32 {
-        hidden(b);
-        return;
-    }
-    if 126 < b {
-        hidden(b);
+    if (b < 32) | (126 < b) {
+        words(b"\\x");
+        hex(b);
         return;
     }
     let one = [b];
@@ -43,13 +35,9 @@ pub fn quoted(s: &[u8]) {
     words(b"\"");
 }
 
-fn size(n: usize) {
-    io::print_decimal(STDOUT_FILENO, n as u64);
-}
-
 pub fn count(what: &[u8], n: usize) {
     words(what);
-    size(n);
+    io::print_decimal(STDOUT_FILENO, n as u64);
 }
 
 pub fn answer(a: Answer) {

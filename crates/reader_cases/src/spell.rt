@@ -143,17 +143,3 @@ pub fn name(c: u8) {
     }
     say::words(&d[0..n]);
 }
-
-fn list(v: &[u8]) {
-    let mut d = [0u8; 512];
-    let n = out(&mut d, 0, v);
-    if 512 < n {
-        return;
-    }
-    say::line(&d[0..n]);
-}
-
-pub fn lists() {
-    list(b"@AS");
-    list(b"@as");
-}

@@ -2,7 +2,7 @@
 // staged rows are printed: M and m read messages, P and p the planning, C and c the calendar, f a message with one field changed, S one with its sender.
 use crate::run;
 
-// Rows, and the form of a dossier.
+// Rows, the form of a dossier, label lines and field counts: 3 and 4.
 pub fn form() {
     run::each(
         b"\
@@ -21,14 +21,7 @@ pub fn form() {
         =M 3 in data lines;\
         \\G/#\\L@AM/@am;\\G/#\\L@AM/@am\r;\\G/#\\L@AM/\\x@am/;\\G/#\\L@AM/@al|LAST\\L/;\\G/#\\L@AM/@al|\\0LAST/;\
         \\G/#\\L@AM/@al|LAST\\0/;\\G/#\\L@AM/@ag|a\tb|@im/;\\G/#\\L@AM/@am/@am/@ag|C\\\\S|@im/;\\G/#\\L@AM/@am/\\TX/\\La/\\b/;\
-        \\G/\\TX/\\La/b\nc/#\\L@AM/@am/;\\G/#\\L@AM/@am/\\TX/\\La/\\G/;\\G/#\\L@AM/@am/\\TX/@am/;\\G/#\\L@AM/@am/\\TX/\\La/b\r",
-    );
-}
-
-// Label lines and field counts: 4.
-pub fn labels() {
-    run::each(
-        b"\
+        \\G/\\TX/\\La/b\nc/#\\L@AM/@am/;\\G/#\\L@AM/@am/\\TX/\\La/\\G/;\\G/#\\L@AM/@am/\\TX/@am/;\\G/#\\L@AM/@am/\\TX/\\La/b\r;\
         =M a wanted name is missing;\
         \\G/#\\L@BM/@bm/;\\G/#\\L@AL/@al/;\\G/#\\L@AF|@HM/@af|@hm/;\\G/#\\L@AL|@NP/@al|@np/;\\G/#\\L/;\\G/#\\L\\0/;\\G/#\\L@AL/;\
         \\G/#\\L@AM/@am/\\TX/\\La/1/#\\L@BM/;\\G/#\\L@AL/@am/;\\G/#\\L@AL|@QS/;\
@@ -77,7 +70,7 @@ pub fn fields() {
     );
 }
 
-// Which fault is given, where there are several; and which rows are staged.
+// Which fault is given, where there are several, which tables are read, and which rows are staged.
 pub fn order() {
     run::each(
         b"\
@@ -111,14 +104,7 @@ pub fn order() {
         \\G/#\\L@AL/@al|x/RET|@bm/\\TX/\\La/\\b/;\\G/#\\L@AM/RET|@bm/@al|x/@al/\\0x/;\\G/#\\L@AM/@am/@al|x/@am;\
         =M 6;\
         \\G/#\\L@AM/RET|@bm/;\\G/#\\L@AM/@am/@am/RET|@bm/;\\G/#\\L@AM/@am/RET|@bm/QBUZZ|@bm/@am/;\\G/#\\L@AM/@am/\\TX/\\L@AM/RET|@bm/#\\L@AM/RET|@bm/;\
-        \\G/#\\L@BM|@AA/@bm|RET/;\\G/#\\L@AM/cxx|@bm/;\\G/#\\L@AM/CXX\x20|@bm/;\\G/#\\L@AM/CX|@bm/;\\G/#\\L@AM/\x20CXX|@bm/",
-    );
-}
-
-// Which tables are read.
-pub fn tables() {
-    run::each(
-        b"\
+        \\G/#\\L@BM|@AA/@bm|RET/;\\G/#\\L@AM/cxx|@bm/;\\G/#\\L@AM/CXX\x20|@bm/;\\G/#\\L@AM/CX|@bm/;\\G/#\\L@AM/\x20CXX|@bm/;\
         =M other names than the table's;\
         \\G/\\TDATEDPASSTIM/\\Lx/y|z/;\\G/\\TDATEDPASSTIMES/\\Lx/y|z/;\\G/\\TDatedPassTime/\\Lx/y|z/;\\G/\\TDATEDPASSTIME\\i/\\Lx/y|z/;\
         \\G/\\T\\iDATEDPASSTIME/\\Lx/y|z/;\\G/\\TDATEDPASSTIME\x20/\\Lx/y|z/;\\G/\\T|DATEDPASSTIME/\\Lx/y|z/;\\G/\\T\\0/\\Lx/y|z/;\

@@ -14,37 +14,37 @@ abbrev μ-loop : tie.MeasureT-loop
 μ-loop d₀ from rows n₀ k₀ t6 t7 d n k = rows - k
 
 loop-holds : tie.Need-loop-holds Inv-loop μ-loop
-loop-holds c = search needs
+loop-holds c = omega arith
 
 slice-aggregate-out : tie.Need-slice-aggregate-out Inv-loop μ-loop
 slice-aggregate-out c = search needs
 
 out-requires : tie.Need-out-requires Inv-loop μ-loop
-out-requires c κs = search needs
+out-requires c κs = tt
 
 digits-requires : tie.Need-digits-requires Inv-loop μ-loop
-digits-requires c κs = search needs
+digits-requires c κs = tt
 
 slice-aggregate-out-2 : tie.Need-slice-aggregate-out-2 Inv-loop μ-loop
 slice-aggregate-out-2 c = search needs
 
 out-requires-2 : tie.Need-out-requires-2 Inv-loop μ-loop
-out-requires-2 c κs = search needs
+out-requires-2 c κs = tt
 
 add-k : tie.Need-add-k Inv-loop μ-loop
-add-k c = search needs
+add-k c = omega arith
 
 loop-less : tie.Need-loop-less Inv-loop μ-loop
-loop-less c = search needs
+loop-less c = omega arith
 
 loop-again : tie.Need-loop-again Inv-loop μ-loop
-loop-again c = search needs
+loop-again c = omega arith
 
 same-length : tie.Need-same-length Inv-loop μ-loop
 same-length c = search needs
 
 returns : tie.Need-returns Inv-loop μ-loop
-returns c = search needs
+returns c = tt
 
 pub fill-spec : {M : Type 1} → statement M
 fill-spec =

@@ -13,13 +13,13 @@ abbrev μ-loop : tie.MeasureT-loop
 μ-loop list r₀ t₀ r t = length t
 
 loop-holds : tie.Need-loop-holds Inv-loop μ-loop
-loop-holds c = search needs
+loop-holds c = omega arith
 
 find-requires : tie.Need-find-requires Inv-loop μ-loop
-find-requires c κs = search needs
+find-requires c κs = tt
 
 sub-one : tie.Need-sub-one Inv-loop μ-loop
-sub-one c = search needs
+sub-one c = omega arith
 
 part-one-start : tie.Need-part-one-start Inv-loop μ-loop
 part-one-start c = search needs
@@ -28,16 +28,16 @@ part-one-end : tie.Need-part-one-end Inv-loop μ-loop
 part-one-end c = search needs
 
 one-requires : tie.Need-one-requires Inv-loop μ-loop
-one-requires c κs = search needs
+one-requires c κs = tt
 
 returns : tie.Need-returns Inv-loop μ-loop
-returns c = search needs
+returns c = tt
 
 add-a : tie.Need-add-a Inv-loop μ-loop
-add-a c = search needs
+add-a c = omega arith
 
 sub-t : tie.Need-sub-t Inv-loop μ-loop
-sub-t c = search needs
+sub-t c = omega arith
 
 part-t-start : tie.Need-part-t-start Inv-loop μ-loop
 part-t-start c = search needs
@@ -46,10 +46,10 @@ part-t-end : tie.Need-part-t-end Inv-loop μ-loop
 part-t-end c = search needs
 
 loop-less : tie.Need-loop-less Inv-loop μ-loop
-loop-less c = search needs
+loop-less c = omega arith
 
 loop-again : tie.Need-loop-again Inv-loop μ-loop
-loop-again c = search needs
+loop-again c = omega arith
 
 pub each-spec : {M : Type 1} → statement M
 each-spec =

@@ -13,34 +13,34 @@ abbrev μ-loop : tie.MeasureT-loop
 μ-loop r s w i₀ i = length s - i
 
 width-requires : tie.Need-width-requires Inv-loop μ-loop
-width-requires c κs = search needs
+width-requires c κs = tt
 
 loop-holds : tie.Need-loop-holds Inv-loop μ-loop
-loop-holds c = search needs
+loop-holds c = omega arith
 
 rem-at-byte : tie.Need-rem-at-byte Inv-loop μ-loop
-rem-at-byte c = search needs
+rem-at-byte c = omega arith
 
 at-byte-requires : tie.Need-at-byte-requires Inv-loop μ-loop
-at-byte-requires c κs = search needs
+at-byte-requires c κs = tt
 
 shared-slice-read-hex : tie.Need-shared-slice-read-hex Inv-loop μ-loop
 shared-slice-read-hex c = search needs
 
 hex-requires : tie.Need-hex-requires Inv-loop μ-loop
-hex-requires c κs = search needs
+hex-requires c κs = tt
 
 add-i : tie.Need-add-i Inv-loop μ-loop
-add-i c = search needs
+add-i c = omega arith
 
 loop-less : tie.Need-loop-less Inv-loop μ-loop
-loop-less c = search needs
+loop-less c = omega arith
 
 loop-again : tie.Need-loop-again Inv-loop μ-loop
-loop-again c = search needs
+loop-again c = omega arith
 
 returns : tie.Need-returns Inv-loop μ-loop
-returns c = search needs
+returns c = tt
 
 pub rows-spec : {M : Type 1} → statement M
 rows-spec =

@@ -16,34 +16,34 @@ slice-aggregate-words : tie.Need-slice-aggregate-words Inv-loop μ-loop
 slice-aggregate-words c = search needs
 
 words-requires : tie.Need-words-requires Inv-loop μ-loop
-words-requires c κs = search needs
+words-requires c κs = tt
 
 loop-holds : tie.Need-loop-holds Inv-loop μ-loop
-loop-holds c = search needs
+loop-holds c = omega arith
 
 shared-slice-read-byte : tie.Need-shared-slice-read-byte Inv-loop μ-loop
 shared-slice-read-byte c = search needs
 
 byte-requires : tie.Need-byte-requires Inv-loop μ-loop
-byte-requires c κs = search needs
+byte-requires c κs = tt
 
 add-i : tie.Need-add-i Inv-loop μ-loop
-add-i c = search needs
+add-i c = omega arith
 
 loop-less : tie.Need-loop-less Inv-loop μ-loop
-loop-less c = search needs
+loop-less c = omega arith
 
 loop-again : tie.Need-loop-again Inv-loop μ-loop
-loop-again c = search needs
+loop-again c = omega arith
 
 slice-aggregate-words-2 : tie.Need-slice-aggregate-words-2 Inv-loop μ-loop
 slice-aggregate-words-2 c = search needs
 
 words-requires-2 : tie.Need-words-requires-2 Inv-loop μ-loop
-words-requires-2 c κs = search needs
+words-requires-2 c κs = tt
 
 returns : tie.Need-returns Inv-loop μ-loop
-returns c = search needs
+returns c = tt
 
 pub quoted-spec : {M : Type 1} → statement M
 quoted-spec =

@@ -14,13 +14,13 @@ abbrev μ-loop : tie.MeasureT-loop
 μ-loop d₀ from v n₀ t₀ d n t = length t
 
 loop-holds : tie.Need-loop-holds Inv-loop μ-loop
-loop-holds c = search needs
+loop-holds c = omega arith
 
 next-requires : tie.Need-next-requires Inv-loop μ-loop
 next-requires c κs = search needs
 
 sub-part : tie.Need-sub-part Inv-loop μ-loop
-sub-part c = search needs
+sub-part c = omega arith
 
 part-part-start : tie.Need-part-part-start Inv-loop μ-loop
 part-part-start c = search needs
@@ -29,10 +29,10 @@ part-part-end : tie.Need-part-part-end Inv-loop μ-loop
 part-part-end c = search needs
 
 part-requires : tie.Need-part-requires Inv-loop μ-loop
-part-requires c κs = search needs
+part-requires c κs = tt
 
 sub-t : tie.Need-sub-t Inv-loop μ-loop
-sub-t c = search needs
+sub-t c = omega arith
 
 part-t-start : tie.Need-part-t-start Inv-loop μ-loop
 part-t-start c = search needs
@@ -41,16 +41,16 @@ part-t-end : tie.Need-part-t-end Inv-loop μ-loop
 part-t-end c = search needs
 
 loop-less : tie.Need-loop-less Inv-loop μ-loop
-loop-less c = search needs
+loop-less c = omega arith
 
 loop-again : tie.Need-loop-again Inv-loop μ-loop
-loop-again c = search needs
+loop-again c = omega arith
 
 same-length : tie.Need-same-length Inv-loop μ-loop
 same-length c = search needs
 
 returns : tie.Need-returns Inv-loop μ-loop
-returns c = search needs
+returns c = tt
 
 pub out-spec : {M : Type 1} → statement M
 out-spec =
