@@ -32,6 +32,10 @@ misses-lacking Calendar labels = refl
 
 -- ---- what the search for the names says
 
+-- the search for the names that a table's constant has
+pub names-found : {t u : Table} (ws labels : List (List ℕ)) {c : Columns} → c ≡ columnsOf ws labels → ws ≡ names u → t ≡ u → c ≡ columnsOf (names t) labels
+names-found ws labels e n q = e ∙ rw (n, q)
+
 module _ (t : Table) (labels : List (List ℕ)) where
   search-cases : (b : Bool) → anyTwice (names t) labels ≡ b →
       (columnsOf (names t) labels .twice ≡ b) × (b ≡ false → columnsOf (names t) labels .places ≡ placesOf t labels)
