@@ -1,3 +1,4 @@
+use mathlib.Core.Path.{sym, ap}
 use borrow.Author.Needs.{needs}
 use Rattle.lists.specs.Rows.{flat}
 use Rattle.cells.specs.Cell.{width}
@@ -26,15 +27,15 @@ enum-told-3 c = search needs
 
 returns : tie.Need-returns
 unfolding blankRow flat width rowWidth columnsIn messageColumns
-returns c = rw (c .enum-told .given .1)
+returns c = ap blankRow (sym (c .enum-told .given .1))
 
 returns-2 : tie.Need-returns-2
 unfolding blankRow flat width rowWidth columnsIn planningColumns
-returns-2 c = rw (c .enum-told2 .given .1)
+returns-2 c = ap blankRow (sym (c .enum-told2 .given .1))
 
 returns-3 : tie.Need-returns-3
 unfolding blankRow flat width rowWidth columnsIn calendarColumns
-returns-3 c = rw (c .enum-told3 .given .1)
+returns-3 c = ap blankRow (sym (c .enum-told3 .given .1))
 
 pub blank-spec : {M : Type 1} → statement M
 blank-spec =

@@ -37,7 +37,8 @@ returns c =
     let word = now (start .args .word) in
     let null = c .before .before .before .before .before .before .before in
     let stop = c .before .before .before .before .before in
-    let here = ap (λ (l : List ℕ). same l word) (sym (stop .before .field-of .ensures)) ∙ sym (stop .same-bytes .ensures) ∙ c .before .before .before .before .if2 .taken in
+    let told : stop .same-bytes .result ≡ same (now (stop .before .field-of .result)) word = stop .same-bytes .ensures in
+    let here = ap (λ (l : List ℕ). same l word) (sym (stop .before .field-of .ensures)) ∙ sym told ∙ c .before .before .before .before .if2 .taken in
     let time = time-missing word (fieldAt (start .args .stop) (now (start .args .line))) (now (start .args .f)) (sym (null .before .is-null .ensures) ∙ null .if1 .taken) here in
     kept-spelled (start .args .at) (now (start .args .row)) 3 16777215 (missing-spelled ∙ time) (omega arith) (c .before .before .put-number .ensures)
 
@@ -46,7 +47,8 @@ returns-2 c =
     let start = c .before .before .before .before .before .before .before .before .before in
     let word = now (start .args .word) in
     let null = c .before .before .before in
-    let here = ap (λ (l : List ℕ). same l word) (sym (c .before .before .field-of .ensures)) ∙ sym (c .before .same-bytes .ensures) ∙ c .if2 .left in
+    let told : c .before .same-bytes .result ≡ same (now (c .before .before .field-of .result)) word = c .before .same-bytes .ensures in
+    let here = ap (λ (l : List ℕ). same l word) (sym (c .before .before .field-of .ensures)) ∙ sym told ∙ c .if2 .left in
     kept-none (start .args .at) (now (start .args .row))
     (time-none word (fieldAt (start .args .stop) (now (start .args .line))) (now (start .args .f)) (sym (null .before .is-null .ensures) ∙ null .if1 .taken) here)
 
