@@ -264,16 +264,16 @@ fn start() -> State
 }
 
 // The answer once no line is left, by the order of the numbers.
-fn settle(s: State) -> Answer
-    ensures { λ r. ⌜ r ≡ settled 0 (s .wrong) (s .column) (s .owner) (s .rows) ⌝ }
+fn settle(last: State) -> Answer
+    ensures { λ r. ⌜ r ≡ settled 0 (last .wrong) (last .column) (last .owner) (last .rows) ⌝ }
 {
-    if s.wrong != 0 {
-        return Answer::Field(s.wrong, s.column);
+    if last.wrong != 0 {
+        return Answer::Field(last.wrong, last.column);
     }
-    if s.owner != 0 {
-        return Answer::Owner(s.owner);
+    if last.owner != 0 {
+        return Answer::Owner(last.owner);
     }
-    Answer::Rows(s.rows)
+    Answer::Rows(last.rows)
 }
 
 // The lines of a dossier within its size, one after another.

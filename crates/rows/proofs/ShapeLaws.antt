@@ -30,7 +30,12 @@ misses-lacking Message labels = refl
 misses-lacking Planning labels = refl
 misses-lacking Calendar labels = refl
 
--- what the search for the names says
+-- ---- what the search for the names says
+
+-- the search for the names that a table's constant has
+pub names-found : {t u : Table} (ws labels : List (List ℕ)) {c : Columns} → c ≡ columnsOf ws labels → ws ≡ names u → t ≡ u → c ≡ columnsOf (names t) labels
+names-found ws labels e n q = e ∙ rw (n, q)
+
 module _ (t : Table) (labels : List (List ℕ)) where
   search-cases : (b : Bool) → anyTwice (names t) labels ≡ b →
       (columnsOf (names t) labels .twice ≡ b) × (b ≡ false → columnsOf (names t) labels .places ≡ placesOf t labels)
@@ -44,21 +49,41 @@ module _ (t : Table) (labels : List (List ℕ)) where
   pub found-places : columnsOf (names t) labels .twice ≡ false → columnsOf (names t) labels .places ≡ placesOf t labels
   found-places e = search-cases (anyTwice (names t) labels) refl .1 (sym found-twice ∙ e)
 
-  -- the shape, by the ways out of the code
-  pub shape-twice : columnsOf (names t) labels .twice ≡ true → noShape ≡ shapeOf t labels
-  unfolding shapeOf labelFault
-  shape-twice e = rw (sym found-twice ∙ e)
+-- ---- the shape, by the ways out of the code
 
-  pub shape-lacking : (ps : List ℕ) (n : ℕ) → ps ≡ placesOf t labels → n ≡ length labels → lacking n (take (mustCount t) ps) ≡ true → noShape ≡ shapeOf t labels
-  unfolding shapeOf labelFault
-  shape-lacking ps n p q e =
-      let m : misses t labels ≡ true = misses-lacking t labels ∙ ap (λ (l : List ℕ). lacking (length labels) (take (mustCount t) l)) (sym p) ∙ ap (λ (k : ℕ). lacking k (take (mustCount t) ps)) (sym q) ∙ e in
-      rw (m, either-true (anyTwice (names t) labels))
+-- no wanted name stands twice, and of n labels they stand at the places ps
+pub record Searched (t : Table) (labels : List (List ℕ)) (ps : List ℕ) (n : ℕ) : Type 0 where
+  pub once : anyTwice (names t) labels ≡ false
+  pub places : ps ≡ placesOf t labels
+  pub count : n ≡ length labels
 
-  pub shape-right : (ps : List ℕ) (n s k found : ℕ) (vs : List ℕ) → columnsOf (names t) labels .twice ≡ false → ps ≡ placesOf t labels → n ≡ length labels → lacking n (take (mustCount t) ps) ≡ false
-      → s ≡ stopPlace labels → k ≡ wanted t → found ≡ length (visits k (take k ps) n 0) → vs ≡ over 0 (visits k (take k ps) n 0) (replicate most 0)
+module _ (t : Table) (labels : List (List ℕ)) {c : Columns} (e : c ≡ columnsOf (names t) labels) where
+  told : c .twice ≡ anyTwice (names t) labels
+  told = ap (λ (d : Columns). d .twice) e ∙ found-twice t labels
+
+  pub searched : {n : ℕ} → c .twice ≡ false → n ≡ length labels → Searched t labels (c .places) n
+  searched q l =
+      let w : columnsOf (names t) labels .twice ≡ false = found-twice t labels ∙ sym told ∙ q in
+      record { once = sym told ∙ q; places = ap (λ (d : Columns). d .places) e ∙ found-places t labels w; count = l }
+
+  -- one stands twice
+  pub shape-twice : c .twice ≡ true → noShape ≡ shapeOf t labels
+  unfolding shapeOf labelFault
+  shape-twice q = rw (sym told ∙ q)
+
+module _ {t : Table} {labels : List (List ℕ)} {ps : List ℕ} {n k : ℕ} {b : Bool} (g : Searched t labels ps n) (m : k ≡ mustCount t) (l : b ≡ lacking n (take k ps)) where
+  missing : misses t labels ≡ b
+  missing = misses-lacking t labels ∙ sym (l ∙ rw (m, g .places, g .count))
+
+  -- one that must be there is missing
+  pub shape-lacking : b ≡ true → noShape ≡ shapeOf t labels
+  unfolding shapeOf labelFault
+  shape-lacking q = rw (missing ∙ q, either-true (anyTwice (names t) labels))
+
+  -- none is
+  pub shape-right :
+      {s w found : ℕ} {vs : List ℕ} → b ≡ false → s ≡ stopPlace labels → w ≡ wanted t
+      → found ≡ length (visits w (take w ps) n 0) → vs ≡ over 0 (visits w (take w ps) n 0) (replicate most 0)
       → record { fault = false; count = n; stop = s; places = ps; found = found; order = vs } ≡ shapeOf t labels
   unfolding shapeOf labelFault
-  shape-right ps n s k found vs w p q e u x y z =
-      let m : misses t labels ≡ false = misses-lacking t labels ∙ ap (λ (l : List ℕ). lacking (length labels) (take (mustCount t) l)) (sym p) ∙ ap (λ (i : ℕ). lacking i (take (mustCount t) ps)) (sym q) ∙ e in
-      rw (sym found-twice ∙ w, m, y, z, u, x, p, q)
+  shape-right q u x y z = rw (g .once, missing ∙ q, y, z, u, x, g .places, g .count)

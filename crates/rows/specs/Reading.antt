@@ -52,11 +52,11 @@ pub record IsShape (t : Table) (h : Shape) : Type 0 where
   pub shape : h ≡ shapeOf t labels
   pub faultless : h .fault ≡ false
 
--- the field f of column c, where the stop type's field is `stop`, has no content and may have none
+-- the field f of column c has no content, and may have none
 abbrev pub empty : Column → List ℕ → Bool
 empty c f = both (isOptional c) (same f null)
 
--- the cell of the field f of column c
+-- the cell of the field f of column c, in a line whose stop type's field is `stop`
 abbrev pub cellOf : Column → List ℕ → List ℕ → List ℕ
 cellOf c stop f = on (empty c f) (c .absent) (cell (c .kind) stop f)
 

@@ -1,0 +1,82 @@
+-- Small dossiers and what is answered to them, by computation. Assumes nothing.
+use Prim.Native.Nat.{ℕ}
+use Prim.Native.String.{String}
+use mathlib.Core.Path.{_≡_, refl}
+use mathlib.Core.List.{List, [], _∷_, _++_}
+use lib.ListN.{replicate}
+use Rattle.lists.specs.Text.{bytes, same}
+use Rattle.lists.specs.Part.{part}
+use Rattle.lists.specs.Rows.{flat, rowsOf}
+use Rattle.lists.specs.BigEndian.{spelled}
+use Rattle.clock.specs.Date.{daysIn, isDate}
+use Rattle.clock.specs.Moment.{monthStart, dayCount}
+use Rattle.syntax.specs.Machine.{field, escape, firstEscape, nul, ret, opened, marked, step, accepting, run, fault}
+use Rattle.turbo.specs.Escape.{escaped, decode}
+use Rattle.turbo.specs.Split.{until, past, fields, fieldAt, linesFrom, markOf, afterMark}
+use Rattle.turbo.specs.Columns.{count, place, anyTwice}
+use Rattle.fields.specs.Digits.{number, triple}
+use Rattle.fields.specs.Times.{clock, time}
+use Rattle.fields.specs.Dates.{date}
+use Rattle.fields.specs.Stamps.{offset, stampSeconds, stamp}
+use Rattle.fields.specs.Names.{bit, status, stopType, flexible}
+use Rattle.fields.specs.Texts.{text}
+use Rattle.cells.specs.declared.Table.the-variants.{Message, Calendar}
+use Rattle.cells.specs.Cell.{cell}
+use Rattle.cells.specs.Tables.{messageColumns, calendarColumns, columnsIn, tableName, names, misses, rowOf, wrongColumn}
+use Rattle.rows.specs.Shape.{labelFault}
+use Rattle.passage.specs.Register.{among, grants}
+use Rattle.reader.specs.declared.Answer.{Answer}
+use Rattle.reader.specs.declared.Answer.the-variants.{Syntax, Form, Field, Owner, Rows}
+use Rattle.reader.specs.Items.{items}
+use Rattle.reader.specs.Rules.{firstLine, firstColumn, rowsUpTo, answerTo, readingOf}
+
+-- lines, each with its line end
+abbrev joined : List String → List ℕ
+joined [] = []
+joined (l ∷ ls) = bytes l ++ 13 ∷ 10 ∷ joined ls
+
+-- ---- a calendar, its columns out of order and an unwanted one among them
+
+abbrev calendar : List String → Answer
+calendar ls = readingOf Calendar [] 0 (joined ("\\G" ∷ "\\TLOCALSERVICEGROUPVALIDITY" ∷ "\\LOperationDate|X|LocalServiceLevelCode|DataOwnerCode" ∷ ls))
+
+pub calendars :
+    (calendar [] ≡ Rows 0)
+    × (calendar ("2016-03-01||A|CXX" ∷ "2016-02-29|\\0|A|CXX" ∷ []) ≡ Rows 2)
+    -- the first wrong field in reading order
+    × (calendar ("2016-03-01||A|CXX" ∷ "2017-02-29||A|" ∷ "||A|CXX" ∷ []) ≡ Field 5 1)
+    × (calendar ("2016-03-01||A|" ∷ "2017-02-29||A|CXX" ∷ []) ≡ Field 4 4)
+    -- a field too few, also behind a wrong field, and a missing column in a table that comes later
+    × (calendar ("2017-02-29||A|CXX" ∷ "2016-03-01||A" ∷ []) ≡ Form 5)
+    × (calendar ("2017-02-29||A|CXX" ∷ "\\TLOCALSERVICEGROUPVALIDITY" ∷ "\\LOperationDate" ∷ []) ≡ Form 6)
+    -- an escape that there is not, behind all of these
+    × (calendar ("2017-02-29||A|CXX" ∷ "2016-03-01||A" ∷ "\\x" ∷ []) ≡ Syntax 123)
+unfolding readingOf fault run accepting step marked opened ret nul firstEscape escape field answerTo firstLine firstColumn rowsUpTo items linesFrom markOf afterMark until past fields fieldAt tableName labelFault anyTwice count place names columnsIn calendarColumns misses same wrongColumn rowOf flat cell spelled text decode escaped date isDate daysIn triple number
+calendars = (refl, refl, refl, refl, refl, refl, refl)
+
+-- ---- a message of one row, its owner registered for sender 1, and for the desk, to which that grants nothing
+
+abbrev register : List ℕ
+register = 1 ∷ bytes "CXX" ++ replicate 7 0 ++ 0 ∷ bytes "CXX" ++ replicate 7 0
+
+abbrev message : ℕ → String → Answer
+message sender row =
+    readingOf
+    Message
+    register
+    sender
+    (joined
+    ("\\G" ∷ "\\TDATEDPASSTIME" ∷
+    "\\LDataOwnerCode|OperationDate|LinePlanningNumber|VehicleJourneyNumber|FortifyOrderNumber|UserStopCode|UserStopOrderNumber|DestinationCode|LastUpdateTimeStamp|TripStopStatus|ExpectedArrivalTime|ExpectedDepartureTime|JourneyStopType"
+    ∷ row ∷ []))
+
+pub messages :
+    (message 1 "CXX|2016-03-01|A031|122|0|S1|15|CIOS|2016-03-01T15:15:30+01:00|CANCEL|24:10:00|24:10:30|INTERMEDIATE" ≡ Rows 1)
+    × (message 2 "CXX|2016-03-01|A031|122|0|S1|15|CIOS|2016-03-01T15:15:30+01:00|CANCEL|24:10:00|24:10:30|INTERMEDIATE" ≡ Owner 4)
+    × (message 0 "CXX|2016-03-01|A031|122|0|S1|15|CIOS|2016-03-01T15:15:30+01:00|CANCEL|24:10:00|24:10:30|INTERMEDIATE" ≡ Owner 4)
+    × (message 1 "RET|2016-03-01|A031|122|0|S1|15|CIOS|2016-03-01T15:15:30+01:00|CANCEL|24:10:00|24:10:30|INTERMEDIATE" ≡ Owner 4)
+    -- no arrival at INTERMEDIATE; no departure at LAST is right
+    × (message 2 "CXX|2016-03-01|A031|122|0|S1|15|CIOS|2016-03-01T15:15:30+01:00|CANCEL|\\0|24:10:30|INTERMEDIATE" ≡ Field 4 11)
+    × (message 1 "CXX|2016-03-01|A031|122|0|S1|15|CIOS|2016-03-01T15:15:30+01:00|CANCEL|24:10:00|\\0|LAST" ≡ Rows 1)
+unfolding readingOf fault run accepting step marked opened ret nul firstEscape escape field answerTo firstLine firstColumn rowsUpTo items linesFrom markOf afterMark until past fields fieldAt tableName labelFault anyTwice count place names columnsIn messageColumns misses same wrongColumn rowOf flat cell spelled text decode escaped date isDate daysIn triple number stamp stampSeconds monthStart dayCount offset clock time status stopType bit flexible part among grants rowsOf
+messages = (refl, refl, refl, refl, refl, refl)
