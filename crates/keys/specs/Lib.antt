@@ -1,0 +1,4 @@
+pub mod Keys
+pub mod Sorted
+pub mod Replay
+pub mod Cases

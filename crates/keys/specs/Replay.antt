@@ -1,0 +1,36 @@
+-- What updates make of rows, over any row rule: `rule held u` is the row that the update u makes of the held row, or of none, []. Assumes nothing.
+use Prim.Native.Nat.{ℕ}
+use mathlib.Core.Bool.{Bool, true, false}
+use mathlib.Core.List.{List, [], _∷_}
+use Rattle.lists.specs.Logic.{on}
+use Rattle.lists.specs.Text.{same}
+use Rattle.passage.specs.Layout.{keyOf}
+use Rattle.keys.specs.Sorted.{get, put, remove}
+
+-- a row rule: what is held, [] for nothing, and an update's body give a row
+abbrev pub Rule : Type 0
+Rule = List ℕ → List ℕ → List ℕ
+
+-- one update taken into the rows: it changes the row of its key
+unfoldable pub taken : Rule → List ℕ → List (List ℕ) → List (List ℕ)
+taken rule u rs = put (rule (get (keyOf u) rs) u) rs
+
+-- updates taken one after another
+unfoldable pub takenAll : Rule → List (List ℕ) → List (List ℕ) → List (List ℕ)
+takenAll rule [] rs = rs
+takenAll rule (u ∷ us) rs = takenAll rule us (taken rule u rs)
+
+-- what becomes of one key's row, `held` or [], by the updates of that key, in their order
+unfoldable pub replayed : Rule → List ℕ → List ℕ → List (List ℕ) → List ℕ
+replayed rule k held [] = held
+replayed rule k held (u ∷ us) = replayed rule k (on (same (keyOf u) k) (rule held u) held) us
+
+-- the row of key k becomes r, or leaves where r is []
+abbrev pub place : List ℕ → List ℕ → List (List ℕ) → List (List ℕ)
+place k [] rs = remove k rs
+place k (b ∷ r) rs = put (b ∷ r) rs
+
+-- the rows of these keys become what f gives
+unfoldable pub reworked : (List ℕ → List ℕ) → List (List ℕ) → List (List ℕ) → List (List ℕ)
+reworked f [] rs = rs
+reworked f (k ∷ ks) rs = reworked f ks (place k (f k) rs)

@@ -1,0 +1,106 @@
+-- What is claimed of the row rule, for a held row h, [] for none, and an update u. Assumes nothing.
+use mathlib.Core.Path.{_≡_}
+use mathlib.Core.Bool.{Bool, true, false}
+use mathlib.Core.List.{List, [], _∷_}
+use mathlib.Core.Logic.{_⊎_}
+use Prim.Native.Nat.{ℕ}
+use lib.ListN.{length, getD}
+use Rattle.passage.specs.Layout.{body-wide, row-wide, keyOf, destinationOf, stampOf, statusOf, arrivalOf, departureOf, stopTypeOf, showCancelledOf, flexibleOf, monitoredOf, heardOf}
+use Rattle.passage.specs.Ranges.{updateInRange, rowInRange}
+use Rattle.update.specs.Rule.{mayMove, statusAfter, keeps, begun, rowRule}
+
+-- The update changes no key: the row that it makes has the update's.
+abbrev pub KeepsKey : Type 0
+KeepsKey = (h u : List ℕ) → length u ≡ body-wide → keyOf (rowRule h u) ≡ keyOf u
+
+-- It makes a whole row.
+abbrev pub RowWide : Type 0
+RowWide = (h u : List ℕ) → length u ≡ body-wide → length (rowRule h u) ≡ row-wide
+
+-- Heard becomes 1.
+abbrev pub Heard : Type 0
+Heard = (h u : List ℕ) → length u ≡ body-wide → heardOf (rowRule h u) ≡ 1
+
+-- Destination, timestamp, times and stop type become the update's, whatever the status does.
+abbrev pub ReplacesRest : Type 0
+ReplacesRest =
+    (h u : List ℕ)
+    → length u ≡ body-wide
+    → (destinationOf (rowRule h u) ≡ destinationOf u)
+    × (stampOf (rowRule h u) ≡ stampOf u)
+    × (arrivalOf (rowRule h u) ≡ arrivalOf u)
+    × (departureOf (rowRule h u) ≡ departureOf u)
+    × (stopTypeOf (rowRule h u) ≡ stopTypeOf u)
+
+-- The status moves where the table says so, and else stays.
+abbrev pub StatusByTable : Type 0
+StatusByTable = (h u : List ℕ) → length u ≡ body-wide → statusOf (rowRule h u) ≡ statusAfter (statusOf (begun h)) (statusOf u)
+
+abbrev J : Bool
+J = true
+
+abbrev N : Bool
+N = false
+
+-- From and to PLANNED, CANCEL, UNKNOWN, DRIVING, ARRIVED, PASSED: where the status moves.
+abbrev pub moves : List (List Bool)
+moves =
+    (N ∷ J ∷ J ∷ J ∷ J ∷ J ∷ [])
+    ∷ (J ∷ J ∷ N ∷ J ∷ J ∷ J ∷ [])
+    ∷ (N ∷ J ∷ J ∷ J ∷ J ∷ J ∷ [])
+    ∷ (N ∷ J ∷ J ∷ J ∷ J ∷ J ∷ [])
+    ∷ (N ∷ J ∷ J ∷ N ∷ J ∷ J ∷ [])
+    ∷ (N ∷ N ∷ N ∷ N ∷ J ∷ J ∷ [])
+    ∷ []
+
+-- The status moves where that table has J, and nowhere else, whatever two numbers are asked.
+abbrev pub MovesByTable : Type 0
+MovesByTable = (held said : ℕ) → mayMove held said ≡ getD (getD moves held []) said N
+
+-- An optional that the update gives is the row's; one that is absent leaves the held content.
+abbrev pub OptionalsKeep : Type 0
+OptionalsKeep =
+    (h u : List ℕ)
+    → length u ≡ body-wide
+    → (showCancelledOf (rowRule h u) ≡ keeps (showCancelledOf (begun h)) (showCancelledOf u))
+    × (flexibleOf (rowRule h u) ≡ keeps (flexibleOf (begun h)) (flexibleOf u))
+    × (monitoredOf (rowRule h u) ≡ keeps (monitoredOf (begun h)) (monitoredOf u))
+
+-- A passage that is missing begins as PLANNED, show cancelled 1, flexible 0, monitored 0.
+abbrev pub BeginsPlanned : Type 0
+BeginsPlanned =
+    (statusOf (begun []) ≡ 0)
+    × (showCancelledOf (begun []) ≡ 1)
+    × (flexibleOf (begun []) ≡ 0)
+    × (monitoredOf (begun []) ≡ 0)
+
+-- An update in range makes a row in range, of none or of a row in range.
+abbrev pub InRange : Type 0
+InRange =
+    (h u : List ℕ)
+    → length u ≡ body-wide
+    → updateInRange u ≡ true
+    → (h ≡ []) ⊎ (rowInRange h ≡ true)
+    → rowInRange (rowRule h u) ≡ true
+
+-- P5: ARRIVED, 4, then DRIVING, 3, stays ARRIVED; PASSED, 5, then ARRIVED is ARRIVED.
+abbrev pub ArrivedStays : Type 0
+ArrivedStays =
+    (h u : List ℕ)
+    → length u ≡ body-wide
+    → (statusOf (begun h) ≡ 4 → statusOf u ≡ 3 → statusOf (rowRule h u) ≡ 4)
+    × (statusOf (begun h) ≡ 5 → statusOf u ≡ 4 → statusOf (rowRule h u) ≡ 4)
+
+-- All of them.
+abbrev pub All : Type 0
+All =
+    KeepsKey
+    × RowWide
+    × Heard
+    × ReplacesRest
+    × StatusByTable
+    × MovesByTable
+    × OptionalsKeep
+    × BeginsPlanned
+    × InRange
+    × ArrivedStays

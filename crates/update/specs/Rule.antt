@@ -1,0 +1,59 @@
+-- The row rule: what an update makes of a passage. Assumes nothing.
+use Prim.Native.Nat.{ℕ}
+use mathlib.Core.Bool.{Bool}
+use mathlib.Core.List.{List, [], _∷_, _++_}
+use lib.Dec.{eqb}
+use lib.ListN.{getD, set, replicate}
+use Rattle.lists.specs.Logic.{on}
+use Rattle.lists.specs.Text.{bytes}
+use Rattle.passage.specs.Layout.{row-wide, kept, status-at, show-cancelled-at, flexible-at, monitored-at, statusOf, showCancelledOf, flexibleOf, monitoredOf}
+
+-- 003's table 17: a line for each status held, a letter for each status said, in the order PLANNED, CANCEL, UNKNOWN, DRIVING, ARRIVED, PASSED
+unfoldable pub table17 : List (List ℕ)
+table17 =
+    bytes "NJJJJJ"
+    ∷ bytes "JJNJJJ"
+    ∷ bytes "NJJJJJ"
+    ∷ bytes "NJJJJJ"
+    ∷ bytes "NJJNJJ"
+    ∷ bytes "NNNNJJ"
+    ∷ []
+
+-- the status moves where the table has J
+unfoldable pub mayMove : ℕ → ℕ → Bool
+mayMove held said = eqb (getD (getD table17 held []) said 0) 74
+
+-- N keeps the held status
+abbrev pub statusAfter : ℕ → ℕ → ℕ
+statusAfter held said = on (mayMove held said) said held
+
+-- an optional that is absent keeps the held content
+abbrev pub keeps : ℕ → ℕ → ℕ
+keeps held said = on (eqb said kept) held said
+
+-- the update u replaces all but the key, and heard becomes 1; the status moves by table 17
+unfoldable pub applyRow : List ℕ → List ℕ → List ℕ
+applyRow held u =
+    set
+    (set
+    (set
+    (set (u ++ 1 ∷ []) status-at (statusAfter (statusOf held) (statusOf u)))
+    show-cancelled-at
+    (keeps (showCancelledOf held) (showCancelledOf u)))
+    flexible-at
+    (keeps (flexibleOf held) (flexibleOf u)))
+    monitored-at
+    (keeps (monitoredOf held) (monitoredOf u))
+
+-- a missing passage begins as PLANNED, show cancelled 1, flexible 0, monitored 0
+unfoldable pub beginning : List ℕ
+beginning = set (replicate row-wide 0) show-cancelled-at 1
+
+-- what is held, [] for nothing
+abbrev pub begun : List ℕ → List ℕ
+begun [] = beginning
+begun (b ∷ r) = b ∷ r
+
+-- the row rule: the row that the update u makes of the held row, or of none
+unfoldable pub rowRule : List ℕ → List ℕ → List ℕ
+rowRule held u = applyRow (begun held) u
