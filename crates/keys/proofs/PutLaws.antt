@@ -364,3 +364,25 @@ get-lookup k (s ∷ rs) = go (cmp (keyOf s) k) (get-lookup k rs)
 
 pub get-at : (k : List ℕ) (rs : List (List ℕ)) (f : Found) → lookup k rs ≡ f → get k rs ≡ getBy f rs
 get-at k rs f e = get-lookup k rs ∙ ap (λ (g : Found). getBy g rs) e
+
+-- the row at a place that is found has the key
+abbrev Has : List ℕ → Found → List (List ℕ) → Type 0
+Has k (At i) rs = keyOf (getD rs i []) ≡ k
+Has k (Missing i) rs = Unit {0}
+
+has-next : (k : List ℕ) (f : Found) (s : List ℕ) (rs : List (List ℕ)) → Has k f rs → Has k (next f) (s ∷ rs)
+has-next k (At i) s rs h = h
+has-next k (Missing i) s rs h = tt
+
+lookup-has : (k : List ℕ) (rs : List (List ℕ)) → Has k (lookup k rs) rs
+unfolding lookup lookupFrom
+lookup-has k [] = tt
+lookup-has k (s ∷ rs) = go (cases (cmp (keyOf s) k)) (lookup-has k rs)
+  where
+    go : Cases (cmp (keyOf s) k) → Has k (lookupFrom 0 k rs) rs → Has k (byOrder (cmp (keyOf s) k) (lookupFrom 1 k rs) (At 0) (Missing 0)) (s ∷ rs)
+    go (inl e) ih = rw (e, lookup-next 0 k rs) (has-next k (lookupFrom 0 k rs) s rs ih)
+    go (inr (inl e)) ih = rw e (cmp-same (keyOf s) k e)
+    go (inr (inr e)) ih = rw e tt
+
+pub found-key : (k : List ℕ) (rs : List (List ℕ)) (i : ℕ) → lookup k rs ≡ At i → keyOf (getD rs i []) ≡ k
+found-key k rs i e = rw e at (lookup-has k rs)

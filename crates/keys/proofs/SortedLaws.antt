@@ -2,10 +2,10 @@
 use mathlib.Core.Path.{_≡_, refl, ap, _∙_}
 use mathlib.Core.Bool.{true}
 use mathlib.Core.List.{List, [], _∷_, _++_}
-use Prim.Native.Nat.{ℕ, suc, _+_, _-_}
+use Prim.Native.Nat.{ℕ, zero, suc, _+_, _<_}
 use native.Mathlib.Nat.{add-zero, add-suc, suc-add}
 use native.Mathlib.Omega.{arith}
-use lib.ListN.{length}
+use lib.ListN.{length, getD}
 use Rattle.keys.specs.declared.Order.{Order}
 use Rattle.keys.specs.declared.Order.the-variants.{Less, Same, More}
 use Rattle.keys.specs.declared.Found.{Found}
@@ -97,3 +97,17 @@ lookup-right i k xs y ys h e = lookup-pass i k xs y ys h (λ a f. cmp-trans a (k
 pub lookup-here : (i : ℕ) (k : List ℕ) (xs : List (List ℕ)) (y : List ℕ) (ys : List (List ℕ)) → sortedRows (xs ++ y ∷ ys) ≡ true → cmp (keyOf y) k ≡ Same
     → lookupFrom i k (xs ++ y ∷ ys) ≡ At (i + length xs)
 lookup-here i k xs y ys h e = lookup-pass i k xs y ys h (λ a f. rw (← (cmp-same (keyOf y) k e)) f) ∙ lookup-same (i + length xs) k y ys e
+
+-- ---- neighbours
+
+pub sorted-pair : (rs : List (List ℕ)) (i : ℕ) → sortedRows rs ≡ true → i + 1 < length rs → cmp (keyOf (getD rs i [])) (keyOf (getD rs (i + 1) [])) ≡ Less
+sorted-pair [] i h l = absurd (omega arith)
+sorted-pair (r ∷ []) i h l = absurd (omega arith)
+sorted-pair (r ∷ s ∷ rs) zero h l = rises-head r s rs (sorted-rises r (s ∷ rs) h)
+sorted-pair (r ∷ s ∷ rs) (suc i) h l = rw (suc-add i 1) (sorted-pair (s ∷ rs) i (sorted-tail r (s ∷ rs) (sorted-rises r (s ∷ rs) h)) (omega arith))
+
+pub pairs-sorted : (rs : List (List ℕ)) → ((i : ℕ) → i + 1 < length rs → cmp (keyOf (getD rs i [])) (keyOf (getD rs (i + 1) [])) ≡ Less) → sortedRows rs ≡ true
+unfolding sortedRows risesFrom
+pairs-sorted [] f = refl
+pairs-sorted (r ∷ []) f = refl
+pairs-sorted (r ∷ s ∷ rs) f = rw (f 0 (omega arith)) (pairs-sorted (s ∷ rs) (λ i h. rw (suc-add i 1) at (f (suc i) (omega arith))))

@@ -1,0 +1,7 @@
+pub mod RowKeyLaws
+pub mod RowMoveLaws
+pub mod SoundLaws
+pub mod StoreTwiceLaws
+pub mod RunLaws
+pub mod Claims
+pub mod Determined

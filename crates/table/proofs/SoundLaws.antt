@@ -1,0 +1,166 @@
+-- Soundness of a table: what its loops pass, and what follows from it. Assumes nothing.
+use mathlib.Core.Path.{_≡_, refl, sym, _∙_}
+use mathlib.Core.Bool.{Bool, true, false}
+use mathlib.Core.List.{List, [], _∷_}
+use Prim.Native.Nat.{ℕ, zero, suc, _+_, _*_, _-_, _/_, _≤_, _<_}
+use native.Mathlib.Nat.{mul-le-mul-right, le-trans}
+use native.Mathlib.Omega.{arith}
+use borrow.Author.Tests.{le-leb, lt-leb, leb-true, leb-false}
+use lib.Dec.{leb}
+use lib.ListN.{length, drop}
+use Rattle.lists.specs.Logic.{on, both}
+use Rattle.lists.specs.Each.{Each}
+use Rattle.lists.specs.Part.{part}
+use Rattle.lists.specs.Rows.{rowsOf, Wide, store}
+use Rattle.lists.proofs.LogicLaws.{both-true}
+use Rattle.lists.proofs.RowLaws.{rowsOf-step, rowsOf-start}
+use Rattle.lists.proofs.StoreLaws.{rowsOf-store, length-store}
+use Rattle.passage.specs.Layout.{key-wide, row-wide}
+use Rattle.passage.specs.Ranges.{rowInRange}
+use Rattle.keys.specs.Keys.{cmp}
+use Rattle.keys.specs.Sorted.{isLess, risesFrom, sortedRows, put, remove}
+use Rattle.keys.proofs.CountLaws.{each-put, each-remove}
+use Rattle.table.specs.Rules.{most-rows, room, rows, allInRange, tableSound}
+use Rattle.table.proofs.RowKeyLaws.{key-part}
+
+-- ---- room
+
+module _ (t : List ℕ) where
+  pub room-all : length t / row-wide ≤ most-rows → room t ≡ length t / row-wide
+  unfolding room
+  room-all h = rw (le-leb (length t / row-wide) most-rows h)
+
+  pub room-cut : most-rows < length t / row-wide → room t ≡ most-rows
+  unfolding room
+  room-cut h = rw (lt-leb (length t / row-wide) most-rows h)
+
+  room-both : (room t ≤ most-rows) × (room t * row-wide ≤ length t)
+  unfolding room
+  room-both = go (leb (length t / row-wide) most-rows) refl
+    where
+      go : (b : Bool) → leb (length t / row-wide) most-rows ≡ b
+          → (on b (length t / row-wide) most-rows ≤ most-rows) × (on b (length t / row-wide) most-rows * row-wide ≤ length t)
+      go true e = (leb-true (length t / row-wide) most-rows e, omega arith)
+      go false e = let h = leb-false (length t / row-wide) most-rows e in (omega arith, omega arith)
+
+  pub room-most : room t ≤ most-rows
+  room-most = room-both .0
+
+  pub room-fits : room t * row-wide ≤ length t
+  room-fits = room-both .1
+
+-- and no fewer than that
+pub room-least : (n : ℕ) (t : List ℕ) → n ≤ most-rows → n * row-wide ≤ length t → n ≤ room t
+unfolding room
+room-least n t a b = go (leb (length t / row-wide) most-rows)
+  where
+    go : (c : Bool) → n ≤ on c (length t / row-wide) most-rows
+    go true = omega arith
+    go false = a
+
+-- the room follows from the length
+pub room-same : (t u : List ℕ) → length t ≡ length u → room t ≡ room u
+unfolding room
+room-same t u e = rw e
+
+-- ---- the loops: what is left from row i on
+
+module _ (n : ℕ) (t : List ℕ) where
+  abbrev pub rest : ℕ → List (List ℕ)
+  rest i = rowsOf row-wide (n - i) (drop (i * row-wide) t)
+
+  pub rest-start : rows n t ≡ rest 0
+  rest-start = rowsOf-start row-wide n t
+
+  pub range-step : (i : ℕ) → i < n → allInRange (rest i) ≡ both (rowInRange (part (i * row-wide) row-wide t)) (allInRange (rest (i + 1)))
+  unfolding allInRange
+  range-step i h = rw (rowsOf-step row-wide n i t h)
+
+  pub range-end : (i : ℕ) → n ≤ i → allInRange (rest i) ≡ true
+  unfolding allInRange rowsOf
+  range-end i h = let e : n - i ≡ 0 = omega arith in rw e
+
+  pub sorted-step : (i : ℕ) → i + 1 < n
+      → sortedRows (rest i) ≡ both (isLess (cmp (part (i * row-wide) key-wide t) (part (i * row-wide + row-wide) key-wide t))) (sortedRows (rest (i + 1)))
+  unfolding sortedRows risesFrom
+  sorted-step i h =
+      let a : i < n = omega arith in
+      let e : (i + 1) * row-wide ≡ i * row-wide + row-wide = omega arith in
+      rw (rowsOf-step row-wide n i t a, rowsOf-step row-wide n (i + 1) t h, key-part (i * row-wide) t, key-part ((i + 1) * row-wide) t, e)
+
+few-sorted : (m : ℕ) (t : List ℕ) → m ≤ 1 → sortedRows (rowsOf row-wide m t) ≡ true
+unfolding sortedRows risesFrom rowsOf
+few-sorted zero t h = refl
+few-sorted (suc zero) t h = refl
+few-sorted (suc (suc m)) t h = absurd (omega arith)
+
+pub sorted-end : (n : ℕ) (t : List ℕ) (i : ℕ) → n ≤ i + 1 → sortedRows (rest n t i) ≡ true
+sorted-end n t i h = few-sorted (n - i) (drop (i * row-wide) t) (omega arith)
+
+-- ---- each row is in its range
+
+abbrev pub InRange : List (List ℕ) → Type 0
+InRange rs = Each (λ (r : List ℕ). rowInRange r ≡ true) rs
+
+pub range-each : (rs : List (List ℕ)) → allInRange rs ≡ true → InRange rs
+unfolding allInRange
+range-each [] e = tt
+range-each (r ∷ rs) e = let b = both-true (rowInRange r) (allInRange rs) e in (b .0, range-each rs (b .1))
+
+pub each-range : (rs : List (List ℕ)) → InRange rs → allInRange rs ≡ true
+unfolding allInRange
+each-range [] h = refl
+each-range (r ∷ rs) h = rw (h .0) (each-range rs (h .1))
+
+pub range-put : (r : List ℕ) (rs : List (List ℕ)) → rowInRange r ≡ true → allInRange rs ≡ true → allInRange (put r rs) ≡ true
+range-put r rs p h = each-range (put r rs) (each-put (λ (x : List ℕ). rowInRange x ≡ true) r rs p (range-each rs h))
+
+pub range-remove : (k : List ℕ) (rs : List (List ℕ)) → allInRange rs ≡ true → allInRange (remove k rs) ≡ true
+range-remove k rs h = each-range (remove k rs) (each-remove (λ (x : List ℕ). rowInRange x ≡ true) k rs (range-each rs h))
+
+-- ---- what soundness is
+
+module _ (n : ℕ) (t : List ℕ) where
+  -- where there is no room
+  pub sound-over : room t < n → false ≡ tableSound n t
+  unfolding tableSound
+  sound-over h = rw (lt-leb n (room t) h)
+
+  -- where there is
+  pub sound-room : n ≤ room t → both (allInRange (rows n t)) (sortedRows (rows n t)) ≡ tableSound n t
+  unfolding tableSound
+  sound-room h = rw (le-leb n (room t) h)
+
+  pub room-holds : n ≤ room t → n * row-wide ≤ length t
+  room-holds h = le-trans (mul-le-mul-right row-wide h) (room-fits t)
+
+  pub sound-is : n ≤ room t → allInRange (rows n t) ≡ true → sortedRows (rows n t) ≡ true → tableSound n t ≡ true
+  sound-is h r s = sym (sound-room h) ∙ rw (r, s)
+
+  module _ (e : tableSound n t ≡ true) where
+    parts : (leb n (room t) ≡ true) × (both (allInRange (rows n t)) (sortedRows (rows n t)) ≡ true)
+    unfolding tableSound
+    parts = both-true (leb n (room t)) (both (allInRange (rows n t)) (sortedRows (rows n t))) e
+
+    pub sound-within : n ≤ room t
+    sound-within = leb-true n (room t) (parts .0)
+
+    pub sound-most : n ≤ most-rows
+    sound-most = le-trans sound-within (room-most t)
+
+    pub sound-fits : n * row-wide ≤ length t
+    sound-fits = room-holds sound-within
+
+    pub sound-range : allInRange (rows n t) ≡ true
+    sound-range = both-true (allInRange (rows n t)) (sortedRows (rows n t)) (parts .1) .0
+
+    pub sound-sorted : sortedRows (rows n t) ≡ true
+    sound-sorted = both-true (allInRange (rows n t)) (sortedRows (rows n t)) (parts .1) .1
+
+-- rows that are in their range, rise and have room are sound where they are stored
+pub sound-stored : (n : ℕ) (rs : List (List ℕ)) (t : List ℕ) → Wide row-wide rs → length rs ≤ room t → allInRange rs ≡ true → sortedRows rs ≡ true
+    → tableSound (length rs) (store row-wide n rs t) ≡ true
+sound-stored n rs t w h r s =
+    let back : rows (length rs) (store row-wide n rs t) ≡ rs = rowsOf-store row-wide n rs t w (room-holds (length rs) t h) in
+    let same : room (store row-wide n rs t) ≡ room t = room-same (store row-wide n rs t) t (length-store row-wide n rs t) in
+    sound-is (length rs) (store row-wide n rs t) (rw same h) (rw back r) (rw back s)

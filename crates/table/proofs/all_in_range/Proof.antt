@@ -1,0 +1,65 @@
+use Rattle.lists.specs.Logic.{both}
+use mathlib.Core.Path.{_≡_, sym, ap, _∙_}
+use Prim.Native.Nat.{_+_, _-_, _≤_}
+use native.Mathlib.Omega.{arith}
+use borrow.Author.Needs.{needs}
+use Rattle.table.specs.Rules.{rows, allInRange}
+use Rattle.table.proofs.SoundLaws.{rest, rest-start, range-step, range-end}
+use Rattle.table.proofs.all_in_range.Statement.{statement}
+use Rattle.table.proofs.all_in_range.Tie as tie
+
+abbrev Inv-loop : tie.InvT-loop
+Inv-loop t n i₀ i = (i ≤ n) × (allInRange (rows n t) ≡ allInRange (rest n t i))
+
+abbrev μ-loop : tie.MeasureT-loop
+μ-loop t n i₀ i = n - i
+
+loop-holds : tie.Need-loop-holds Inv-loop μ-loop
+loop-holds c = (search needs, ap allInRange (rest-start (c .before .args .n) (c .before .args .t .now)))
+
+mul-row-in-range : tie.Need-mul-row-in-range Inv-loop μ-loop
+mul-row-in-range c = search needs
+
+row-in-range-requires : tie.Need-row-in-range-requires Inv-loop μ-loop
+row-in-range-requires c κs = search needs
+
+add-i : tie.Need-add-i Inv-loop μ-loop
+add-i c = search needs
+
+loop-less : tie.Need-loop-less Inv-loop μ-loop
+loop-less c = search needs
+
+-- in a turn: the row decides, or else the rest
+step : (c : tie.After-row-in-range Inv-loop μ-loop) →
+    let s = c .before .before .before .before .args in
+    allInRange (rows (s .n) (s .t .now)) ≡ both (c .row-in-range .result) (allInRange (rest (s .n) (s .t .now) (c .before .before .loop .i + 1)))
+step c =
+    let s = c .before .before .before .before .args in
+    let i = c .before .before .loop .i in
+    c .before .before .loop .inv .1 ∙ range-step (s .n) (s .t .now) i (c .before .loop-test .taken) ∙ rw (← (c .row-in-range .ensures))
+
+loop-again : tie.Need-loop-again Inv-loop μ-loop
+loop-again c = (omega arith, step (c .before) ∙ rw (c .if1 .taken))
+
+returns : tie.Need-returns Inv-loop μ-loop
+returns c = rw (step (c .before), c .if1 .left)
+
+returns-2 : tie.Need-returns-2 Inv-loop μ-loop
+returns-2 c =
+    let s = c .before .before .before .args in
+    sym (c .before .loop .inv .1 ∙ range-end (s .n) (s .t .now) (c .before .loop .i) (c .loop-test .left))
+
+pub all-in-range-spec : {M : Type 1} → statement M
+all-in-range-spec =
+    tie.close
+    (tie.spec
+    Inv-loop
+    μ-loop
+    loop-holds
+    mul-row-in-range
+    row-in-range-requires
+    add-i
+    loop-less
+    loop-again
+    returns
+    returns-2)

@@ -1,0 +1,173 @@
+// The table: rows of passages, sorted by key, in lent bytes.
+ghost use mathlib.Core.Path.{_≡_};
+ghost use mathlib.Core.Bool.{true};
+ghost use Prim.Native.Nat.{_+_, _*_, _<_, _≤_};
+ghost use lib.ListN.{length, set};
+ghost use Rattle.lists.specs.Part.{part};
+ghost use Rattle.lists.specs.Rows.{insertAt, removeAt, store};
+ghost use Rattle.passage.specs.Layout.{keyOf, key-wide, row-wide};
+ghost use Rattle.keys.specs.Keys.{cmp};
+ghost use Rattle.keys.specs.Sorted.{isLess, sortedRows, lookup, put, remove};
+ghost use Rattle.table.specs.Rules.{rows, room, allInRange, tableSound};
+
+// The most rows that a table has.
+pub const MOST_ROWS: usize = 2048;
+
+// How many rows the lent bytes have room for.
+pub fn rows_room(t: &[u8]) -> usize
+    ensures { λ r. ⌜ r ≡ room (now (t .entry)) ⌝ }
+{
+    let fit = t.len() / passage::ROW_WIDE;
+    if fit <= MOST_ROWS { fit } else { MOST_ROWS }
+}
+
+// Where the key at q of k stands among the first n rows, or where its row would be put.
+pub fn find(t: &[u8], n: usize, k: &[u8], q: usize) -> keys::Found
+    requires { ⌜ (n * row-wide ≤ length (now t)) × (q + key-wide ≤ length (now k)) ⌝ }
+    requires { ⌜ sortedRows (rows n (now t)) ≡ true ⌝ }
+    ensures { λ r. ⌜ r ≡ lookup (part q key-wide (now (k .entry))) (rows n (now (t .entry))) ⌝ }
+{
+    let mut lo = 0;
+    let mut hi = n;
+    while lo < hi {
+        let mid = lo + (hi - lo) / 2;
+        let o = keys::compare_key(t, mid * passage::ROW_WIDE, k, q);
+        match o {
+            keys::Order::Less => {
+                lo = mid + 1;
+            }
+            keys::Order::Same => {
+                return keys::Found::At(mid);
+            }
+            keys::Order::More => {
+                hi = mid;
+            }
+        }
+    }
+    keys::Found::Missing(lo)
+}
+
+// The row r is put in at place i of n rows.
+pub fn insert_row(t: &mut [u8], n: usize, i: usize, r: &[u8])
+    requires { ⌜ (i ≤ n) × ((n + 1) * row-wide ≤ length (now t)) × (length (now r) ≡ row-wide) ⌝ }
+    ensures { λ _. ⌜ now (t .exit) ≡ store row-wide n (insertAt i (now (r .entry)) (rows n (now (t .entry)))) (now (t .entry)) ⌝ }
+{
+    let place = i * passage::ROW_WIDE;
+    lists::shift_up(t, place, n * passage::ROW_WIDE, passage::ROW_WIDE);
+    lists::copy_to(t, place, r);
+}
+
+// The row r takes the place of row i of n rows.
+pub fn replace_row(t: &mut [u8], n: usize, i: usize, r: &[u8])
+    requires { ⌜ (i < n) × (n * row-wide ≤ length (now t)) × (length (now r) ≡ row-wide) ⌝ }
+    ensures { λ _. ⌜ now (t .exit) ≡ store row-wide n (set (rows n (now (t .entry))) i (now (r .entry))) (now (t .entry)) ⌝ }
+{
+    lists::copy_to(t, i * passage::ROW_WIDE, r);
+}
+
+// Row i of n rows leaves, and the bytes of the last become zero.
+fn remove_row(t: &mut [u8], n: usize, i: usize)
+    requires { ⌜ (i < n) × (n * row-wide ≤ length (now t)) ⌝ }
+    ensures { λ _. ⌜ now (t .exit) ≡ store row-wide n (removeAt i (rows n (now (t .entry)))) (now (t .entry)) ⌝ }
+{
+    let a = i * passage::ROW_WIDE;
+    let behind = (n - 1 - i) * passage::ROW_WIDE;
+    lists::shift_down(t, a, behind, passage::ROW_WIDE);
+    lists::clear(t, a + behind, passage::ROW_WIDE);
+}
+
+// The row r is put in by its key, or takes the place of the row with its key; the new count.
+pub fn put_row(t: &mut [u8], n: usize, r: &[u8]) -> usize
+    requires { ⌜ (n * row-wide ≤ length (now t)) × (length (put (now r) (rows n (now t))) * row-wide ≤ length (now t)) × (length (now r) ≡ row-wide) ⌝ }
+    requires { ⌜ sortedRows (rows n (now t)) ≡ true ⌝ }
+    ensures { λ m. ⌜ m ≡ length (put (now (r .entry)) (rows n (now (t .entry)))) ⌝ }
+    ensures { λ _. ⌜ now (t .exit) ≡ store row-wide n (put (now (r .entry)) (rows n (now (t .entry)))) (now (t .entry)) ⌝ }
+{
+    let f = find(t, n, r, 0);
+    match f {
+        keys::Found::At(i) => {
+            replace_row(t, n, i, r);
+            n
+        }
+        keys::Found::Missing(i) => {
+            insert_row(t, n, i, r);
+            n + 1
+        }
+    }
+}
+
+// The row of the key at q of k leaves, if there is one; the new count.
+pub fn remove_key(t: &mut [u8], n: usize, k: &[u8], q: usize) -> usize
+    requires { ⌜ (n * row-wide ≤ length (now t)) × (q + key-wide ≤ length (now k)) ⌝ }
+    requires { ⌜ sortedRows (rows n (now t)) ≡ true ⌝ }
+    ensures { λ m. ⌜ m ≡ length (remove (part q key-wide (now (k .entry))) (rows n (now (t .entry)))) ⌝ }
+    ensures { λ _. ⌜ now (t .exit) ≡ store row-wide n (remove (part q key-wide (now (k .entry))) (rows n (now (t .entry)))) (now (t .entry)) ⌝ }
+{
+    let f = find(t, n, k, q);
+    match f {
+        keys::Found::At(i) => {
+            remove_row(t, n, i);
+            n - 1
+        }
+        keys::Found::Missing(_) => n,
+    }
+}
+
+// Whether each of the first n rows is in its range.
+fn all_in_range(t: &[u8], n: usize) -> bool
+    requires { ⌜ n * row-wide ≤ length (now t) ⌝ }
+    ensures { λ r. ⌜ r ≡ allInRange (rows n (now (t .entry))) ⌝ }
+{
+    let mut i = 0;
+    while i < n {
+        let good = passage::row_in_range(t, i * passage::ROW_WIDE);
+        if good {
+            i += 1;
+        } else {
+            return false;
+        }
+    }
+    true
+}
+
+// Whether the key of the row at a is below that of the row behind it.
+fn in_order(t: &[u8], a: usize) -> bool
+    requires { ⌜ a + row-wide + row-wide ≤ length (now t) ⌝ }
+    ensures { λ r. ⌜ r ≡ isLess (cmp (part a key-wide (now (t .entry))) (part (a + row-wide) key-wide (now (t .entry)))) ⌝ }
+{
+    let o = keys::compare_key(t, a, t, a + passage::ROW_WIDE);
+    match o {
+        keys::Order::Less => true,
+        keys::Order::Same => false,
+        keys::Order::More => false,
+    }
+}
+
+// Whether the keys of the first n rows rise.
+fn is_sorted(t: &[u8], n: usize) -> bool
+    requires { ⌜ n * row-wide ≤ length (now t) ⌝ }
+    ensures { λ r. ⌜ r ≡ sortedRows (rows n (now (t .entry))) ⌝ }
+{
+    let mut i = 0;
+    while i + 1 < n {
+        let good = in_order(t, i * passage::ROW_WIDE);
+        if good {
+            i += 1;
+        } else {
+            return false;
+        }
+    }
+    true
+}
+
+// Whether n rows have room, each is in its range, and their keys rise: any t and n.
+pub fn table_is_sound(t: &[u8], n: usize) -> bool
+    ensures { λ r. ⌜ r ≡ tableSound n (now (t .entry)) ⌝ }
+{
+    let most = rows_room(t);
+    if most < n {
+        return false;
+    }
+    let good = all_in_range(t, n);
+    if good { is_sorted(t, n) } else { false }
+}
