@@ -20,11 +20,11 @@ use Rattle.turbo.specs.declared.Mark.{Mark}
 use Rattle.turbo.specs.declared.Mark.the-variants as Marks
 use Rattle.turbo.specs.Split.{lines, markOf}
 use Rattle.cells.specs.declared.Table.{Table}
-use Rattle.cells.specs.declared.Table.the-variants.{Message}
+use Rattle.cells.specs.declared.Table.the-variants.{Message, Planning, Calendar}
 use Rattle.cells.specs.Tables.{rowOf}
 use Rattle.passage.specs.Register.{grants}
 use Rattle.passage.proofs.RegisterLaws.{grants-desk}
-use Rattle.reader.proofs.BoundLaws.{rows-bounded}
+use Rattle.reader.proofs.BoundLaws.{message-bounded, planning-bounded, calendar-bounded}
 use Rattle.reader.specs.declared.Answer.the-variants.{TooLong, Form, Field, Owner, Rows}
 use Rattle.reader.specs.Items.{Item, head, row, Place, outside, awaiting, under, after, seen, before, items}
 use Rattle.reader.specs.Rules.{largest, formBad, isWrong, wrongAt, ownerBad, lineOf, firstLine, rowsUpTo, settled, answerTo, itemsOf, bySyntax, bySyntaxStaged, readingOf, stagedBy, laid}
@@ -103,7 +103,7 @@ module _ (t : Table) (register : List ℕ) (sender : ℕ) (d : List ℕ) where
       let m = items-numbered t outside 1 (lines d) (omega arith) in
       (none-first (formBad t) its m (k .0), not-wrong t its (none-first (isWrong t) its m (k .1)), none-first (ownerBad t register sender) its m (k .2), k .3)
 
-  reading-looked : (n : ℕ) → readingOf t register sender d ≡ Rows n → (length d ≤ largest) × (fault d ≡ Verdicts.Fine) × (answerTo t register sender its ≡ Rows n)
+  pub reading-looked : (n : ℕ) → readingOf t register sender d ≡ Rows n → (length d ≤ largest) × (fault d ≡ Verdicts.Fine) × (answerTo t register sender its ≡ Rows n)
   unfolding readingOf
   reading-looked n = go (ltb largest (length d)) (fault d) refl refl
     where
@@ -161,10 +161,19 @@ area-length t register sender d staging = go (ltb largest (length d)) (fault d)
     go false Verdicts.Fine = length-over 0 _ staging
     go false (Verdicts.FaultAt i) = refl
 
+-- few rows of a table whose rows are bounded
+module _ (t : Table) (register : List ℕ) (sender least : ℕ) (bounded : (d : List ℕ) → length (rowsUpTo t register sender (itemsOf t d)) * least ≤ length d + 2) where
+  few-rows : (d : List ℕ) (n : ℕ) → readingOf t register sender d ≡ Rows n → (n * least ≤ length d + 2) × (length d ≤ largest)
+  few-rows d n e =
+      let c = rows-counted t register sender d n e in
+      let b : length (rowsUpTo t register sender (itemsOf t d)) * least ≤ length d + 2 = bounded d in
+      (rw (← c) at b, reading-looked t register sender d n e .0)
+
 pub rows-few : (register : List ℕ) (sender : ℕ) (d : List ℕ) (n : ℕ) → readingOf Message register sender d ≡ Rows n → (n * 27 ≤ length d + 2) × (n ≤ 2427)
-rows-few register sender d n e =
-    let k = reading-looked Message register sender d n e .0 in
-    let c = rows-counted Message register sender d n e in
-    let b : length (rowsUpTo Message register sender (itemsOf Message d)) * 27 ≤ length d + 2 = rows-bounded register sender d in
-    let m : n * 27 ≤ length d + 2 = rw (← c) at b in
-    (m, omega arith)
+rows-few register sender d n e = let f = few-rows Message register sender 27 (message-bounded register sender) d n e in (f .0, omega arith)
+
+pub planning-few : (d : List ℕ) (n : ℕ) → readingOf Planning [] 0 d ≡ Rows n → (n * 10 ≤ length d + 2) × (n ≤ 6553)
+planning-few d n e = let f = few-rows Planning [] 0 10 (planning-bounded [] 0) d n e in (f .0, omega arith)
+
+pub calendar-few : (d : List ℕ) (n : ℕ) → readingOf Calendar [] 0 d ≡ Rows n → (n * 12 ≤ length d + 2) × (n ≤ 5461)
+calendar-few d n e = let f = few-rows Calendar [] 0 12 (calendar-bounded [] 0) d n e in (f .0, omega arith)

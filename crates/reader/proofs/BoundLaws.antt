@@ -1,35 +1,40 @@
 use Prim.Native.Nat.{ℕ, zero, suc, _+_, _*_, _-_, _≤_, _<_}
-use native.Mathlib.Decide.{decLt}
+use Prim.Native.String.{String}
+use native.Mathlib.Decide.{ℕ-discrete, decLt}
 use native.Mathlib.Omega.{arith}
-use mathlib.Core.Path.{_≡_, refl, ap, _∙_}
+use native.Mathlib.Nat.{zero-mul, suc-mul}
+use mathlib.Core.Path.{_≡_, refl, sym, ap, _∙_}
 use mathlib.Core.Bool.{Bool, true, false, not}
 use mathlib.Core.List.{List, [], _∷_}
-use borrow.Author.Tests.{eqb-true}
+use mathlib.Core.Logic.{_⊎_, inl, inr, ⊎-elim}
+use borrow.Author.Tests.{ne-eqb, eqb-true}
 use lib.Dec.{eqb}
 use lib.ListN.{length, drop, length-drop}
 use Rattle.lists.specs.Logic.{on, both}
-use Rattle.lists.proofs.LogicLaws.{both-true, both-false}
-use Rattle.fields.specs.declared.Number.{Number}
-use Rattle.fields.specs.Digits.{given as numberGiven}
-use Rattle.fields.specs.Stamps.{stamp, stampShape}
+use Rattle.lists.specs.Text.{bytes, same}
+use Rattle.lists.proofs.LogicLaws.{both-false}
+use Rattle.lists.proofs.TextLaws.{same-equal}
+use Rattle.fields.specs.Dates.{date}
+use Rattle.fields.specs.Times.{time}
+use Rattle.fields.specs.Stamps.{stamp}
+use Rattle.fields.proofs.TripleLaws.{triple-length, clock-other}
 use Rattle.turbo.specs.declared.Mark.{Mark}
 use Rattle.turbo.specs.declared.Mark.the-variants as Marks
 use Rattle.turbo.specs.Split.{until, past, tailAt, fields, fieldAt, lines, markOf, afterMark}
 use Rattle.turbo.specs.Columns.{place}
 use Rattle.turbo.proofs.SplitLaws.{until-le, past-drop, field-tail, lines-cons, lines-none}
 use Rattle.cells.specs.declared.Table.{Table}
-use Rattle.cells.specs.declared.Table.the-variants.{Message}
-use Rattle.cells.specs.Cell.{cell, numberCell, some}
+use Rattle.cells.specs.declared.Table.the-variants.{Message, Planning, Calendar}
+use Rattle.cells.specs.Cell.{null, missing, cell, numberCell, timeCell, timeAt, some}
 use Rattle.cells.specs.Cell as Cell
 use Rattle.cells.specs.Layout.{columnAt}
+use Rattle.cells.specs.Tables.{must, cellAt, stopPlace, wrongColumn, rowOf, columnsIn, messageColumns, planningColumns, calendarColumns}
 use Rattle.rows.proofs.RowLaws.{all-right}
-use Rattle.reader.proofs.RangeLaws.{must-cell}
-use Rattle.lists.specs.Text.{bytes}
-use Rattle.cells.specs.Tables.{stopPlace, wrongColumn, rowOf, columnsIn, messageColumns}
+use Rattle.reader.proofs.HeldLaws.{must-cell}
 use Rattle.reader.specs.Items.{Item, head, row, Place, outside, awaiting, under, after, seen, before, items}
 use Rattle.reader.specs.Rules.{formBad, ownerBad, rowsUpTo, itemsOf, fine}
 
--- How many rows a dossier can give: each row's line holds a stamp of 25 bytes, and ends in two. Assumes nothing.
+-- How many rows a dossier can give: each row's line holds a stamp, a time or a date, and ends in two bytes. Assumes nothing.
 
 -- a line's bytes with its line end
 abbrev weights : List (List ℕ) → ℕ
@@ -71,61 +76,129 @@ lines-weigh (suc n) d h = go (decLt 0 (length d)) (decLt 0 (length (drop 1 (past
 
 -- ---- a row's line
 
-given-some : (b : Bool) (x : Number) → some (numberCell 4 (numberGiven b x)) ≡ true → b ≡ true
-given-some true x e = refl
-given-some false x e = absurd (let z : _≡_ {A = ℕ} 0 1 = cc in omega arith)
+-- a field of which something is kept has this length, if nothing is kept of others
+length-kept : (kept : List ℕ) (n : ℕ) (f : List ℕ) → ((length f ≡ n → ⊥) → kept ≡ []) → some kept ≡ true → length f ≡ n
+length-kept kept n f none e = go (ℕ-discrete (length f) n)
+  where
+    go : Dec (length f ≡ n) → length f ≡ n
+    go (yes h) = h
+    go (no h) = let k = ap some (none h) in absurd (let z : _≡_ {A = ℕ} 0 1 = cc in omega arith)
 
--- a stamp has 25 bytes
+-- a stamp has 25 bytes, a date ten, a time eight
 stamp-long : (s f : List ℕ) → some (cell Cell.stamp s f) ≡ true → length f ≡ 25
 unfolding cell stamp
-stamp-long s f e = eqb-true _ _ (both-true (eqb (length f) 25) _ (given-some (stampShape f) _ e) .0)
+stamp-long s f = length-kept (numberCell 4 (stamp f)) 25 f (λ h. rw (ne-eqb (length f) 25 h))
+
+date-long : (s f : List ℕ) → some (cell Cell.date s f) ≡ true → length f ≡ 10
+unfolding cell date
+date-long s f = length-kept (numberCell 4 (date f)) 10 f (λ h. rw (← (triple-length 4 45 f h)))
+
+time-long : (f : List ℕ) → some (timeCell (time f)) ≡ true → length f ≡ 8
+unfolding time
+time-long f = length-kept (timeCell (time f)) 8 f (λ h. rw (← (clock-other 31 f (triple-length 2 58 f h))))
+
+-- a time that is not missing has eight
+timed-long : (word s f : List ℕ) → some (timeAt word s f) ≡ true → (length f ≡ 8) ⊎ (s ≡ word)
+timed-long word s f = go (same f null) (same s word) refl
+  where
+    go : (b c : Bool) → same s word ≡ c → some (on b (on c missing []) (timeCell (time f))) ≡ true → (length f ≡ 8) ⊎ (s ≡ word)
+    go true true q e = inr (same-equal s word q)
+    go true false q e = absurd (let z : _≡_ {A = ℕ} 0 1 = cc in omega arith)
+    go false c q e = inl (time-long f e)
+
+-- no stop is both first and last
+not-both : (s : List ℕ) → s ≡ bytes "FIRST" → s ≡ bytes "LAST" → ⊥
+not-both s e f = let z : _≡_ {A = ℕ} 5 4 = sym (ap length e) ∙ ap length f in omega arith
+
+times-long : (s f g : List ℕ) → some (cell Cell.arrival s f) ≡ true → some (cell Cell.departure s g) ≡ true → (length f ≡ 8) ⊎ (length g ≡ 8)
+unfolding cell
+times-long s f g a b =
+    ⊎-elim inl (λ e. ⊎-elim inr (λ k. absurd (not-both s e k)) (timed-long (bytes "LAST") s g b)) (timed-long (bytes "FIRST") s f a)
+
+-- something is kept of a column that must be there
+right :
+    (ls : List (List ℕ)) (l : List ℕ) (name : String) (k : ℕ) → some (cellAt (length ls) (stopPlace ls) l (must name k) (place (bytes name) ls)) ≡ true
+    → some (cell k (fieldAt (stopPlace ls) l) (fieldAt (place (bytes name) ls) l)) ≡ true
+right ls l name k e = must-cell (length ls) (stopPlace ls) l name k (place (bytes name) ls) e .1
 
 -- the ninth column of a message is its stamp
-row-long : (ls : List (List ℕ)) (l : List ℕ) → wrongColumn Message ls l ≡ 0 → 25 ≤ length l
+message-long : (ls : List (List ℕ)) (l : List ℕ) → wrongColumn Message ls l ≡ 0 → 27 ≤ length l + 2
 unfolding columnsIn messageColumns columnAt
-row-long ls l e =
-    let p = place (bytes "LastUpdateTimeStamp") ls in
-    let m = must-cell (length ls) (stopPlace ls) l "LastUpdateTimeStamp" Cell.stamp p (all-right Message ls l e 8 (omega arith)) in
-    omega (arith, field-shorter p l, stamp-long (fieldAt (stopPlace ls) l) (fieldAt p l) (m .1))
+message-long ls l e =
+    let m = right ls l "LastUpdateTimeStamp" Cell.stamp (all-right Message ls l e 8 (omega arith)) in
+    omega (arith, field-shorter (place (bytes "LastUpdateTimeStamp") ls) l, stamp-long _ _ m)
 
--- ---- the rows of a message
+-- the ninth and tenth of a planning are its times
+planning-long : (ls : List (List ℕ)) (l : List ℕ) → wrongColumn Planning ls l ≡ 0 → 10 ≤ length l + 2
+unfolding columnsIn planningColumns columnAt
+planning-long ls l e =
+    let a = right ls l "TargetArrivalTime" Cell.arrival (all-right Planning ls l e 8 (omega arith)) in
+    let b = right ls l "TargetDepartureTime" Cell.departure (all-right Planning ls l e 9 (omega arith)) in
+    ⊎-elim
+    (λ h. omega (arith, field-shorter (place (bytes "TargetArrivalTime") ls) l, h))
+    (λ h. omega (arith, field-shorter (place (bytes "TargetDepartureTime") ls) l, h))
+    (times-long _ _ _ a b)
 
-on-weigh : (b : Bool) (rs : List (List ℕ)) (n : ℕ) → length rs * 27 ≤ n → length (on b rs []) * 27 ≤ n
-on-weigh true rs n h = h
-on-weigh false rs n h = omega arith
+-- the third of a calendar is its date
+calendar-long : (ls : List (List ℕ)) (l : List ℕ) → wrongColumn Calendar ls l ≡ 0 → 12 ≤ length l + 2
+unfolding columnsIn calendarColumns columnAt
+calendar-long ls l e =
+    let m = right ls l "OperationDate" Cell.date (all-right Calendar ls l e 2 (omega arith)) in
+    omega (arith, field-shorter (place (bytes "OperationDate") ls) l, date-long _ _ m)
 
-head-weigh : (register : List ℕ) (sender n : ℕ) (l : List ℕ) (xs : List Item) (w : ℕ) → length (rowsUpTo Message register sender xs) * 27 ≤ w
-    → length (rowsUpTo Message register sender (head n (fields (afterMark l)) ∷ xs)) * 27 ≤ length l + 2 + w
-unfolding rowsUpTo
-head-weigh register sender n l xs w h =
-    on-weigh (fine Message register sender (head n (fields (afterMark l)))) (rowsUpTo Message register sender xs) (length l + 2 + w) (omega arith)
+-- ---- the rows of a dossier, each of at least `least` bytes with its line end
 
-row-weigh : (register : List ℕ) (sender n : ℕ) (fs : List (List ℕ)) (l : List ℕ) (xs : List Item) (w : ℕ) → length (rowsUpTo Message register sender xs) * 27 ≤ w
-    → length (rowsUpTo Message register sender (row n fs l ∷ xs)) * 27 ≤ length l + 2 + w
-unfolding rowsUpTo
-row-weigh register sender n fs l xs w h = go (eqb (wrongColumn Message fs l) 0) refl
-  where
-    go : (b : Bool) → eqb (wrongColumn Message fs l) 0 ≡ b
-        → length (on (both (not (formBad Message (row n fs l))) (both (not (not b)) (not (ownerBad Message register sender (row n fs l))))) (rowOf Message fs l ∷ rowsUpTo Message register sender xs) []) * 27 ≤ length l + 2 + w
-    go true e = on-weigh (both (not (formBad Message (row n fs l))) (both true (not (ownerBad Message register sender (row n fs l))))) (rowOf Message fs l ∷ rowsUpTo Message register sender xs) (length l + 2 + w) (let k = row-long fs l (eqb-true _ _ e) in omega arith)
-    go false e = rw (both-false (not (formBad Message (row n fs l)))) (omega arith)
+module _ (t : Table) (least : ℕ) (long : (ls : List (List ℕ)) (l : List ℕ) → wrongColumn t ls l ≡ 0 → least ≤ length l + 2) (register : List ℕ) (sender : ℕ) where
+  abbrev bytesOf : List (List ℕ) → ℕ
+  bytesOf rs = length rs * least
 
-rows-weigh : (register : List ℕ) (sender : ℕ) (p : Place) (n : ℕ) (ls : List (List ℕ)) → length (rowsUpTo Message register sender (items Message p n ls)) * 27 ≤ weights ls
-unfolding items rowsUpTo
-rows-weigh register sender p n [] = omega arith
-rows-weigh register sender p n (l ∷ ls) = go (markOf l) p (rows-weigh register sender (after Message (markOf l) l p) (suc n) ls)
-  where
-    go : (m : Mark) (p : Place) → length (rowsUpTo Message register sender (items Message (after Message m l p) (suc n) ls)) * 27 ≤ weights ls
-        → length (rowsUpTo Message register sender (before (seen m n l p) (items Message (after Message m l p) (suc n) ls))) * 27 ≤ length l + 2 + weights ls
-    go Marks.Group p h = omega arith
-    go Marks.Table p h = omega arith
-    go Marks.Labels outside h = omega arith
-    go Marks.Labels awaiting h = head-weigh register sender n l (items Message (after Message Marks.Labels l awaiting) (suc n) ls) (weights ls) h
-    go Marks.Labels (under fs) h = omega arith
-    go Marks.Data outside h = omega arith
-    go Marks.Data awaiting h = omega arith
-    go Marks.Data (under fs) h = row-weigh register sender n fs l (items Message (under fs) (suc n) ls) (weights ls) h
+  abbrev staged : List Item → List (List ℕ)
+  staged xs = rowsUpTo t register sender xs
 
--- a message's rows, 27 bytes each, are no more than its bytes and two
-pub rows-bounded : (register : List ℕ) (sender : ℕ) (d : List ℕ) → length (rowsUpTo Message register sender (itemsOf Message d)) * 27 ≤ length d + 2
-rows-bounded register sender d = let a = rows-weigh register sender outside 1 (lines d) in let b = lines-weigh (length d) d (omega arith) in omega arith
+  on-weigh : (b : Bool) (rs : List (List ℕ)) (n : ℕ) → bytesOf rs ≤ n → bytesOf (on b rs []) ≤ n
+  on-weigh true rs n h = h
+  on-weigh false rs n h = rw (zero-mul least) (omega arith)
+
+  head-weigh : (n : ℕ) (l : List ℕ) (xs : List Item) (w : ℕ) → bytesOf (staged xs) ≤ w → bytesOf (staged (head n (fields (afterMark l)) ∷ xs)) ≤ length l + 2 + w
+  unfolding rowsUpTo
+  head-weigh n l xs w h = on-weigh (fine t register sender (head n (fields (afterMark l)))) (staged xs) (length l + 2 + w) (omega arith)
+
+  row-weigh : (n : ℕ) (fs : List (List ℕ)) (l : List ℕ) (xs : List Item) (w : ℕ) → bytesOf (staged xs) ≤ w → bytesOf (staged (row n fs l ∷ xs)) ≤ length l + 2 + w
+  unfolding rowsUpTo
+  row-weigh n fs l xs w h = go (eqb (wrongColumn t fs l) 0) refl
+    where
+      go : (b : Bool) → eqb (wrongColumn t fs l) 0 ≡ b
+          → bytesOf (on (both (not (formBad t (row n fs l))) (both (not (not b)) (not (ownerBad t register sender (row n fs l))))) (rowOf t fs l ∷ staged xs) []) ≤ length l + 2 + w
+      go true e =
+          on-weigh (both (not (formBad t (row n fs l))) (both true (not (ownerBad t register sender (row n fs l))))) (rowOf t fs l ∷ staged xs) (length l + 2 + w)
+          (omega (arith, long fs l (eqb-true _ _ e), suc-mul (length (staged xs)) least))
+      go false e = rw (both-false (not (formBad t (row n fs l))), zero-mul least) (omega arith)
+
+  rows-weigh : (p : Place) (n : ℕ) (ls : List (List ℕ)) → bytesOf (staged (items t p n ls)) ≤ weights ls
+  unfolding items rowsUpTo
+  rows-weigh p n [] = rw (zero-mul least) (omega arith)
+  rows-weigh p n (l ∷ ls) = go (markOf l) p (rows-weigh (after t (markOf l) l p) (suc n) ls)
+    where
+      go : (m : Mark) (p : Place) → bytesOf (staged (items t (after t m l p) (suc n) ls)) ≤ weights ls
+          → bytesOf (staged (before (seen m n l p) (items t (after t m l p) (suc n) ls))) ≤ length l + 2 + weights ls
+      go Marks.Group p h = omega arith
+      go Marks.Table p h = omega arith
+      go Marks.Labels outside h = omega arith
+      go Marks.Labels awaiting h = head-weigh n l (items t (after t Marks.Labels l awaiting) (suc n) ls) (weights ls) h
+      go Marks.Labels (under fs) h = omega arith
+      go Marks.Data outside h = omega arith
+      go Marks.Data awaiting h = omega arith
+      go Marks.Data (under fs) h = row-weigh n fs l (items t (under fs) (suc n) ls) (weights ls) h
+
+  -- the rows, so many bytes each, are no more than the dossier's bytes and two
+  rows-bounded : (d : List ℕ) → bytesOf (staged (itemsOf t d)) ≤ length d + 2
+  rows-bounded d = let a = rows-weigh outside 1 (lines d) in let b = lines-weigh (length d) d (omega arith) in omega arith
+
+pub message-bounded : (register : List ℕ) (sender : ℕ) (d : List ℕ) → length (rowsUpTo Message register sender (itemsOf Message d)) * 27 ≤ length d + 2
+message-bounded = rows-bounded Message 27 message-long
+
+pub planning-bounded : (register : List ℕ) (sender : ℕ) (d : List ℕ) → length (rowsUpTo Planning register sender (itemsOf Planning d)) * 10 ≤ length d + 2
+planning-bounded = rows-bounded Planning 10 planning-long
+
+pub calendar-bounded : (register : List ℕ) (sender : ℕ) (d : List ℕ) → length (rowsUpTo Calendar register sender (itemsOf Calendar d)) * 12 ≤ length d + 2
+calendar-bounded = rows-bounded Calendar 12 calendar-long

@@ -6,8 +6,12 @@ pub mod StageLaws
 pub mod ReadLaws
 pub mod LinesLaws
 pub mod LookLaws
+pub mod EachRowLaws
+pub mod HeldLaws
 pub mod RangeLaws
+pub mod PlanRangeLaws
 pub mod BoundLaws
 pub mod AnswerLaws
+pub mod StagedLaws
 pub mod Claims
 pub mod Determined

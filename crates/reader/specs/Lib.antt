@@ -1,5 +1,6 @@
 pub mod Items
 pub mod Rules
+pub mod Staged
 pub mod Claims
 pub mod Step
 pub mod Cases

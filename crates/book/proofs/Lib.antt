@@ -1,0 +1,16 @@
+pub mod TestLaws
+pub mod PlaceLaws
+pub mod PlanLaws
+pub mod ChainLaws
+pub mod SoundLaws
+pub mod WriteLaws
+pub mod FindLaws
+pub mod NumberLaws
+pub mod SplitLaws
+pub mod MessageLaws
+pub mod ChangeLaws
+pub mod AfterLaws
+pub mod StandingLaws
+pub mod HeldLaws
+pub mod Claims
+pub mod Determined

@@ -1,0 +1,100 @@
+-- What is claimed of the rules of this crate, for any used bytes and any book. Assumes nothing.
+use mathlib.Core.Path.{_≡_}
+use mathlib.Core.Bool.{true}
+use mathlib.Core.List.{List, [], _++_, map}
+use Prim.Native.Nat.{ℕ, suc, _+_, _*_, _≤_, _<_}
+use lib.ListN.{length, take, drop, getD}
+use Rattle.lists.specs.Each.{Each}
+use Rattle.lists.specs.Part.{over}
+use Rattle.lists.specs.Rows.{rowsOf, flat}
+use Rattle.passage.specs.Layout.{body-wide}
+use Rattle.passage.specs.Ranges.{planInRange, updateInRange}
+use Rattle.keys.specs.Sorted.{sortedRows}
+use Rattle.book.specs.declared.Held.the-variants.{Nowhere, At}
+use Rattle.book.specs.Entries.{plan-wide, entry-wide, kindOf, numberOf, senderOf, planEntry, entriesOf, planCount, plansIn, updatesIn, planBodies}
+use Rattle.book.specs.Rules.{bookRoom, bookSound, nextNumber, messageEntries, marked, withdrawn, others, firstOf, standing}
+use Rattle.book.specs.Held.{heldAs}
+
+-- plan entries first, then updates, nothing between
+abbrev pub SplitWhole : Type 0
+SplitWhole = (used : ℕ) (b : List ℕ) → bookSound used b ≡ true → take used b ≡ flat (plansIn used b) ++ flat (updatesIn used b)
+
+-- the bodies of a message
+abbrev pub UpdateBodies : List (List ℕ) → Type 0
+UpdateBodies bodies = Each (λ (u : List ℕ). (length u ≡ body-wide) × (updateInRange u ≡ true)) bodies
+
+-- a message's entries, written behind the used bytes with the next number, leave a sound book with the same plan, and with these updates behind the others
+abbrev pub AfterMessage : Type 0
+AfterMessage =
+    (used : ℕ) (b : List ℕ) (sender : ℕ) (bodies : List (List ℕ)) →
+    bookSound used b ≡ true →
+    UpdateBodies bodies →
+    1 ≤ sender →
+    used + length bodies * entry-wide ≤ bookRoom b →
+    let new = entriesOf (nextNumber (updatesIn used b)) sender bodies in
+    let more = used + length bodies * entry-wide in
+    let after = over used (flat new) b in
+    (bookSound more after ≡ true)
+    × (plansIn more after ≡ plansIn used b)
+    × (planBodies more after ≡ planBodies used b)
+    × (updatesIn more after ≡ updatesIn used b ++ new)
+
+-- with kind 3 written at the entries of message n, the book is sound, the plan is the same, and of the updates that message is withdrawn
+abbrev pub AfterWithdrawal : Type 0
+AfterWithdrawal =
+    (used : ℕ) (b : List ℕ) (n : ℕ) →
+    bookSound used b ≡ true →
+    let us = updatesIn used b in
+    let after = over (planCount used b * plan-wide + firstOf n us * entry-wide) (flat (map marked (messageEntries n us))) b in
+    (bookSound used after ≡ true)
+    × (plansIn used after ≡ plansIn used b)
+    × (planBodies used after ≡ planBodies used b)
+    × (updatesIn used after ≡ withdrawn n us)
+
+-- the bodies that open writes
+abbrev pub PlanBodies : List (List ℕ) → Type 0
+PlanBodies bodies = Each (λ (u : List ℕ). (length u ≡ body-wide) × (planInRange u ≡ true)) bodies
+
+-- plan entries by key strictly rising, written from the start, are a sound book with this plan and no updates
+abbrev pub AfterOpen : Type 0
+AfterOpen =
+    (b : List ℕ) (bodies : List (List ℕ)) →
+    PlanBodies bodies →
+    sortedRows bodies ≡ true →
+    length bodies * plan-wide ≤ bookRoom b →
+    let used = length bodies * plan-wide in
+    let after = over 0 (flat (map planEntry bodies)) b in
+    (bookSound used after ≡ true) × (planBodies used after ≡ bodies) × (updatesIn used after ≡ [])
+
+-- numbers begin at 1 and rise by at most one from update to update, the next is above them all, and updates of one number share sender and kind
+abbrev pub MessagesNumbered : Type 0
+MessagesNumbered =
+    (used : ℕ) (b : List ℕ) →
+    bookSound used b ≡ true →
+    let us = updatesIn used b in
+    (0 < length us → numberOf (getD us 0 []) ≡ 1)
+    × ((i : ℕ) → suc i < length us → (numberOf (getD us i []) ≤ numberOf (getD us (suc i) [])) × (numberOf (getD us (suc i) []) ≤ numberOf (getD us i []) + 1))
+    × Each (λ (e : List ℕ). (1 ≤ numberOf e) × (numberOf e < nextNumber us)) us
+    × ((i j : ℕ) → i < length us → j < length us → numberOf (getD us i []) ≡ numberOf (getD us j []) →
+    (senderOf (getD us i []) ≡ senderOf (getD us j [])) × (kindOf (getD us i []) ≡ kindOf (getD us j [])))
+
+-- a message that is found stands there with all its entries, one behind the other; one that is not found has none
+abbrev pub FoundMessage : Type 0
+FoundMessage =
+    (used : ℕ) (b : List ℕ) (n : ℕ) →
+    bookSound used b ≡ true →
+    let us = updatesIn used b in
+    ((i k : ℕ) → heldAs n us ≡ At i k → (i + k ≤ length us) × (0 < k) × (rowsOf entry-wide k (drop (planCount used b * plan-wide + i * entry-wide) b) ≡ messageEntries n us))
+    × (heldAs n us ≡ Nowhere → messageEntries n us ≡ [])
+
+-- a withdrawn message's bodies stand no longer, as if it had never come; the next number stays
+abbrev pub WithdrawnIsAbsent : Type 0
+WithdrawnIsAbsent =
+    (used : ℕ) (b : List ℕ) (n : ℕ) →
+    bookSound used b ≡ true →
+    let us = updatesIn used b in
+    (standing (withdrawn n us) ≡ standing (others n us)) × (nextNumber (withdrawn n us) ≡ nextNumber us)
+
+-- all of these
+abbrev pub All : Type 0
+All = SplitWhole × AfterMessage × AfterWithdrawal × AfterOpen × MessagesNumbered × FoundMessage × WithdrawnIsAbsent

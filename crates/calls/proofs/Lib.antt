@@ -1,0 +1,4 @@
+pub mod RefusalLaws
+pub mod AcceptedLaws
+pub mod TakenLaws
+pub mod Claims

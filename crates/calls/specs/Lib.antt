@@ -1,0 +1,5 @@
+pub mod Answers
+pub mod Message
+pub mod Withdraw
+pub mod Open
+pub mod Claims

@@ -1,0 +1,54 @@
+-- `message` meets its contract. Assumes nothing.
+use mathlib.Core.Path.{sym, _∙_}
+use Rattle.messages.proofs.ReadLaws.{unsound}
+use borrow.Author.Needs.{needs}
+use Rattle.messages.proofs.message.Statement.{statement}
+use Rattle.messages.proofs.message.Tie as tie
+use Rattle.messages.proofs.message.Reads as reads
+use Rattle.messages.proofs.message.Lts as lts
+use Rattle.calls.proofs.refused.Reads as refused-reads
+use Rattle.messages.proofs.is_sound.Reads as is-sound-reads
+use Rattle.messages.proofs.read_and_take.Reads as read-and-take-reads
+
+is-sound-requires : tie.Need-is-sound-requires
+is-sound-requires c κs = search needs
+
+read-and-take-requires : tie.Need-read-and-take-requires
+read-and-take-requires c κs = sym (c .before .before .before .is-sound .ensures) ∙ c .before .before .if1 .taken
+
+same-length : tie.Need-same-length
+same-length c = search needs
+
+same-length-2 : tie.Need-same-length-2
+same-length-2 c = search needs
+
+returns : tie.Need-returns
+returns c = search needs
+
+refused-requires : tie.Need-refused-requires
+refused-requires c κs = search needs
+
+same-length-3 : tie.Need-same-length-3
+same-length-3 c = search needs
+
+same-length-4 : tie.Need-same-length-4
+same-length-4 c = search needs
+
+returns-2 : tie.Need-returns-2
+returns-2 c =
+    let a = c .before .before .before .before .before .before .before .before .before .args in
+    unsound (a .d .now) (a .sender) (a .register .now) (a .book .now) (a .table .now) (a .c) (sym (c .before .before .is-sound .ensures) ∙ c .before .if1 .left) (c .refused .result) (c .refused .ensures)
+
+pub message-spec : {M : Type 1} → statement M
+message-spec =
+    tie.close
+    (tie.spec
+    is-sound-requires
+    read-and-take-requires
+    same-length
+    same-length-2
+    returns
+    refused-requires
+    same-length-3
+    same-length-4
+    returns-2)

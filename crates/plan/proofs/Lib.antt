@@ -1,0 +1,10 @@
+pub mod TextLaws
+pub mod BodyLaws
+pub mod FirstLaws
+pub mod MatchLaws
+pub mod JoinLaws
+pub mod PlanLaws
+pub mod RangeLaws
+pub mod ExactLaws
+pub mod Claims
+pub mod Determined

@@ -1,0 +1,65 @@
+use Prim.Native.Nat.{ℕ, _≤_, _<_}
+use native.Mathlib.Omega.{arith}
+use mathlib.Core.Path.{_≡_}
+use mathlib.Core.Bool.{true}
+use mathlib.Core.List.{List}
+use mathlib.Core.Logic.{⊎-elim}
+use Rattle.lists.specs.Text.{bytes}
+use Rattle.lists.specs.Each.{Each}
+use Rattle.clock.specs.Date.{isDate}
+use Rattle.cells.specs.declared.Table.the-variants.{Planning, Calendar}
+use Rattle.cells.specs.Cell as Cell
+use Rattle.cells.specs.Cell.{width}
+use Rattle.cells.specs.Tables.{columnsIn, planningColumns, calendarColumns, rowOf, rowWidth, wrongColumn}
+use Rattle.cells.specs.Layout.{columnAt, kindAt, widths, total, offset}
+use Rattle.cells.proofs.RangeLaws.{dates-in-range, numbers-in-range, words-in-range, times-in-range, stop-types-coded}
+use Rattle.rows.proofs.RowLaws.{row-length}
+use Rattle.reader.specs.Items.{Item}
+use Rattle.reader.specs.Rules.{rowsUpTo}
+use Rattle.reader.specs.Staged.{PassFacts, ValidityFacts}
+use Rattle.reader.proofs.HeldLaws.{Right, there, text-in, spelled-in, byte-in, optional-in, time-in}
+use Rattle.reader.proofs.EachRowLaws.{rows-each}
+
+-- The rows of a planning are pass times in range, and those of a calendar validities. Assumes nothing.
+
+pass-facts : (ls : List (List ℕ)) (l : List ℕ) → wrongColumn Planning ls l ≡ 0 → PassFacts (rowOf Planning ls l)
+unfolding offset total widths rowWidth columnsIn planningColumns width kindAt columnAt
+pass-facts ls l e =
+    let right : Right Planning ls l = record { none = e } in
+    let type = there right 10 (omega arith) in
+    record {
+      wide = row-length Planning ls l e;
+      owner = text-in right 0 "DataOwnerCode" (there right 0 (omega arith));
+      line = text-in right 10 "LinePlanningNumber" (there right 1 (omega arith));
+      journey = spelled-in right 20 4 Cell.journey "VehicleJourneyNumber" (there right 2 (omega arith)) (λ (n : ℕ). n < 1000000) (numbers-in-range .0 _ _);
+      fortify = byte-in right 24 Cell.fortify "FortifyOrderNumber" (λ (n : ℕ). n < 100) (omega arith) (there right 3 (omega arith)) (numbers-in-range .1 _ _);
+      stop = text-in right 25 "UserStopCode" (there right 4 (omega arith));
+      order = spelled-in right 35 2 Cell.order "UserStopOrderNumber" (there right 5 (omega arith)) (λ (n : ℕ). n < 1000) (numbers-in-range .2 _ _);
+      level = text-in right 37 "LocalServiceLevelCode" (there right 6 (omega arith));
+      destination = text-in right 47 "DestinationCode" (there right 7 (omega arith));
+      arrival =
+          time-in right 63 (omega arith) type (bytes "FIRST") 0 57 Cell.arrival "TargetArrivalTime" (stop-types-coded _ .0) (times-in-range _ _ .0) (there right 8 (omega arith));
+      departure =
+          time-in right 63 (omega arith) type (bytes "LAST") 2 60 Cell.departure "TargetDepartureTime" (stop-types-coded _ .2) (times-in-range _ _ .1) (there right 9 (omega arith));
+      stop-type = byte-in right 63 Cell.stopType "JourneyStopType" (λ (n : ℕ). n ≤ 2) (omega arith) type (words-in-range .1 _ _);
+      flexible =
+          ⊎-elim (λ h. h .1) (λ h. omega arith)
+          (optional-in right 64 Cell.flexible 0 "ShowFlexibleTrip" (λ (n : ℕ). (1 ≤ n) × (n ≤ 3)) (omega arith) (there right 11 (omega arith)) (words-in-range .3 _ _));
+    }
+
+validity-facts : (ls : List (List ℕ)) (l : List ℕ) → wrongColumn Calendar ls l ≡ 0 → ValidityFacts (rowOf Calendar ls l)
+unfolding offset total widths rowWidth columnsIn calendarColumns width kindAt columnAt
+validity-facts ls l e =
+    let right : Right Calendar ls l = record { none = e } in
+    record {
+      wide = row-length Calendar ls l e;
+      owner = text-in right 0 "DataOwnerCode" (there right 0 (omega arith));
+      level = text-in right 10 "LocalServiceLevelCode" (there right 1 (omega arith));
+      date = spelled-in right 20 4 Cell.date "OperationDate" (there right 2 (omega arith)) (λ (n : ℕ). isDate n ≡ true) (dates-in-range _ _);
+    }
+
+pub passes-in-range : (register : List ℕ) (sender : ℕ) (xs : List Item) → Each PassFacts (rowsUpTo Planning register sender xs)
+passes-in-range = rows-each Planning PassFacts pass-facts
+
+pub validities-in-range : (register : List ℕ) (sender : ℕ) (xs : List Item) → Each ValidityFacts (rowsUpTo Calendar register sender xs)
+validities-in-range = rows-each Calendar ValidityFacts validity-facts

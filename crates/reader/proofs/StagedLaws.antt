@@ -1,0 +1,67 @@
+use Prim.Native.Nat.{ℕ, _*_, _/_, _≤_}
+use native.Mathlib.Omega.{arith}
+use native.Mathlib.Nat.{le-div-iff-mul-le}
+use mathlib.Core.Path.{_≡_}
+use mathlib.Core.List.{List, []}
+use borrow.Author.Tests.{le-ltb}
+use lib.ListN.{length}
+use lib.Seq.{take-all}
+use Rattle.lists.specs.Part.{over}
+use Rattle.lists.specs.Rows.{flat, rowsOf, Wide}
+use Rattle.lists.proofs.OverLaws.{onto-fits}
+use Rattle.lists.proofs.WideLaws.{length-flat, rowsOf-flat}
+use Rattle.cells.specs.declared.Table.{Table}
+use Rattle.cells.specs.declared.Table.the-variants.{Message, Planning, Calendar}
+use Rattle.cells.specs.Cell.{width}
+use Rattle.cells.specs.Tables.{messageColumns, planningColumns, calendarColumns, columnsIn, rowWidth}
+use Rattle.reader.specs.declared.Answer.the-variants.{Rows}
+use Rattle.reader.specs.Rules.{largest, rowsUpTo, itemsOf, readingOf, stagedBy}
+use Rattle.reader.proofs.WidthLaws.{width-some}
+use Rattle.reader.proofs.EachRowLaws.{rows-wide}
+use Rattle.reader.proofs.AnswerLaws.{reading-looked, rows-counted}
+
+-- The staging area after a dossier that is accepted, read as rows. Assumes nothing.
+
+-- rows that are written over the front of an area that has room for them are read back
+over-rows : (w : ℕ) (rs : List (List ℕ)) (st : List ℕ) → Wide w rs → length rs * w ≤ length st → rowsOf w (length rs) (over 0 (flat rs) st) ≡ rs
+unfolding over
+over-rows w rs st h f =
+    let k : length (flat rs) ≤ length st = rw (length-flat w rs h) f in
+    rw (onto-fits (flat rs) st k) (rowsOf-flat w rs _ h)
+
+module _ (t : Table) (register : List ℕ) (sender : ℕ) (d staging : List ℕ) (n : ℕ) (e : readingOf t register sender d ≡ Rows n) (room : n * rowWidth t ≤ length staging) where
+  abbrev rs : List (List ℕ)
+  rs = rowsUpTo t register sender (itemsOf t d)
+
+  -- all rows fit
+  pub staged-all : stagedBy t register sender d staging ≡ over 0 (flat rs) staging
+  unfolding stagedBy
+  staged-all =
+      let k = reading-looked t register sender d n e in
+      let c = rows-counted t register sender d n e in
+      let m : n ≤ length staging / rowWidth t = le-div-iff-mul-le (width-some t) .1 room in
+      rw (le-ltb largest (length d) (k .0), k .1, take-all (length staging / rowWidth t) rs (omega arith))
+
+  -- and are read back
+  pub staged-rows : rowsOf (rowWidth t) n (stagedBy t register sender d staging) ≡ rs
+  staged-rows =
+      let c = rows-counted t register sender d n e in
+      let f : length rs * rowWidth t ≤ length staging = rw (← c) room in
+      rw (staged-all, c) (over-rows (rowWidth t) rs staging (rows-wide t register sender (itemsOf t d)) f)
+
+-- with the width of each table's rows written out
+
+pub staged-updates : (register : List ℕ) (sender : ℕ) (d staging : List ℕ) (n : ℕ) → readingOf Message register sender d ≡ Rows n → n * 66 ≤ length staging
+    → rowsOf 66 n (stagedBy Message register sender d staging) ≡ rowsUpTo Message register sender (itemsOf Message d)
+unfolding rowWidth columnsIn messageColumns width
+staged-updates = staged-rows Message
+
+pub staged-passes : (d staging : List ℕ) (n : ℕ) → readingOf Planning [] 0 d ≡ Rows n → n * 65 ≤ length staging
+    → rowsOf 65 n (stagedBy Planning [] 0 d staging) ≡ rowsUpTo Planning [] 0 (itemsOf Planning d)
+unfolding rowWidth columnsIn planningColumns width
+staged-passes = staged-rows Planning [] 0
+
+pub staged-validities : (d staging : List ℕ) (n : ℕ) → readingOf Calendar [] 0 d ≡ Rows n → n * 24 ≤ length staging
+    → rowsOf 24 n (stagedBy Calendar [] 0 d staging) ≡ rowsUpTo Calendar [] 0 (itemsOf Calendar d)
+unfolding rowWidth columnsIn calendarColumns width
+staged-validities = staged-rows Calendar [] 0

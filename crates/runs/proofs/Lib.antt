@@ -1,0 +1,10 @@
+pub mod EntryLaws
+pub mod LogLaws
+pub mod RowsLaws
+pub mod CallLaws
+pub mod MarkLaws
+pub mod FollowLaws
+pub mod MessageLaws
+pub mod WithdrawLaws
+pub mod OpenLaws
+pub mod Claims

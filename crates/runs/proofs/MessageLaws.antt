@@ -1,0 +1,171 @@
+-- A message that is accepted keeps the day with its plan and log. Assumes nothing.
+use mathlib.Core.Path.{_≡_, refl, sym, ap, _∙_, subst, subst₂}
+use mathlib.Core.Bool.{true}
+use mathlib.Core.List.{List, [], _∷_, _++_, map}
+use Prim.Native.Nat.{ℕ, zero, suc, _+_, _*_, _^_, _≤_, _<_}
+use native.Mathlib.Nat.{zero-add}
+use native.Mathlib.Omega.{arith}
+use borrow.Author.Tests.{ne-eqb}
+use lib.Dec.{eqb}
+use lib.ListN.{length, length-append}
+use Rattle.lists.specs.Logic.{on}
+use Rattle.lists.specs.Each.{Each}
+use Rattle.lists.specs.Part.{over}
+use Rattle.lists.specs.Rows.{flat, Wide}
+use Rattle.lists.proofs.OverLaws.{over-nil}
+use Rattle.lists.proofs.RowLaws.{length-rowsOf, flat-append}
+use Rattle.lists.proofs.StoreLaws.{store-same}
+use Rattle.passage.specs.Layout.{body-wide, row-wide}
+use Rattle.passage.specs.Ranges.{updateInRange}
+use Rattle.cells.specs.declared.Table.the-variants as Tables
+use Rattle.cells.specs.Cell.{width}
+use Rattle.cells.specs.Tables.{messageColumns, columnsIn, rowWidth}
+use Rattle.reader.specs.declared.Answer.the-variants as Readings
+use Rattle.reader.specs.Rules.{readingOf, itemsOf}
+use Rattle.reader.proofs.EachRowLaws.{rows-wide}
+use Rattle.reader.proofs.RangeLaws.{rows-in-range}
+use Rattle.reader.proofs.AnswerLaws.{rows-counted, desk-nothing}
+use Rattle.keys.specs.Replay.{takenAll}
+use Rattle.keys.proofs.ReplayLaws.{takenAll-append}
+use Rattle.update.specs.Rule.{rowRule}
+use Rattle.table.specs.Rules.{room}
+use Rattle.book.specs.Entries.{entry-wide, planEntry, entriesOf, updatesIn}
+use Rattle.book.specs.Rules.{bookRoom, nextNumber, planRows}
+use Rattle.book.proofs.SoundLaws.{sound-facts, used-within}
+use Rattle.book.proofs.WriteLaws.{length-entriesOf}
+use Rattle.book.proofs.AfterLaws.{after-message}
+use Rattle.calls.specs.Answers.{isAccepted}
+use Rattle.calls.specs.Message.{messageBodies, numberFor, rowsTaken, messageAnswer, bookTaking, tableTaking, countsTaking, messageOutcome, messageBook, messageTable}
+use Rattle.runs.specs.Runs.{Day, Call, after, Taken, noted, logEntries, logStanding}
+use Rattle.runs.proofs.LogLaws.{Update, NotedFrom, noted-append, log-more, standing-more, log-least, log-next, standing-updates}
+use Rattle.runs.proofs.RowsLaws.{replay}
+use Rattle.runs.proofs.CallLaws.{MessageTaken, message-taken}
+use Rattle.runs.proofs.FollowLaws.{Follows, length-plans, length-log, write-behind, stored-sound, stored-rows}
+
+-- the day once the bodies of a message are taken
+abbrev takes : List (List ℕ) → ℕ → Day → Day
+takes bodies sender x =
+    record {
+      book = bookTaking bodies sender (x .book) (x .counts .used);
+      table = tableTaking bodies (x .table) (x .counts .rows);
+      counts = countsTaking bodies (x .table) (x .counts);
+    }
+
+-- the log once a message that got number n is noted
+abbrev notes : ℕ → ℕ → List (List ℕ) → List Taken → List Taken
+notes n sender bodies log = on (eqb n 0) log (log ++ record { number = n; sender = sender; bodies = bodies; stands = true } ∷ [])
+
+-- no rows change nothing
+takes-none : (sender : ℕ) (x : Day) → x ≡ takes [] sender x
+unfolding bookTaking tableTaking takenAll entriesOf flat
+takes-none sender x =
+    let b = sym (over-nil (x .counts .used) (x .book)) in
+    let t = sym (store-same row-wide (x .counts .rows) (x .table)) in
+    let u : x .counts .used ≡ x .counts .used + 0 * entry-wide = omega arith in
+    let r = sym (length-rowsOf row-wide (x .counts .rows) (x .table)) in
+    λ i. record { book = b i; table = t i; counts = record { used = u i; rows = r i } }
+
+module _ (plan : List (List ℕ)) (lent : List ℕ) (x : Day) (log : List Taken) (f : Follows plan lent x log) where
+  -- the number of a message with rows
+  abbrev next : ℕ
+  next = nextNumber (updatesIn (x .counts .used) (x .book))
+
+  pub next-is : next ≡ suc (length log)
+  next-is = ap nextNumber (f .updates) ∙ log-next log (f .numbered)
+
+  next-fits : next < 256 ^ 4
+  next-fits =
+      let a = next-is in
+      let b = log-least 0 log (f .numbered) in
+      let c = used-within (x .counts .used) (x .book) (sound-facts (x .counts .used) (x .book) (f .book-sound)) .1 in
+      let d = f .used-is in
+      omega arith
+
+  module _ (bodies : List (List ℕ)) (sender : ℕ) (are : Each Update bodies) (some : 0 < length bodies) (from : 1 ≤ sender)
+      (book-room : x .counts .used + length bodies * entry-wide ≤ bookRoom (x .book)) (table-room : length (rowsTaken bodies (x .table) (x .counts .rows)) ≤ room (x .table)) where
+    abbrev more : List Taken
+    more = log ++ record { number = next; sender = sender; bodies = bodies; stands = true } ∷ []
+
+    more-numbered : NotedFrom 0 more
+    more-numbered = noted-append 0 log _ (f .numbered) record { follows = next-is ∙ ap suc (sym (zero-add (length log))); fits = next-fits; filled = some; updates = are }
+
+    more-rows : rowsTaken bodies (x .table) (x .counts .rows) ≡ replay plan (logStanding more)
+    more-rows =
+        ap (takenAll rowRule bodies) (f .rows-are)
+        ∙ sym (takenAll-append rowRule (logStanding log) bodies (planRows plan))
+        ∙ ap (λ (us : List (List ℕ)). replay plan us) (sym (standing-more log next sender bodies))
+
+    more-follows : Follows plan lent (takes bodies sender x) more
+    unfolding bookTaking tableTaking
+    more-follows =
+        let b = after-message (x .counts .used) (x .book) (f .book-sound) sender bodies are from book-room in
+        let us = standing-updates 0 more more-numbered in
+        record {
+          is-plan = f .is-plan;
+          numbered = more-numbered;
+          book-is =
+              ap (over (x .counts .used) (flat (entriesOf next sender bodies))) (f .book-is)
+              ∙ write-behind (x .counts .used) (flat (map planEntry plan)) (flat (logEntries log)) (flat (entriesOf next sender bodies)) lent
+              (f .used-is ∙ rw (length-plans plan (f .is-plan .0), length-log log (f .numbered)))
+              ∙ ap (λ (v : List ℕ). over 0 (flat (map planEntry plan) ++ v) lent) (sym (flat-append (logEntries log) (entriesOf next sender bodies)) ∙ ap flat (sym (log-more log next sender bodies)));
+          used-is =
+              let l = ap length (log-more log next sender bodies) ∙ length-append (logEntries log) (entriesOf next sender bodies) in
+              let m = length-entriesOf next sender bodies in
+              let u = f .used-is in
+              omega arith;
+          book-sound = b .0;
+          plans = b .2 ∙ f .plans;
+          updates = b .3 ∙ ap (λ (l : List (List ℕ)). l ++ entriesOf next sender bodies) (f .updates) ∙ sym (log-more log next sender bodies);
+          table-sound = stored-sound plan (logStanding more) _ (f .is-plan) us more-rows (x .counts .rows) (x .table) table-room;
+          rows-are = stored-rows plan (logStanding more) _ (f .is-plan) us more-rows (x .counts .rows) (x .table) table-room;
+        }
+
+-- ---- the call
+
+are-updates : (us : List (List ℕ)) → Wide body-wide us → Each (λ (u : List ℕ). updateInRange u ≡ true) us → Each Update us
+are-updates [] h k = tt
+are-updates (u ∷ us) h k = ((h .0, k .0), are-updates us (h .1) (k .1))
+
+-- the desk sends no row
+from-sender : (register d : List ℕ) (sender n : ℕ) → readingOf Tables.Message register sender d ≡ Readings.Rows n → 0 < length (messageBodies register sender d) → 1 ≤ sender
+unfolding messageBodies
+from-sender register d zero n r h =
+    let z = desk-nothing register d n r in
+    let c = rows-counted Tables.Message register 0 d n r in
+    omega arith
+from-sender register d (suc s) n r h = omega arith
+
+module _ (d : List ℕ) (sender : ℕ) (register : List ℕ) (x : Day) where
+  abbrev call : Call
+  call = Call.message d sender register
+
+  abbrev sent : List (List ℕ)
+  sent = messageBodies register sender d
+
+  sent-updates : Each Update sent
+  unfolding messageBodies rowWidth columnsIn messageColumns width
+  sent-updates = are-updates sent (rows-wide Tables.Message register sender (itemsOf Tables.Message d)) (rows-in-range register sender (itemsOf Tables.Message d))
+
+  module _ (e : isAccepted (messageAnswer d sender register (x .book) (x .table) (x .counts)) ≡ true) where
+    went : MessageTaken d sender register (x .book) (x .table) (x .counts)
+    went = message-taken d sender register (x .book) (x .table) (x .counts) e
+
+    day-after : takes sent sender x ≡ after call x
+    unfolding messageBook messageTable messageOutcome
+    day-after = rw e
+
+    log-after : (log : List Taken) → notes (numberFor sent (x .counts .used) (x .book)) sender sent log ≡ noted call (messageAnswer d sender register (x .book) (x .table) (x .counts)) log
+    log-after log = rw (went .answer)
+
+    pub message-follows : (plan : List (List ℕ)) (lent : List ℕ) (log : List Taken) → Follows plan lent x log
+        → Follows plan lent (after call x) (noted call (messageAnswer d sender register (x .book) (x .table) (x .counts)) log)
+    message-follows plan lent log f = subst₂ (Follows plan lent) day-after (log-after log) (go sent refl)
+      where
+        go : (bodies : List (List ℕ)) → sent ≡ bodies → Follows plan lent (takes sent sender x) (notes (numberFor sent (x .counts .used) (x .book)) sender sent log)
+        go [] h = rw h (subst (λ (y : Day). Follows plan lent y log) (takes-none sender x) f)
+        go (b ∷ l) h =
+            let some : 0 < length sent = rw h (omega arith) in
+            let k : length sent ≡ 0 → ⊥ = λ z. omega arith in
+            let m : nextNumber (updatesIn (x .counts .used) (x .book)) ≡ 0 → ⊥ = λ z. let n = next-is plan lent x log f in omega arith in
+            rw (ne-eqb (length sent) 0 k, ne-eqb (nextNumber (updatesIn (x .counts .used) (x .book))) 0 m)
+            (more-follows plan lent x log f sent sender sent-updates some (from-sender register d sender (went .reading .0) (went .reading .1) some) (went .book-room) (went .table-room))

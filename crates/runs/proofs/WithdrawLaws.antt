@@ -1,0 +1,87 @@
+-- A withdrawal that is accepted keeps the day with its plan and log. Assumes nothing.
+use mathlib.Core.Path.{_≡_, sym, ap, _∙_, subst₂}
+use mathlib.Core.Bool.{true}
+use mathlib.Core.List.{List, map}
+use Prim.Native.Nat.{ℕ, _*_}
+use native.Mathlib.Omega.{arith}
+use lib.ListN.{length}
+use Rattle.lists.specs.Part.{over}
+use Rattle.lists.specs.Rows.{flat}
+use Rattle.book.specs.Entries.{plan-wide, planEntry, planCount, updatesIn}
+use Rattle.book.specs.Rules.{withdrawn}
+use Rattle.calls.specs.Answers.{isAccepted}
+use Rattle.calls.specs.Withdraw.{rowsWithout, withdrawAnswer, bookWithout, tableWithout, withdrawOutcome, withdrawBook, withdrawTable}
+use Rattle.runs.specs.Runs.{Day, Call, after, Taken, struck, noted, logEntries, logStanding}
+use Rattle.runs.proofs.LogLaws.{NotedFrom, log-struck, log-withdrawn, length-withdrawn, standing-updates}
+use Rattle.runs.proofs.RowsLaws.{replay, rows-struck}
+use Rattle.runs.proofs.CallLaws.{withdraw-room}
+use Rattle.runs.proofs.MarkLaws.{book-less}
+use Rattle.runs.proofs.FollowLaws.{Follows, length-plans, length-log, write-again, plan-count, stored-sound, stored-rows}
+
+module _ (n sender : ℕ) (x : Day) (e : isAccepted (withdrawAnswer n sender (x .book) (x .table) (x .counts)) ≡ true) where
+  abbrev call : Call
+  call = Call.withdraw n sender
+
+  abbrev without : List (List ℕ)
+  without = rowsWithout n (x .book) (x .counts .used) (x .table) (x .counts .rows)
+
+  -- the day once the message is withdrawn
+  abbrev leaves : Day
+  leaves =
+      record {
+        book = bookWithout n (x .book) (x .counts .used);
+        table = tableWithout n (x .book) (x .counts .used) (x .table) (x .counts .rows);
+        counts = record { used = x .counts .used; rows = length without };
+      }
+
+  day-after : leaves ≡ after call x
+  unfolding withdrawBook withdrawTable withdrawOutcome
+  day-after = rw e
+
+  log-after : (log : List Taken) → map (struck n) log ≡ noted call (withdrawAnswer n sender (x .book) (x .table) (x .counts)) log
+  log-after log = rw e
+
+  module _ (plan : List (List ℕ)) (lent : List ℕ) (log : List Taken) (f : Follows plan lent x log) where
+    abbrev less : List Taken
+    less = map (struck n) log
+
+    less-numbered : NotedFrom 0 less
+    less-numbered = log-struck n 0 log (f .numbered)
+
+    less-updates : withdrawn n (updatesIn (x .counts .used) (x .book)) ≡ logEntries less
+    less-updates = ap (withdrawn n) (f .updates) ∙ log-withdrawn n 0 log (f .numbered)
+
+    less-length : length (logEntries less) ≡ length (logEntries log)
+    less-length = ap length (sym (log-withdrawn n 0 log (f .numbered))) ∙ length-withdrawn n (logEntries log)
+
+    less-rows : without ≡ replay plan (logStanding less)
+    unfolding rowsWithout
+    less-rows = rw (f .plans, f .updates, f .rows-are) (rows-struck plan (f .is-plan) log (f .numbered) n)
+
+    plans-end : planCount (x .counts .used) (x .book) * plan-wide ≡ length (flat (map planEntry plan))
+    plans-end = ap (λ (m : ℕ). m * plan-wide) (sym (plan-count (x .counts .used) (x .book)) ∙ ap length (f .plans)) ∙ sym (length-plans plan (f .is-plan .0))
+
+    less-follows : Follows plan lent leaves less
+    unfolding bookWithout tableWithout
+    less-follows =
+        let b = book-less (x .counts .used) (x .book) n (f .book-sound) in
+        let us = standing-updates 0 less less-numbered in
+        let h = withdraw-room n sender (x .book) (x .table) (x .counts) e in
+        record {
+          is-plan = f .is-plan;
+          numbered = less-numbered;
+          book-is =
+              ap (λ (es : List (List ℕ)). over (planCount (x .counts .used) (x .book) * plan-wide) (flat es) (x .book)) less-updates
+              ∙ ap (over (planCount (x .counts .used) (x .book) * plan-wide) (flat (logEntries less))) (f .book-is)
+              ∙ write-again _ (flat (map planEntry plan)) (flat (logEntries log)) (flat (logEntries less)) lent plans-end
+              (let p = length-log log (f .numbered) in let q = length-log less less-numbered in let r = less-length in omega arith);
+          used-is = let u = f .used-is in let r = less-length in omega arith;
+          book-sound = b .0;
+          plans = b .1 ∙ f .plans;
+          updates = b .2 ∙ less-updates;
+          table-sound = stored-sound plan (logStanding less) without (f .is-plan) us less-rows (x .counts .rows) (x .table) h;
+          rows-are = stored-rows plan (logStanding less) without (f .is-plan) us less-rows (x .counts .rows) (x .table) h;
+        }
+
+    pub withdraw-follows : Follows plan lent (after call x) (noted call (withdrawAnswer n sender (x .book) (x .table) (x .counts)) log)
+    withdraw-follows = subst₂ (Follows plan lent) day-after (log-after log) less-follows

@@ -1,0 +1,1 @@
+// Runs of calls: definitions in specs/, theorems in proofs/. There is no code here.

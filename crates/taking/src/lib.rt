@@ -1,0 +1,97 @@
+// Staged updates taken into the table, one after another.
+ghost use mathlib.Core.Path.{_≡_};
+ghost use mathlib.Core.Bool.{true};
+ghost use mathlib.Core.List.{[]};
+ghost use Prim.Native.Nat.{_+_, _*_, _≤_};
+ghost use lib.Dec.{leb};
+ghost use lib.ListN.{length};
+ghost use Rattle.lists.specs.Part.{part};
+ghost use Rattle.lists.specs.Rows.{rowsOf, insertAt, store};
+ghost use Rattle.passage.specs.Layout.{body-wide, row-wide};
+ghost use Rattle.keys.specs.Sorted.{sortedRows};
+ghost use Rattle.keys.specs.Replay.{taken, takenAll};
+ghost use Rattle.update.specs.Rule.{rowRule};
+
+// The bytes of a trial: a row more than a table can have.
+const TRIAL: usize = 2049 * passage::ROW_WIDE;
+
+// The row of a passage that is missing, as the update whose body stands at `at` of s makes it, is put in at place i of n rows.
+fn insert_new(t: &mut [u8], n: usize, i: usize, s: &[u8], at: usize)
+    requires { ⌜ (i ≤ n) × ((n + 1) * row-wide ≤ length (now t)) × (at + body-wide ≤ length (now s)) ⌝ }
+    ensures { λ _. ⌜ now (t .exit) ≡ store row-wide n (insertAt i (rowRule [] (part at body-wide (now (s .entry)))) (rowsOf row-wide n (now (t .entry)))) (now (t .entry)) ⌝ }
+{
+    let mut row = [0u8; passage::ROW_WIDE];
+    update::begin_row(&mut row, 0);
+    update::apply_row(&mut row, 0, s, at);
+    table::insert_row(t, n, i, &row);
+}
+
+// The update whose body stands at `at` of s is taken into the n rows of t; the new count.
+pub fn take_row(t: &mut [u8], n: usize, s: &[u8], at: usize) -> usize
+    requires { ⌜ (n * row-wide ≤ length (now t)) × (at + body-wide ≤ length (now s)) ⌝ }
+    requires { ⌜ sortedRows (rowsOf row-wide n (now t)) ≡ true ⌝ }
+    requires { ⌜ length (taken rowRule (part at body-wide (now s)) (rowsOf row-wide n (now t))) * row-wide ≤ length (now t) ⌝ }
+    ensures { λ r. ⌜ r ≡ length (taken rowRule (part at body-wide (now (s .entry))) (rowsOf row-wide n (now (t .entry)))) ⌝ }
+    ensures { λ _. ⌜ now (t .exit) ≡ store row-wide n (taken rowRule (part at body-wide (now (s .entry))) (rowsOf row-wide n (now (t .entry)))) (now (t .entry)) ⌝ }
+{
+    let f = table::find(t, n, s, at);
+    match f {
+        keys::Found::At(i) => {
+            update::apply_row(t, i * passage::ROW_WIDE, s, at);
+            n
+        }
+        keys::Found::Missing(i) => {
+            insert_new(t, n, i, s, at);
+            n + 1
+        }
+    }
+}
+
+// The m updates whose bodies stand in s are taken into the n rows of t, one after another; the new count.
+pub fn take_all(t: &mut [u8], n: usize, s: &[u8], m: usize) -> usize
+    requires { ⌜ (n * row-wide ≤ length (now t)) × (m * body-wide ≤ length (now s)) ⌝ }
+    requires { ⌜ sortedRows (rowsOf row-wide n (now t)) ≡ true ⌝ }
+    requires { ⌜ length (takenAll rowRule (rowsOf body-wide m (now s)) (rowsOf row-wide n (now t))) * row-wide ≤ length (now t) ⌝ }
+    ensures { λ r. ⌜ r ≡ length (takenAll rowRule (rowsOf body-wide m (now (s .entry))) (rowsOf row-wide n (now (t .entry)))) ⌝ }
+    ensures { λ _. ⌜ now (t .exit) ≡ store row-wide n (takenAll rowRule (rowsOf body-wide m (now (s .entry))) (rowsOf row-wide n (now (t .entry)))) (now (t .entry)) ⌝ }
+{
+    let mut count = n;
+    let mut i = 0;
+    while i < m {
+        count = take_row(t, count, s, i * passage::BODY_WIDE);
+        i += 1;
+    }
+    count
+}
+
+// Whether a trial on a copy of the rows, made in the bytes `trial`, ends with at most `most` of them.
+fn trial_fits(trial: &mut [u8], t: &[u8], n: usize, s: &[u8], m: usize, most: usize) -> bool
+    requires { ⌜ (n * row-wide ≤ length (now t)) × (m * body-wide ≤ length (now s)) × (n ≤ most) × ((most + 1) * row-wide ≤ length (now trial)) ⌝ }
+    requires { ⌜ sortedRows (rowsOf row-wide n (now t)) ≡ true ⌝ }
+    ensures { λ r. ⌜ r ≡ leb (length (takenAll rowRule (rowsOf body-wide m (now (s .entry))) (rowsOf row-wide n (now (t .entry))))) most ⌝ }
+{
+    lists::copy_to(trial, 0, &t[0..n * passage::ROW_WIDE]);
+    let mut count = n;
+    let mut tried = 0;
+    while tried < m {
+        count = take_row(trial, count, s, tried * passage::BODY_WIDE);
+        if most < count {
+            return false;
+        }
+        tried += 1;
+    }
+    true
+}
+
+// Whether there are at most `most` rows once the m updates are taken; tried only where there could be more.
+pub fn fits_after(t: &[u8], n: usize, s: &[u8], m: usize, most: usize) -> bool
+    requires { ⌜ (n * row-wide ≤ length (now t)) × (m * body-wide ≤ length (now s)) × (n ≤ most) × (most ≤ 2048) × (m ≤ 2427) ⌝ }
+    requires { ⌜ sortedRows (rowsOf row-wide n (now t)) ≡ true ⌝ }
+    ensures { λ r. ⌜ r ≡ leb (length (takenAll rowRule (rowsOf body-wide m (now (s .entry))) (rowsOf row-wide n (now (t .entry))))) most ⌝ }
+{
+    if n + m <= most {
+        return true;
+    }
+    let mut trial = [0u8; TRIAL];
+    trial_fits(&mut trial, t, n, s, m, most)
+}
