@@ -1,7 +1,7 @@
 -- Demand 2: exactly when a message or a withdrawal is accepted. Assumes nothing.
 use Prim.Native.Nat.{ℕ, _+_, _*_, _≤_}
 use native.Mathlib.Omega.{arith}
-use mathlib.Core.Path.{_≡_, refl, sym, ap, subst, _∙_}
+use mathlib.Core.Path.{_≡_, refl, ap}
 use mathlib.Core.Bool.{Bool, true, false}
 use mathlib.Core.List.{List, [], _∷_}
 use borrow.Author.Tests.{leb-true, le-leb}
@@ -28,12 +28,12 @@ use Rattle.calls.specs.Claims.{MessageAcceptedExactly, WithdrawAcceptedE
 
 -- ---- a choice between what may be accepted and a refusal
 
-first-of : (b : Bool) (a x : Answer) → isAccepted x ≡ false → isAccepted (on b a x) ≡ true → (b ≡ true) × (isAccepted a ≡ true)
+pub first-of : (b : Bool) (a x : Answer) → isAccepted x ≡ false → isAccepted (on b a x) ≡ true → (b ≡ true) × (isAccepted a ≡ true)
 first-of true a x r e = (refl, e)
 first-of false a x r e = absurd (let z : _≡_ {A = ℕ} 0 1 = cc in omega arith)
 
 -- only rows go on
-read-on : (w : ℕ) (r : Reading) (next : Answer) → isAccepted (unlessRefused w r next) ≡ true → ((n : ℕ) × (r ≡ Readings.Rows n)) × (isAccepted next ≡ true)
+pub read-on : (w : ℕ) (r : Reading) (next : Answer) → isAccepted (unlessRefused w r next) ≡ true → ((n : ℕ) × (r ≡ Readings.Rows n)) × (isAccepted next ≡ true)
 read-on w Readings.TooLong next e = absurd (let z : _≡_ {A = ℕ} 0 1 = cc in omega arith)
 read-on w (Readings.Syntax i) next e = absurd (let z : _≡_ {A = ℕ} 0 1 = cc in omega arith)
 read-on w (Readings.Form l) next e = absurd (let z : _≡_ {A = ℕ} 0 1 = cc in omega arith)

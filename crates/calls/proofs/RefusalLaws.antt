@@ -19,14 +19,14 @@ use Rattle.reader.specs.Items.{Item, head, row}
 use Rattle.reader.specs.Rules.{largest, maySend, formBad, isWrong, ownerBad, firstLine, bySyntax, answerTo, itemsOf, readingOf}
 use Rattle.keys.specs.Sorted.{putAll}
 use Rattle.table.specs.Rules.{room}
-use Rattle.book.specs.Entries.{plan-wide, entry-wide, senderOf, kindOf, updatesIn}
+use Rattle.book.specs.Entries.{plan-wide, senderOf, kindOf, updatesIn}
 use Rattle.book.specs.Rules.{bookRoom, messageEntries}
 use Rattle.calls.specs.declared.Answer.{Answer}
 use Rattle.calls.specs.declared.Answer.the-variants.{Accepted, Unsound, TooLong, Syntax, Form, Field, Owner, BookShort, TableShort, KeyTwice, NoMessage, AlreadyWithdrawn, OtherSender}
 use Rattle.calls.specs.declared.Counts.{Counts}
-use Rattle.calls.specs.Answers.{numbers, isAccepted, unlessRefused}
-use Rattle.calls.specs.Message.{messageSound, messageBodies, numberFor, rowsTaken, roomFor, messageAnswer, messageOutcome, messageBook, messageTable}
-use Rattle.calls.specs.Withdraw.{withdrawSound, rowsWithout, unlessBarred, withdrawAnswer, withdrawOutcome, withdrawBook, withdrawTable}
+use Rattle.calls.specs.Answers.{numbers, unlessRefused}
+use Rattle.calls.specs.Message.{messageSound, messageBodies, numberFor, roomFor, messageAnswer, messageOutcome, messageBook, messageTable}
+use Rattle.calls.specs.Withdraw.{withdrawSound, unlessBarred, withdrawAnswer, withdrawOutcome, withdrawBook, withdrawTable}
 use Rattle.calls.specs.Open.{passagesOf, roomToOpen, openAnswer, openOutcome, openBook, openTable}
 use Rattle.calls.specs.Claims.{AcceptanceIsZero, RefusalsGiveBack, among, NumbersListed}
 

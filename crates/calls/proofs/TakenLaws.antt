@@ -1,13 +1,10 @@
 -- Demand 2: each row of an accepted message changes the passage with its key, and no other. Assumes nothing.
 use Prim.Native.Nat.{ℕ, _*_, _≤_}
-use native.Mathlib.Nat.{mul-le-mul-right, le-trans}
-use mathlib.Core.Path.{_≡_, sym, ap, _∙_}
+use mathlib.Core.Path.{_≡_, ap, _∙_}
 use mathlib.Core.Bool.{true}
-use mathlib.Core.List.{List}
-use mathlib.Core.Logic.{inl, inr, _⊎_}
+use mathlib.Core.List.{List, []}
+use mathlib.Core.Logic.{_⊎_}
 use lib.ListN.{length}
-use Rattle.lists.specs.Each.{Each}
-use Rattle.lists.specs.Text.{same}
 use Rattle.lists.specs.Rows.{rowsOf, Wide}
 use Rattle.lists.proofs.StoreLaws.{rowsOf-store}
 use Rattle.lists.proofs.WideLaws.{wide-rowsOf}
@@ -19,32 +16,54 @@ use Rattle.reader.specs.Rules.{itemsOf}
 use Rattle.reader.proofs.EachRowLaws.{rows-wide}
 use Rattle.keys.specs.Sorted.{get}
 use Rattle.keys.specs.Replay.{takenAll, replayed}
-use Rattle.keys.proofs.ReplayLaws.{each-takenAll, get-takenAll, replayed-skip}
+use Rattle.keys.proofs.ReplayLaws.{RowOf, each-takenAll, get-takenAll, replayed-skip}
 use Rattle.update.specs.Rule.{rowRule}
 use Rattle.update.proofs.RuleLaws.{rule-wide, rule-key}
-use Rattle.table.specs.Rules.{tableSound, room}
-use Rattle.table.proofs.SoundLaws.{room-fits, sound-fits}
+use Rattle.table.specs.Rules.{room}
+use Rattle.table.proofs.SoundLaws.{room-holds, sound-fits}
 use Rattle.calls.specs.declared.Counts.{Counts}
 use Rattle.calls.specs.Answers.{isAccepted}
 use Rattle.calls.specs.Message.{messageBodies, rowsTaken, tableTaking, messageAnswer, messageOutcome, messageTable}
 use Rattle.calls.specs.Claims.{RowsChangeTheirPassage}
 use Rattle.calls.proofs.AcceptedLaws.{passed, sound-parts}
 
+-- ---- the laws that the row rule owes to replays
+
+abbrev pub IsBody : List ℕ → Type 0
+IsBody u = length u ≡ body-wide
+
+abbrev IsRow : List ℕ → Type 0
+IsRow r = length r ≡ row-wide
+
+-- of none, or of a row with the update's key, a row with that key
+pub keeps : (held u : List ℕ) → IsBody u → RowOf (keyOf u) held → keyOf (rowRule held u) ≡ keyOf u
+keeps held u w h = rule-key held u w
+
+-- of none, or of a whole row, a whole row
+whole : (held u : List ℕ) → IsBody u → (held ≡ []) ⊎ IsRow held → IsRow (rowRule held u)
+whole held u w h = rule-wide held u w
+
+-- bodies taken into whole rows give whole rows
+pub taken-wide : (bodies rs : List (List ℕ)) → Wide body-wide bodies → Wide row-wide rs → Wide row-wide (takenAll rowRule bodies rs)
+taken-wide = each-takenAll rowRule IsBody IsRow whole
+
+-- and each key's row is the replay of that key
+pub taken-get : (k : List ℕ) (bodies rs : List (List ℕ)) → Wide body-wide bodies → get k (takenAll rowRule bodies rs) ≡ replayed rowRule k (get k rs) bodies
+taken-get = get-takenAll rowRule IsBody keeps
+
+-- ---- an accepted message
+
 -- the rows of a message are bodies
 pub bodies-wide : (register : List ℕ) (sender : ℕ) (d : List ℕ) → Wide body-wide (messageBodies register sender d)
 unfolding messageBodies rowWidth columnsIn messageColumns width
 bodies-wide register sender d = rows-wide Tables.Message register sender (itemsOf Tables.Message d)
-
--- bodies taken into whole rows give whole rows
-pub taken-wide : (bodies rs : List (List ℕ)) → Wide body-wide bodies → Wide row-wide rs → Wide row-wide (takenAll rowRule bodies rs)
-taken-wide = each-takenAll rowRule (λ (u : List ℕ). length u ≡ body-wide) (λ (r : List ℕ). length r ≡ row-wide) (λ held u w h. rule-wide held u w)
 
 -- the rows that are read back once they are stored
 pub taken-rows : (bodies : List (List ℕ)) (table : List ℕ) (n : ℕ) → Wide body-wide bodies → n * row-wide ≤ length table → length (rowsTaken bodies table n) ≤ room table
     → rowsOf row-wide (length (rowsTaken bodies table n)) (tableTaking bodies table n) ≡ rowsTaken bodies table n
 unfolding tableTaking
 taken-rows bodies table n w fits h =
-    rowsOf-store row-wide n (rowsTaken bodies table n) table (taken-wide bodies (rowsOf row-wide n table) w (wide-rowsOf row-wide n table fits)) (le-trans (mul-le-mul-right row-wide h) (room-fits table))
+    rowsOf-store row-wide n (rowsTaken bodies table n) table (taken-wide bodies (rowsOf row-wide n table) w (wide-rowsOf row-wide n table fits)) (room-holds (length (rowsTaken bodies table n)) table h)
 
 module _ (d register book table : List ℕ) (sender : ℕ) (c : Counts) (e : isAccepted (messageAnswer d sender register book table c) ≡ true) where
   abbrev bodies : List (List ℕ)
@@ -59,8 +78,7 @@ module _ (d register book table : List ℕ) (sender : ℕ) (c : Counts) (e : isA
       rw e (taken-rows bodies table (c .rows) (bodies-wide register sender d) (sound-fits (c .rows) table (s .2)) (p .in-table))
 
   changed : (k : List ℕ) → get k (rowsTaken bodies table (c .rows)) ≡ replayed rowRule k (get k (rowsOf row-wide (c .rows) table)) bodies
-  changed k =
-      get-takenAll rowRule (λ (u : List ℕ). length u ≡ body-wide) (λ held u w. rule-key held u w) k bodies (rowsOf row-wide (c .rows) table) (bodies-wide register sender d)
+  changed k = taken-get k bodies (rowsOf row-wide (c .rows) table) (bodies-wide register sender d)
 
 pub rows-change : RowsChangeTheirPassage
 rows-change d register book table sender c e = (

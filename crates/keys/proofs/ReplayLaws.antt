@@ -1,5 +1,9 @@
--- What updates make of rows, over any row rule, and what a key's row becomes. Assumes nothing.
-use mathlib.Core.Path.{_≡_, refl, sym, ap, _∙_}
+-- What updates make of rows, over any row rule, and what a key's row becomes. A row rule owes these laws, and nothing that is proved of many
+-- updates, of messages or of runs asks more of it; it may return the held row as it is:
+-- `keeps`: of none, or of a row with the update's key, it makes a row with the update's key;
+-- `gives`: of none, or of a row that has Q, it makes a row that has Q; Q is asked for whole rows and for rows in range;
+-- a whole row is not empty, so no law asks that of its own. Assumes nothing.
+use mathlib.Core.Path.{_≡_, refl, sym, ap, subst, _∙_}
 use mathlib.Core.Bool.{Bool, true, false}
 use mathlib.Core.Logic.{_⊎_, inl, inr}
 use mathlib.Core.List.{List, [], _∷_, _++_}
@@ -17,7 +21,7 @@ use Rattle.keys.specs.Sorted.{sortedRows, get, put}
 use Rattle.keys.specs.Replay.{Rule, taken, takenAll, replayed, place, reworked}
 use Rattle.keys.proofs.KeyLaws.{cmp-is-same}
 use Rattle.keys.proofs.PutLaws.{get-put, get-put-other, sorted-put, get-remove, get-remove-other, sorted-remove}
-use Rattle.keys.proofs.CountLaws.{put-least, put-most, each-put, each-remove, each-get}
+use Rattle.keys.proofs.CountLaws.{put-least, put-most, each-put, each-remove, each-get, get-key}
 use Rattle.keys.proofs.EqualLaws.{Filled, filled-not, rows-equal}
 
 -- ---- lists of bytes: empty or not, the same or not
@@ -37,6 +41,29 @@ not-same a b e f = let z : _≡_ {A = Bool} true false = sym (cmp-is-same a b f)
 abbrev pub RowOf : List ℕ → List ℕ → Type 0
 RowOf k r = (r ≡ []) ⊎ (keyOf r ≡ k)
 
+-- what is held of a key is none, or the row of that key
+pub get-own : (k : List ℕ) (rs : List (List ℕ)) → RowOf k (get k rs)
+get-own k rs = go (empty-or (get k rs))
+  where
+    go : (get k rs ≡ []) ⊎ (get k rs ≡ [] → ⊥) → RowOf k (get k rs)
+    go (inl e) = inl e
+    go (inr n) = inr (get-key k rs n)
+
+-- ---- what each row has
+
+-- two properties at once
+pub each-both : (P Q : List ℕ → Type 0) (l : List (List ℕ)) → Each P l → Each Q l → Each (λ (r : List ℕ). P r × Q r) l
+each-both P Q [] h k = tt
+each-both P Q (r ∷ l) h k = ((h .0, k .0), each-both P Q l (h .1) (k .1))
+
+-- what is held of a key is none, or has what each row has
+pub get-has : (Q : List ℕ → Type 0) (k : List ℕ) (rs : List (List ℕ)) → Each Q rs → (get k rs ≡ []) ⊎ Q (get k rs)
+get-has Q k rs h = go (empty-or (get k rs))
+  where
+    go : (get k rs ≡ []) ⊎ (get k rs ≡ [] → ⊥) → (get k rs ≡ []) ⊎ Q (get k rs)
+    go (inl e) = inl e
+    go (inr n) = inr (each-get Q k rs h n)
+
 -- ---- any rule
 
 module _ (rule : Rule) where
@@ -44,6 +71,10 @@ module _ (rule : Rule) where
   unfolding takenAll
   takenAll-append [] vs rs = refl
   takenAll-append (u ∷ us) vs rs = takenAll-append us vs (taken rule u rs)
+
+  pub takenAll-snoc : (us : List (List ℕ)) (u : List ℕ) (rs : List (List ℕ)) → takenAll rule (us ++ u ∷ []) rs ≡ taken rule u (takenAll rule us rs)
+  unfolding takenAll
+  takenAll-snoc us u rs = takenAll-append us (u ∷ []) rs
 
   pub replayed-append : (k held : List ℕ) (us vs : List (List ℕ)) → replayed rule k held (us ++ vs) ≡ replayed rule k (replayed rule k held us) vs
   unfolding replayed
@@ -89,18 +120,22 @@ module _ (rule : Rule) where
       let b = length-takenAll-most us (taken rule u rs) in
       omega arith
 
--- ---- a rule that keeps the key of each update that has P
+-- ---- a rule that keeps the key of each update that has P, of none or of a row with that key
 
-module _ (rule : Rule) (P : List ℕ → Type 0) (keeps : (held u : List ℕ) → P u → keyOf (rule held u) ≡ keyOf u) where
+module _ (rule : Rule) (P : List ℕ → Type 0) (keeps : (held u : List ℕ) → P u → RowOf (keyOf u) held → keyOf (rule held u) ≡ keyOf u) where
+  -- the key of the row that is put
+  made-key : (u : List ℕ) (rs : List (List ℕ)) → P u → keyOf (rule (get (keyOf u) rs) u) ≡ keyOf u
+  made-key u rs p = keeps (get (keyOf u) rs) u p (get-own (keyOf u) rs)
+
   pub get-taken-here : (u : List ℕ) (rs : List (List ℕ)) → P u → get (keyOf u) (taken rule u rs) ≡ rule (get (keyOf u) rs) u
   unfolding taken
   get-taken-here u rs p =
       let r : List ℕ = rule (get (keyOf u) rs) u in
-      ap (λ (k : List ℕ). get k (put r rs)) (sym (keeps (get (keyOf u) rs) u p)) ∙ get-put r rs
+      ap (λ (k : List ℕ). get k (put r rs)) (sym (made-key u rs p)) ∙ get-put r rs
 
   pub get-taken-other : (k u : List ℕ) (rs : List (List ℕ)) → P u → (cmp (keyOf u) k ≡ Same → ⊥) → get k (taken rule u rs) ≡ get k rs
   unfolding taken
-  get-taken-other k u rs p n = get-put-other k (rule (get (keyOf u) rs) u) rs (λ e. n (ap (λ (j : List ℕ). cmp j k) (sym (keeps (get (keyOf u) rs) u p)) ∙ e))
+  get-taken-other k u rs p n = get-put-other k (rule (get (keyOf u) rs) u) rs (λ e. n (ap (λ (j : List ℕ). cmp j k) (sym (made-key u rs p)) ∙ e))
 
   pub get-taken : (k u : List ℕ) (rs : List (List ℕ)) → P u → get k (taken rule u rs) ≡ on (same (keyOf u) k) (rule (get k rs) u) (get k rs)
   get-taken k u rs p = go (same (keyOf u) k) refl
@@ -122,7 +157,7 @@ module _ (rule : Rule) (P : List ℕ → Type 0) (keeps : (held u : List ℕ) �
   replayed-key k held (u ∷ us) h e = replayed-key k (on (same (keyOf u) k) (rule held u) held) us (h .1) (go (same (keyOf u) k) refl)
     where
       go : (t : Bool) → same (keyOf u) k ≡ t → RowOf k (on t (rule held u) held)
-      go true s = inr (keeps held u (h .0) ∙ same-equal (keyOf u) k s)
+      go true s = let i : keyOf u ≡ k = same-equal (keyOf u) k s in inr (keeps held u (h .0) (subst (λ (j : List ℕ). RowOf j held) (sym i) e) ∙ i)
       go false s = e
 
 -- ---- a rule that gives Q, from nothing or from what has Q, to each update that has P
@@ -130,11 +165,7 @@ module _ (rule : Rule) (P : List ℕ → Type 0) (keeps : (held u : List ℕ) �
 module _ (rule : Rule) (P Q : List ℕ → Type 0) (gives : (held u : List ℕ) → P u → (held ≡ []) ⊎ Q held → Q (rule held u)) where
   pub each-taken : (u : List ℕ) (rs : List (List ℕ)) → P u → Each Q rs → Each Q (taken rule u rs)
   unfolding taken
-  each-taken u rs p h = each-put Q (rule (get (keyOf u) rs) u) rs (gives (get (keyOf u) rs) u p (go (empty-or (get (keyOf u) rs)))) h
-    where
-      go : (get (keyOf u) rs ≡ []) ⊎ (get (keyOf u) rs ≡ [] → ⊥) → (get (keyOf u) rs ≡ []) ⊎ Q (get (keyOf u) rs)
-      go (inl e) = inl e
-      go (inr n) = inr (each-get Q (keyOf u) rs h n)
+  each-taken u rs p h = each-put Q (rule (get (keyOf u) rs) u) rs (gives (get (keyOf u) rs) u p (get-has Q (keyOf u) rs h)) h
 
   pub each-takenAll : (us rs : List (List ℕ)) → Each P us → Each Q rs → Each Q (takenAll rule us rs)
   unfolding takenAll
@@ -156,6 +187,15 @@ module _ (rule : Rule) (P Q : List ℕ → Type 0) (gives : (held u : List ℕ) 
 unfoldable pub among : List ℕ → List (List ℕ) → Bool
 among k [] = false
 among k (j ∷ ks) = either (same j k) (among k ks)
+
+pub among-append : (k : List ℕ) (xs ys : List (List ℕ)) → among k (xs ++ ys) ≡ either (among k xs) (among k ys)
+unfolding among
+among-append k [] ys = refl
+among-append k (x ∷ xs) ys = go (same x k) (among-append k xs ys)
+  where
+    go : (t : Bool) → among k (xs ++ ys) ≡ either (among k xs) (among k ys) → either t (among k (xs ++ ys)) ≡ either (either t (among k xs)) (among k ys)
+    go true ih = refl
+    go false ih = ih
 
 pub sorted-place : (k r : List ℕ) (rs : List (List ℕ)) → sortedRows rs ≡ true → sortedRows (place k r rs) ≡ true
 sorted-place k [] rs h = sorted-remove k rs h

@@ -3,6 +3,7 @@ use mathlib.Core.Path.{_≡_, refl, sym, ap, _∙_, subst₂}
 use mathlib.Core.Bool.{Bool, true, false}
 use mathlib.Core.List.{List, [], _∷_, _++_}
 use Prim.Native.Nat.{ℕ}
+use native.Mathlib.Omega.{arith}
 use Rattle.keys.specs.Replay.{takenAll}
 use Rattle.update.specs.Rule.{rowRule}
 use Rattle.book.specs.Rules.{planRows}
@@ -13,7 +14,6 @@ use Rattle.calls.specs.Open.{planOf}
 use Rattle.runs.specs.Runs.{Day, Call, answerOf, after, opened, Taken, noted, dayAfter, logAfter, logStanding}
 use Rattle.runs.specs.Claims.{AfterRuns, TableIsReplay, AsIfNever, SameStandingSameRows, RefusedChangesNothing, All}
 use Rattle.runs.proofs.LogLaws.{standing-behind}
-use Rattle.runs.proofs.CallLaws.{never}
 use Rattle.runs.proofs.FollowLaws.{Follows}
 use Rattle.runs.proofs.MessageLaws.{message-follows, next-is}
 use Rattle.runs.proofs.WithdrawLaws.{withdraw-follows}
@@ -32,7 +32,7 @@ withdraw-refused n sender x e = rw e
 refused : RefusedChangesNothing
 refused (Call.message d sender register) x log e = (message-refused d sender register x e, rw e)
 refused (Call.withdraw n sender) x log e = (withdraw-refused n sender x e, rw e)
-refused Call.look x log e = never (sym e)
+refused Call.look x log e = absurd (let z : _≡_ {A = ℕ} 0 1 = cc in omega arith)
 
 -- ---- a withdrawn message
 

@@ -14,7 +14,7 @@ use Rattle.lists.specs.BigEndian.{number, spelled}
 use Rattle.lists.specs.Rows.{Wide}
 use Rattle.lists.proofs.BigEndianLaws.{length-spelled, number-spelled}
 use Rattle.passage.specs.Layout.{body-wide}
-use Rattle.book.specs.Entries.{number-wide, entry-wide, kindOf, numberOf, bodyOf, entryOf, entriesOf}
+use Rattle.book.specs.Entries.{number-wide, entry-wide, numberOf, bodyOf, entryOf, entriesOf}
 use Rattle.book.specs.Rules.{marked, withdrawn, messageEntries, standing, lastFrom}
 
 -- an entry of any kind
@@ -113,16 +113,6 @@ module _ (kind m sender : ℕ) where
     last-as (b ∷ bodies) e h = last-after bodies (entryAs kind m sender b) (entry-number kind m sender b fits)
 
 -- ---- entries behind others
-
-pub standing-append : (xs ys : List (List ℕ)) → standing (xs ++ ys) ≡ standing xs ++ standing ys
-unfolding standing
-standing-append [] ys = refl
-standing-append (x ∷ xs) ys = go (eqb (kindOf x) 2) (standing-append xs ys)
-  where
-    go : (t : Bool) → standing (xs ++ ys) ≡ standing xs ++ standing ys
-        → on t (bodyOf x ∷ standing (xs ++ ys)) (standing (xs ++ ys)) ≡ on t (bodyOf x ∷ standing xs) (standing xs) ++ standing ys
-    go true ih = rw ih
-    go false ih = ih
 
 pub withdrawn-append : (n : ℕ) (xs ys : List (List ℕ)) → withdrawn n (xs ++ ys) ≡ withdrawn n xs ++ withdrawn n ys
 unfolding withdrawn

@@ -7,10 +7,8 @@ use native.Mathlib.Nat.{add-zero, add-suc, suc-add}
 use native.Mathlib.Omega.{arith}
 use lib.Dec.{eqb}
 use lib.ListN.{length, length-append, length-map}
-use Rattle.lists.specs.Logic.{on, either}
+use Rattle.lists.specs.Logic.{on}
 use Rattle.lists.specs.Each.{Each}
-use Rattle.lists.specs.Part.{part}
-use Rattle.lists.specs.BigEndian.{number}
 use Rattle.lists.specs.Text.{same}
 use Rattle.lists.specs.Rows.{Wide}
 use Rattle.lists.proofs.EachLaws.{each-append}
@@ -18,12 +16,14 @@ use Rattle.lists.proofs.LogicLaws.{either-false}
 use Rattle.passage.specs.Layout.{body-wide, keyOf}
 use Rattle.passage.specs.Ranges.{updateInRange}
 use Rattle.keys.specs.Replay.{Rule, replayed}
-use Rattle.keys.proofs.ReplayLaws.{replayed-append, replayed-skip, among}
+use Rattle.keys.proofs.ReplayLaws.{replayed-append, replayed-skip, among, among-append}
 use Rattle.book.specs.Entries.{entry-wide, numberOf, bodyOf, entriesOf}
 use Rattle.book.specs.Rules.{withdrawn, messageEntries, standing, noEntry, lastFrom, nextNumber}
+use Rattle.book.proofs.NumberLaws.{no-number}
+use Rattle.book.proofs.StandingLaws.{standing-append}
 use Rattle.calls.specs.Withdraw.{named}
 use Rattle.runs.specs.Runs.{Taken, undone, struck, takenEntries, logEntries, logStanding}
-use Rattle.runs.proofs.EntryLaws.{entryAs, entriesAs, entries-standing, entries-marked, entries-wide, entry-body, standing-as, withdrawn-as, entries-of, last-as, standing-append, withdrawn-append, entries-append, last-append}
+use Rattle.runs.proofs.EntryLaws.{entryAs, entriesAs, entries-standing, entries-marked, entries-wide, entry-body, standing-as, withdrawn-as, entries-of, last-as, withdrawn-append, entries-append, last-append}
 
 -- an update as a message has it
 abbrev pub Update : List ℕ → Type 0
@@ -189,25 +189,12 @@ last-number k (m ∷ log) e h i =
         ∙ last-as (kindFor (m .stands)) (m .number) (m .sender) (h .0 .fits) (m .bodies) e (h .0 .filled)
         ∙ h .0 .follows
 
-no-number : numberOf noEntry ≡ 0
-unfolding noEntry number part
-no-number = refl
-
 -- the next number counts every message, withdrawn or not
 pub log-next : (log : List Taken) → NotedFrom 0 log → nextNumber (logEntries log) ≡ suc (length log)
 unfolding nextNumber
 log-next log h = let e = last-number 0 log noEntry h no-number in omega arith
 
 -- ---- keys that a message does not name
-
-among-append : (k : List ℕ) (xs ys : List (List ℕ)) → among k (xs ++ ys) ≡ either (among k xs) (among k ys)
-unfolding among
-among-append k [] ys = refl
-among-append k (x ∷ xs) ys = go (same x k) (among-append k xs ys)
-  where
-    go : (t : Bool) → among k (xs ++ ys) ≡ either (among k xs) (among k ys) → either t (among k (xs ++ ys)) ≡ either (either t (among k xs)) (among k ys)
-    go true ih = refl
-    go false ih = ih
 
 named-append : (xs ys : List (List ℕ)) → named (xs ++ ys) ≡ named xs ++ named ys
 unfolding named

@@ -11,22 +11,19 @@ use lib.ListN.{length, length-append}
 use Rattle.lists.specs.Logic.{on}
 use Rattle.lists.specs.Each.{Each}
 use Rattle.lists.specs.Part.{over}
-use Rattle.lists.specs.Rows.{flat, Wide}
+use Rattle.lists.specs.Rows.{flat}
 use Rattle.lists.proofs.OverLaws.{over-nil}
 use Rattle.lists.proofs.RowLaws.{length-rowsOf, flat-append}
 use Rattle.lists.proofs.StoreLaws.{store-same}
-use Rattle.passage.specs.Layout.{body-wide, row-wide}
+use Rattle.passage.specs.Layout.{row-wide}
 use Rattle.passage.specs.Ranges.{updateInRange}
 use Rattle.cells.specs.declared.Table.the-variants as Tables
-use Rattle.cells.specs.Cell.{width}
-use Rattle.cells.specs.Tables.{messageColumns, columnsIn, rowWidth}
 use Rattle.reader.specs.declared.Answer.the-variants as Readings
 use Rattle.reader.specs.Rules.{readingOf, itemsOf}
-use Rattle.reader.proofs.EachRowLaws.{rows-wide}
 use Rattle.reader.proofs.RangeLaws.{rows-in-range}
 use Rattle.reader.proofs.AnswerLaws.{rows-counted, desk-nothing}
 use Rattle.keys.specs.Replay.{takenAll}
-use Rattle.keys.proofs.ReplayLaws.{takenAll-append}
+use Rattle.keys.proofs.ReplayLaws.{each-both, takenAll-append}
 use Rattle.update.specs.Rule.{rowRule}
 use Rattle.table.specs.Rules.{room}
 use Rattle.book.specs.Entries.{entry-wide, planEntry, entriesOf, updatesIn}
@@ -36,10 +33,11 @@ use Rattle.book.proofs.WriteLaws.{length-entriesOf}
 use Rattle.book.proofs.AfterLaws.{after-message}
 use Rattle.calls.specs.Answers.{isAccepted}
 use Rattle.calls.specs.Message.{messageBodies, numberFor, rowsTaken, messageAnswer, bookTaking, tableTaking, countsTaking, messageOutcome, messageBook, messageTable}
+use Rattle.calls.proofs.AcceptedLaws.{Passed, passed, passes}
+use Rattle.calls.proofs.TakenLaws.{IsBody, bodies-wide}
 use Rattle.runs.specs.Runs.{Day, Call, after, Taken, noted, logEntries, logStanding}
 use Rattle.runs.proofs.LogLaws.{Update, NotedFrom, noted-append, log-more, standing-more, log-least, log-next, standing-updates}
 use Rattle.runs.proofs.RowsLaws.{replay}
-use Rattle.runs.proofs.CallLaws.{MessageTaken, message-taken}
 use Rattle.runs.proofs.FollowLaws.{Follows, length-plans, length-log, write-behind, stored-sound, stored-rows}
 
 -- the day once the bodies of a message are taken
@@ -122,10 +120,6 @@ module _ (plan : List (List ℕ)) (lent : List ℕ) (x : Day) (log : List Taken)
 
 -- ---- the call
 
-are-updates : (us : List (List ℕ)) → Wide body-wide us → Each (λ (u : List ℕ). updateInRange u ≡ true) us → Each Update us
-are-updates [] h k = tt
-are-updates (u ∷ us) h k = ((h .0, k .0), are-updates us (h .1) (k .1))
-
 -- the desk sends no row
 from-sender : (register d : List ℕ) (sender n : ℕ) → readingOf Tables.Message register sender d ≡ Readings.Rows n → 0 < length (messageBodies register sender d) → 1 ≤ sender
 unfolding messageBodies
@@ -143,19 +137,19 @@ module _ (d : List ℕ) (sender : ℕ) (register : List ℕ) (x : Day) where
   sent = messageBodies register sender d
 
   sent-updates : Each Update sent
-  unfolding messageBodies rowWidth columnsIn messageColumns width
-  sent-updates = are-updates sent (rows-wide Tables.Message register sender (itemsOf Tables.Message d)) (rows-in-range register sender (itemsOf Tables.Message d))
+  unfolding messageBodies
+  sent-updates = each-both IsBody (λ (u : List ℕ). updateInRange u ≡ true) sent (bodies-wide register sender d) (rows-in-range register sender (itemsOf Tables.Message d))
 
   module _ (e : isAccepted (messageAnswer d sender register (x .book) (x .table) (x .counts)) ≡ true) where
-    went : MessageTaken d sender register (x .book) (x .table) (x .counts)
-    went = message-taken d sender register (x .book) (x .table) (x .counts) e
+    went : Passed d register (x .book) (x .table) sender (x .counts)
+    went = passed d register (x .book) (x .table) sender (x .counts) e
 
     day-after : takes sent sender x ≡ after call x
     unfolding messageBook messageTable messageOutcome
     day-after = rw e
 
     log-after : (log : List Taken) → notes (numberFor sent (x .counts .used) (x .book)) sender sent log ≡ noted call (messageAnswer d sender register (x .book) (x .table) (x .counts)) log
-    log-after log = rw (went .answer)
+    log-after log = rw (passes d register (x .book) (x .table) sender (x .counts) went)
 
     pub message-follows : (plan : List (List ℕ)) (lent : List ℕ) (log : List Taken) → Follows plan lent x log
         → Follows plan lent (after call x) (noted call (messageAnswer d sender register (x .book) (x .table) (x .counts)) log)
@@ -168,4 +162,4 @@ module _ (d : List ℕ) (sender : ℕ) (register : List ℕ) (x : Day) where
             let k : length sent ≡ 0 → ⊥ = λ z. omega arith in
             let m : nextNumber (updatesIn (x .counts .used) (x .book)) ≡ 0 → ⊥ = λ z. let n = next-is plan lent x log f in omega arith in
             rw (ne-eqb (length sent) 0 k, ne-eqb (nextNumber (updatesIn (x .counts .used) (x .book))) 0 m)
-            (more-follows plan lent x log f sent sender sent-updates some (from-sender register d sender (went .reading .0) (went .reading .1) some) (went .book-room) (went .table-room))
+            (more-follows plan lent x log f sent sender sent-updates some (from-sender register d sender (went .rows .0) (went .rows .1) some) (went .in-book) (went .in-table))

@@ -5,11 +5,15 @@ use mathlib.Core.List.{List, [], _∷_, map, append-nil}
 use Prim.Native.Nat.{ℕ, _-_, _*_, _≤_}
 use native.Mathlib.Nat.{zero-mul}
 use native.Mathlib.Omega.{arith}
+use borrow.Author.Tests.{leb-true, eqb-true}
+use lib.Dec.{eqb, leb}
 use lib.ListN.{length, length-map}
 use Rattle.lists.specs.Each.{Each}
 use Rattle.lists.specs.Part.{over}
 use Rattle.lists.specs.Rows.{rowsOf, flat, store}
 use Rattle.passage.specs.Layout.{row-wide}
+use Rattle.cells.specs.declared.Table.the-variants as Tables
+use Rattle.reader.specs.Rules.{readingOf}
 use Rattle.plan.proofs.Claims.{claims}
 use Rattle.keys.specs.Sorted.{sortedRows, put, putAll}
 use Rattle.keys.specs.Replay.{takenAll}
@@ -19,14 +23,33 @@ use Rattle.table.specs.Rules.{room, tableSound}
 use Rattle.book.specs.Entries.{plan-wide, planEntry}
 use Rattle.book.specs.Rules.{planRows, bookRoom}
 use Rattle.book.proofs.AfterLaws.{after-open}
+use Rattle.calls.specs.declared.Answer.the-variants.{Accepted, BookShort, TableShort, KeyTwice}
 use Rattle.calls.specs.declared.Counts.{Counts}
 use Rattle.calls.specs.Answers.{isAccepted}
-use Rattle.calls.specs.Open.{passagesOf, planOf, openAnswer, openOutcome, openBook, openTable}
+use Rattle.calls.specs.Open.{passagesOf, planOf, roomToOpen, openAnswer, openOutcome, openBook, openTable}
+use Rattle.calls.proofs.AcceptedLaws.{first-of, read-on}
 use Rattle.runs.specs.Runs.{Day, opened, logEntries, logStanding}
 use Rattle.runs.proofs.LogLaws.{each-so}
 use Rattle.runs.proofs.RowsLaws.{Planned}
-use Rattle.runs.proofs.CallLaws.{Opened, open-taken}
 use Rattle.runs.proofs.FollowLaws.{Follows, stored-sound, stored-rows}
+
+-- ---- what an accepted open went through
+
+record Opened (bodies : List (List ℕ)) (book table : List ℕ) : Type 0 where
+  book-room : length bodies * plan-wide ≤ bookRoom book
+  once : length (putAll bodies []) ≡ length bodies
+  table-room : length bodies ≤ room table
+
+open-taken : (planning calendar book table : List ℕ) → isAccepted (openAnswer planning calendar book table) ≡ true → Opened (passagesOf planning calendar) book table
+unfolding openAnswer roomToOpen
+open-taken planning calendar book table e =
+    let bodies : List (List ℕ) = passagesOf planning calendar in
+    let p = read-on 1 (readingOf Tables.Planning [] 0 planning) _ e in
+    let q = read-on 2 (readingOf Tables.Calendar [] 0 calendar) _ (p .1) in
+    let b = first-of (leb (length bodies * plan-wide) (bookRoom book)) _ BookShort refl (q .1) in
+    let o = first-of (eqb (length (putAll bodies [])) (length bodies)) _ KeyTwice refl (b .1) in
+    let t = first-of (leb (length bodies) (room table)) (Accepted 0) TableShort refl (o .1) in
+    record { book-room = leb-true _ _ (b .0); once = eqb-true _ _ (o .0); table-room = leb-true _ _ (t .0) }
 
 -- ---- rows put one after another
 

@@ -1,7 +1,6 @@
 -- The rows that a plan and updates give: sorted, whole, in range; and what a withdrawal makes of them. The row rule enters by its laws alone. Assumes nothing.
 use mathlib.Core.Path.{_≡_, refl, sym, ap, _∙_}
 use mathlib.Core.Bool.{Bool, true, false}
-use mathlib.Core.Logic.{_⊎_, inl, inr}
 use mathlib.Core.List.{List, [], _∷_, _++_, map}
 use Prim.Native.Nat.{ℕ, _+_}
 use native.Mathlib.Nat.{zero-add}
@@ -17,14 +16,13 @@ use Rattle.passage.proofs.PlanLaws.{body-made, plan-row}
 use Rattle.keys.specs.Keys.{cmp}
 use Rattle.keys.specs.Sorted.{isLess, risesFrom, sortedRows, get}
 use Rattle.keys.specs.Replay.{replayed, takenAll, reworked}
-use Rattle.keys.proofs.CountLaws.{get-key}
 use Rattle.keys.proofs.EqualLaws.{Filled, rows-equal}
-use Rattle.keys.proofs.ReplayLaws.{empty-or, RowOf, sorted-takenAll, get-takenAll, replayed-key, each-takenAll, among, sorted-reworked, filled-reworked, get-reworked}
+use Rattle.keys.proofs.ReplayLaws.{RowOf, get-own, each-both, sorted-takenAll, replayed-key, each-takenAll, among, sorted-reworked, filled-reworked, get-reworked}
 use Rattle.update.specs.Rule.{rowRule}
-use Rattle.update.proofs.RuleLaws.{rule-key, rule-wide}
 use Rattle.update.proofs.InRangeLaws.{rule-in-range}
 use Rattle.book.specs.Rules.{withdrawn, messageEntries, standing, planRow, planRows, rowFor}
 use Rattle.calls.specs.Withdraw.{named}
+use Rattle.calls.proofs.TakenLaws.{IsBody, keeps, taken-wide, taken-get}
 use Rattle.runs.specs.Runs.{Taken, struck, logEntries, logStanding}
 use Rattle.runs.proofs.LogLaws.{Update, each-so, NotedFrom, updates-wide, log-standing, log-withdrawn, log-struck, standing-updates, struck-skips}
 
@@ -37,11 +35,14 @@ abbrev pub IsPlan : List (List ℕ) → Type 0
 IsPlan plan = Each Planned plan × (sortedRows plan ≡ true)
 
 -- a row of the table
-abbrev pub Row : List ℕ → Type 0
-Row r = (length r ≡ row-wide) × (rowInRange r ≡ true)
+abbrev IsRow : List ℕ → Type 0
+IsRow r = length r ≡ row-wide
 
-abbrev IsWide : List ℕ → Type 0
-IsWide u = length u ≡ body-wide
+abbrev InRange : List ℕ → Type 0
+InRange r = rowInRange r ≡ true
+
+abbrev pub Row : List ℕ → Type 0
+Row r = IsRow r × InRange r
 
 -- ---- the plan's rows
 
@@ -76,27 +77,19 @@ module _ (plan us : List (List ℕ)) (p : IsPlan plan) (updates : Each Update us
   replay-sorted = sorted-takenAll rowRule us (planRows plan) (sorted-plan plan (p .0) (p .1))
 
   pub replay-rows : Each Row (replay plan us)
-  replay-rows = each-takenAll rowRule Update Row gives us (planRows plan) updates (plan-rows plan (p .0))
-    where
-      held-range : (h : List ℕ) → (h ≡ []) ⊎ Row h → (h ≡ []) ⊎ (rowInRange h ≡ true)
-      held-range h (inl e) = inl e
-      held-range h (inr r) = inr (r .1)
-
-      gives : (h u : List ℕ) → Update u → (h ≡ []) ⊎ Row h → Row (rowRule h u)
-      gives h u q r = (rule-wide h u (q .0), rule-in-range h u (q .0) (q .1) (held-range h r))
+  replay-rows =
+      let rows = plan-rows plan (p .0) in
+      each-both IsRow InRange (replay plan us) (taken-wide us (planRows plan) (updates-wide us updates) (each-so (λ r q. q .0) (planRows plan) rows))
+      (each-takenAll rowRule Update InRange (λ h u q r. rule-in-range h u (q .0) (q .1) r) us (planRows plan) updates (each-so (λ r q. q .1) (planRows plan) rows))
 
   replay-filled : Filled (replay plan us)
   replay-filled = each-so (λ r h. let e : length r ≡ row-wide = h .0 in omega arith) (replay plan us) replay-rows
 
   replay-get : (k : List ℕ) → get k (replay plan us) ≡ replayed rowRule k (get k (planRows plan)) us
-  replay-get k = get-takenAll rowRule IsWide rule-key k us (planRows plan) (updates-wide us updates)
+  replay-get k = taken-get k us (planRows plan) (updates-wide us updates)
 
   replay-own : (k : List ℕ) → RowOf k (replayed rowRule k (get k (planRows plan)) us)
-  replay-own k = replayed-key rowRule IsWide rule-key k (get k (planRows plan)) us (updates-wide us updates) (go (empty-or (get k (planRows plan))))
-    where
-      go : (get k (planRows plan) ≡ []) ⊎ (get k (planRows plan) ≡ [] → ⊥) → RowOf k (get k (planRows plan))
-      go (inl e) = inl e
-      go (inr n) = inr (get-key k (planRows plan) n)
+  replay-own k = replayed-key rowRule IsBody keeps k (get k (planRows plan)) us (updates-wide us updates) (get-own k (planRows plan))
 
 -- ---- a message struck out
 

@@ -11,10 +11,10 @@ use Rattle.book.specs.Entries.{plan-wide, planEntry, planCount, updatesIn}
 use Rattle.book.specs.Rules.{withdrawn}
 use Rattle.calls.specs.Answers.{isAccepted}
 use Rattle.calls.specs.Withdraw.{rowsWithout, withdrawAnswer, bookWithout, tableWithout, withdrawOutcome, withdrawBook, withdrawTable}
+use Rattle.calls.proofs.AcceptedLaws.{left}
 use Rattle.runs.specs.Runs.{Day, Call, after, Taken, struck, noted, logEntries, logStanding}
 use Rattle.runs.proofs.LogLaws.{NotedFrom, log-struck, log-withdrawn, length-withdrawn, standing-updates}
 use Rattle.runs.proofs.RowsLaws.{replay, rows-struck}
-use Rattle.runs.proofs.CallLaws.{withdraw-room}
 use Rattle.runs.proofs.MarkLaws.{book-less}
 use Rattle.runs.proofs.FollowLaws.{Follows, length-plans, length-log, write-again, plan-count, stored-sound, stored-rows}
 
@@ -66,7 +66,7 @@ module _ (n sender : ℕ) (x : Day) (e : isAccepted (withdrawAnswer n sender (x 
     less-follows =
         let b = book-less (x .counts .used) (x .book) n (f .book-sound) in
         let us = standing-updates 0 less less-numbered in
-        let h = withdraw-room n sender (x .book) (x .table) (x .counts) e in
+        let h = left (x .book) (x .table) n sender (x .counts) e .in-table in
         record {
           is-plan = f .is-plan;
           numbered = less-numbered;

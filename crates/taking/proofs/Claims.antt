@@ -1,33 +1,35 @@
 -- The claims on updates taken one after another, proved. Assumes nothing.
-use mathlib.Core.Path.{_≡_, refl, _∙_}
-use mathlib.Core.Bool.{Bool, true, false}
-use Rattle.lists.specs.Logic.{on}
-use Rattle.lists.specs.Text.{same}
-use Rattle.lists.proofs.TextLaws.{same-refl, same-equal}
+use mathlib.Core.Path.{_≡_}
+use mathlib.Core.Bool.{true}
+use mathlib.Core.List.{List}
+use Prim.Native.Nat.{ℕ}
 use Rattle.passage.specs.Layout.{keyOf}
-use Rattle.keys.specs.Sorted.{get}
+use Rattle.passage.specs.Ranges.{updateInRange, rowInRange}
+use Rattle.keys.proofs.KeyLaws.{cmp-same}
+use Rattle.keys.proofs.ReplayLaws.{each-both, sorted-takenAll, length-takenAll-least, length-takenAll-most, get-taken-here, get-taken-other, get-takenAll, each-takenAll}
 use Rattle.update.specs.Rule.{rowRule}
-use Rattle.update.proofs.RuleLaws.{rule-key, rule-wide}
-use Rattle.taking.specs.Claims.{ChangesItsOwn, ChangesNoOther, All}
-use Rattle.taking.proofs.TakenLaws.{get-taken, get-all, all-sorted, all-wide, all-least, all-most}
-use Rattle.taking.proofs.RangeLaws.{all-in-range}
-
-changes-its-own : ChangesItsOwn
-changes-its-own u rs wide = get-taken rowRule rule-key u (keyOf u) rs wide ∙ rw (same-refl (keyOf u))
+use Rattle.update.proofs.InRangeLaws.{rule-in-range}
+use Rattle.taking.specs.Claims.{ChangesNoOther, StayInRange, All}
+use Rattle.taking.proofs.TakenLaws.{IsBody, keeps, all-wide}
 
 changes-no-other : ChangesNoOther
-changes-no-other u k rs wide n = get-taken rowRule rule-key u k rs wide ∙ go (same (keyOf u) k) refl
-  where
-    go : (t : Bool) → same (keyOf u) k ≡ t → on t (rowRule (get k rs) u) (get k rs) ≡ get k rs
-    go true e = absurd (n (same-equal (keyOf u) k e))
-    go false e = refl
+changes-no-other u k rs wide n = get-taken-other rowRule IsBody keeps k u rs wide (λ e. n (cmp-same (keyOf u) k e))
+
+abbrev InRange : List ℕ → Type 0
+InRange u = updateInRange u ≡ true
+
+stay-in-range : StayInRange
+stay-in-range us rs wide e h =
+    each-takenAll rowRule (λ (u : List ℕ). IsBody u × InRange u) (λ (r : List ℕ). rowInRange r ≡ true) (λ held u p q. rule-in-range held u (p .0) (p .1) q) us rs
+    (each-both IsBody InRange us wide e)
+    h
 
 pub claims : All
 claims = (
-  changes-its-own,
+  get-taken-here rowRule IsBody keeps,
   changes-no-other,
-  get-all rowRule rule-key,
-  λ us rs. (all-sorted rowRule us rs, all-wide rowRule rule-wide us rs),
-  all-in-range,
-  λ us rs. (all-least rowRule us rs, all-most rowRule us rs),
+  λ us rs k. get-takenAll rowRule IsBody keeps k us rs,
+  λ us rs. (sorted-takenAll rowRule us rs, all-wide us rs),
+  stay-in-range,
+  λ us rs. (length-takenAll-least rowRule us rs, length-takenAll-most rowRule us rs),
 )

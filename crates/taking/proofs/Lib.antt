@@ -1,6 +1,5 @@
 pub mod TakenLaws
 pub mod StepLaws
 pub mod LoopLaws
-pub mod RangeLaws
 pub mod Claims
 pub mod Determined

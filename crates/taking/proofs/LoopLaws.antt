@@ -1,5 +1,5 @@
 -- A loop that takes the bodies of s into the n rows of t₀, one after another. Assumes nothing.
-use mathlib.Core.Path.{_≡_, sym, ap, _∙_}
+use mathlib.Core.Path.{_≡_, refl, sym, ap, _∙_}
 use mathlib.Core.Bool.{true, false}
 use mathlib.Core.List.{List, _++_}
 use Prim.Native.Nat.{ℕ, _+_, _-_, _*_, _≤_, _<_}
@@ -17,9 +17,9 @@ use Rattle.lists.proofs.StoreLaws.{store-same, store-grows, rowsOf-store, lengt
 use Rattle.passage.specs.Layout.{body-wide, row-wide}
 use Rattle.keys.specs.Sorted.{sortedRows}
 use Rattle.keys.specs.Replay.{taken, takenAll}
+use Rattle.keys.proofs.ReplayLaws.{takenAll-append, takenAll-snoc, sorted-takenAll, length-taken-most, length-takenAll-least, length-takenAll-most}
 use Rattle.update.specs.Rule.{rowRule}
-use Rattle.update.proofs.RuleLaws.{rule-wide}
-use Rattle.taking.proofs.TakenLaws.{taken-most, all-none, all-least, all-most, all-append, all-snoc, all-sorted, all-wide}
+use Rattle.taking.proofs.TakenLaws.{all-wide}
 
 -- the rows once i bodies are taken
 abbrev pub after : List ℕ → List (List ℕ) → ℕ → List (List ℕ)
@@ -31,14 +31,14 @@ body s i = part (i * body-wide) body-wide s
 
 module _ (s : List ℕ) (rs : List (List ℕ)) where
   after-none : after s rs 0 ≡ rs
-  unfolding rowsOf
-  after-none = all-none rowRule rs
+  unfolding rowsOf takenAll
+  after-none = refl
 
   pub after-next : (i : ℕ) → after s rs (i + 1) ≡ taken rowRule (body s i) (after s rs i)
   unfolding rowsOf part
   after-next i =
       ap (λ (us : List (List ℕ)). takenAll rowRule us rs) (rowsOf-append body-wide i 1 s)
-      ∙ all-snoc rowRule (rowsOf body-wide i s) (body s i) rs
+      ∙ takenAll-snoc rowRule (rowsOf body-wide i s) (body s i) rs
 
   -- rows only come
   pub after-rises : (i j : ℕ) → i ≤ j → length (after s rs i) ≤ length (after s rs j)
@@ -46,18 +46,18 @@ module _ (s : List ℕ) (rs : List (List ℕ)) where
       let e : j ≡ i + (j - i) = omega arith in
       let more = rowsOf body-wide (j - i) (drop (i * body-wide) s) in
       let f : after s rs j ≡ takenAll rowRule more (after s rs i) =
-      ap (λ (k : ℕ). after s rs k) e ∙ ap (λ (us : List (List ℕ)). takenAll rowRule us rs) (rowsOf-append body-wide i (j - i) s) ∙ all-append rowRule (rowsOf body-wide i s) more rs in
-      rw f (all-least rowRule more (after s rs i))
+      ap (λ (k : ℕ). after s rs k) e ∙ ap (λ (us : List (List ℕ)). takenAll rowRule us rs) (rowsOf-append body-wide i (j - i) s) ∙ takenAll-append rowRule (rowsOf body-wide i s) more rs in
+      rw f (length-takenAll-least rowRule more (after s rs i))
 
   pub after-most : (i : ℕ) → length (after s rs i) ≤ length rs + i
-  after-most i = rw (length-rowsOf body-wide i s) at (all-most rowRule (rowsOf body-wide i s) rs)
+  after-most i = rw (length-rowsOf body-wide i s) at (length-takenAll-most rowRule (rowsOf body-wide i s) rs)
 
   -- one more body makes at most one row more
   pub after-step : (i : ℕ) → length (after s rs (i + 1)) ≤ length (after s rs i) + 1
-  after-step i = rw after-next (omega (arith, taken-most rowRule (body s i) (after s rs i)))
+  after-step i = rw after-next (omega (arith, length-taken-most rowRule (body s i) (after s rs i)))
 
   pub after-wide : (i : ℕ) → i * body-wide ≤ length s → Wide row-wide rs → Wide row-wide (after s rs i)
-  after-wide i h k = all-wide rowRule rule-wide (rowsOf body-wide i s) rs (wide-rowsOf body-wide i s h) k
+  after-wide i h k = all-wide (rowsOf body-wide i s) rs (wide-rowsOf body-wide i s h) k
 
 -- after i turns the count and the bytes are those of the rows that the first i bodies make
 pub record Taking (s t₀ : List ℕ) (n i count : ℕ) (t : List ℕ) : Type 0 where
@@ -105,7 +105,7 @@ module _ (s t₀ : List ℕ) (n : ℕ) (fits : n * row-wide ≤ length t₀) whe
     taking-asked h =
         let same = taking-length i count t l in (
           (rw (l .counted, same) room-now, there),
-          (rw rows-now (all-sorted rowRule (rowsOf body-wide i s) rs₀ h), rw (rows-now, ← (after-next s rs₀ i), same) room),
+          (rw rows-now (sorted-takenAll rowRule (rowsOf body-wide i s) rs₀ h), rw (rows-now, ← (after-next s rs₀ i), same) room),
         )
 
     pub taking-next :
@@ -115,7 +115,7 @@ module _ (s t₀ : List ℕ) (n : ℕ) (fits : n * row-wide ≤ length t₀) whe
         → Taking s t₀ n (i + 1) count′ t′
     taking-next count′ t′ e f =
         let q : taken rowRule (body s i) (rowsOf row-wide count t) ≡ after s rs₀ (i + 1) = rw rows-now (sym (after-next s rs₀ i)) in
-        let a : n ≤ length rs = rw (length-rowsOf row-wide n t₀) at (all-least rowRule (rowsOf body-wide i s) rs₀) in
+        let a : n ≤ length rs = rw (length-rowsOf row-wide n t₀) at (length-takenAll-least rowRule (rowsOf body-wide i s) rs₀) in
         let b : length rs ≤ length (after s rs₀ (i + 1)) = after-rises s rs₀ i (i + 1) (omega arith) in
         let w : Wide row-wide (after s rs₀ (i + 1)) = after-wide s rs₀ (i + 1) (omega arith) (wide-rowsOf row-wide n t₀ fits) in
         record {

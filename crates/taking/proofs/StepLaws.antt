@@ -1,6 +1,7 @@
 -- One update taken into rows of bytes: the row found is changed in its place, or a new one is put in. Assumes nothing.
 use mathlib.Core.Path.{_≡_, refl, sym, ap, _∙_}
 use mathlib.Core.List.{List, [], _∷_, append-nil}
+use mathlib.Core.Logic.{inl, inr}
 use Prim.Native.Nat.{ℕ, _+_, _*_, _≤_, _<_}
 use native.Mathlib.Nat.{add-zero, not-suc-le-zero}
 use native.Mathlib.Omega.{arith}
@@ -17,8 +18,9 @@ use Rattle.keys.specs.declared.Found.the-variants.{At, Missing}
 use Rattle.keys.specs.Sorted.{lookup, get, put}
 use Rattle.keys.specs.Replay.{taken}
 use Rattle.keys.proofs.PutLaws.{putBy, put-at, get-at, found-below, missing-within}
+use Rattle.keys.proofs.ReplayLaws.{get-own}
 use Rattle.update.specs.Rule.{applyRow, beginning, begun, rowRule}
-use Rattle.update.proofs.RuleLaws.{rule-key, rule-wide}
+use Rattle.taking.proofs.TakenLaws.{keeps, whole}
 
 -- ---- a row of its own
 
@@ -49,7 +51,7 @@ new-insert t t′ s z b r n i at body l e f g =
     let p : part 0 row-wide beginning ≡ beginning = rw length-beginning at (part-all beginning) in
     let q : b ≡ beginning = e ∙ over-all beginning z (length-beginning ∙ sym l) in
     let k : over 0 (applyRow beginning u) beginning ≡ rowRule [] u =
-    over-all (rowRule [] u) beginning (rule-wide [] u (length-part at body-wide s body) ∙ sym length-beginning) in
+    over-all (rowRule [] u) beginning (whole [] u (length-part at body-wide s body) (inl refl) ∙ sym length-beginning) in
     let h : r ≡ rowRule [] u = f ∙ rw (q, p) k in
     g ∙ ap (λ (v : List ℕ). store row-wide n (insertAt i v (rowsOf row-wide n t)) t) h
 
@@ -77,7 +79,7 @@ module _ (t s : List ℕ) (n at i : ℕ) (fits : n * row-wide ≤ length t) (bod
   taken-by : (f : Found) → lookup (part at key-wide s) rs ≡ f → taken rowRule u rs ≡ putBy f (rowRule (get (keyOf u) rs) u) rs
   unfolding taken
   taken-by f e =
-      let k : keyOf (rowRule (get (keyOf u) rs) u) ≡ part at key-wide s = rule-key (get (keyOf u) rs) u wide ∙ sym key-there in
+      let k : keyOf (rowRule (get (keyOf u) rs) u) ≡ part at key-wide s = keeps (get (keyOf u) rs) u wide (get-own (keyOf u) rs) ∙ sym key-there in
       put-at (rowRule (get (keyOf u) rs) u) rs f (rw k e)
 
   module _ (e : lookup (part at key-wide s) rs ≡ At i) where
@@ -87,11 +89,13 @@ module _ (t s : List ℕ) (n at i : ℕ) (fits : n * row-wide ≤ length t) (bod
     held-is : get (keyOf u) rs ≡ part (i * row-wide) row-wide t
     held-is = get-at (keyOf u) rs (At i) (rw (← key-there) e) ∙ row-at row-wide n i t held-below
 
+    held-whole : length (part (i * row-wide) row-wide t) ≡ row-wide
+    held-whole = let h = held-below in length-part (i * row-wide) row-wide t (omega arith)
+
     rule-is : rowRule (get (keyOf u) rs) u ≡ applyRow (part (i * row-wide) row-wide t) u
     unfolding rowRule
     rule-is =
-        let h = held-below in
-        let l : length (part (i * row-wide) row-wide t) ≡ row-wide = length-part (i * row-wide) row-wide t (omega arith) in
+        let l = held-whole in
         rw held-is (ap (λ (r : List ℕ). applyRow r u) (begun-held (part (i * row-wide) row-wide t) (omega arith)))
 
     taken-held : taken rowRule u rs ≡ set rs i (applyRow (part (i * row-wide) row-wide t) u)
@@ -103,7 +107,7 @@ module _ (t s : List ℕ) (n at i : ℕ) (fits : n * row-wide ≤ length t) (bod
     pub held-store : (t′ : List ℕ) → t′ ≡ over (i * row-wide) (applyRow (part (i * row-wide) row-wide t) u) t → t′ ≡ store row-wide n (taken rowRule u rs) t
     held-store t′ f =
         let r = applyRow (part (i * row-wide) row-wide t) u in
-        let l : length r ≡ row-wide = ap length (sym rule-is) ∙ rule-wide (get (keyOf u) rs) u wide in
+        let l : length r ≡ row-wide = ap length (sym rule-is) ∙ whole (get (keyOf u) rs) u wide (inr (ap length held-is ∙ held-whole)) in
         f ∙ store-replace row-wide n i t fits r l held-below ∙ ap (λ (qs : List (List ℕ)). store row-wide n qs t) (sym taken-held)
 
   module _ (e : lookup (part at key-wide s) rs ≡ Missing i) where
