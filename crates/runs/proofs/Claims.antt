@@ -1,5 +1,5 @@
 -- The claims of `specs/Claims.antt`. Assumes nothing.
-use mathlib.Core.Path.{_≡_, refl, sym, ap, _∙_, subst₂}
+use mathlib.Core.Path.{_≡_, refl, sym, ap, _∙_, subst, subst₂}
 use mathlib.Core.Bool.{Bool, true, false}
 use mathlib.Core.List.{List, [], _∷_, _++_}
 use Prim.Native.Nat.{ℕ}
@@ -12,12 +12,13 @@ use Rattle.calls.specs.Message.{messageOutcome, messageBook, messageTable}
 use Rattle.calls.specs.Withdraw.{withdrawOutcome, withdrawBook, withdrawTable}
 use Rattle.calls.specs.Open.{planOf}
 use Rattle.runs.specs.Runs.{Day, Call, answerOf, after, opened, Taken, noted, dayAfter, logAfter, logStanding}
-use Rattle.runs.specs.Claims.{AfterRuns, TableIsReplay, AsIfNever, SameStandingSameRows, RefusedChangesNothing, All}
+use Rattle.runs.specs.Claims.{AfterRuns, Sound, CallsKeepSound, TableIsReplay, AsIfNever, SameStandingSameRows, RefusedChangesNothing, All}
 use Rattle.runs.proofs.LogLaws.{standing-behind}
 use Rattle.runs.proofs.FollowLaws.{Follows}
 use Rattle.runs.proofs.MessageLaws.{message-follows, next-is}
 use Rattle.runs.proofs.WithdrawLaws.{withdraw-follows}
 use Rattle.runs.proofs.OpenLaws.{open-follows}
+use Rattle.runs.proofs.SoundLaws.{accepted-sound}
 
 -- ---- a refused call
 
@@ -78,10 +79,18 @@ same-rows planning calendar book table book′ table′ c c′ calls calls′ e 
     ∙ ap (λ (us : List (List ℕ)). takenAll rowRule us (planRows (planOf planning calendar))) h
     ∙ sym (table-replay planning calendar book′ table′ c′ calls′ e′)
 
+calls-keep-sound : CallsKeepSound
+calls-keep-sound call x s = go (isAccepted (answerOf call x)) refl
+  where
+    go : (t : Bool) → isAccepted (answerOf call x) ≡ t → Sound (after call x)
+    go true e = accepted-sound call x s e
+    go false e = subst Sound (sym (refused call x [] e .0)) s
+
 pub claims : All
 claims = (
   λ planning calendar book table c calls e. let f = follows planning calendar book table c calls e in (f .book-is, f .used-is),
   λ planning calendar book table c calls e. let f = follows planning calendar book table c calls e in (f .book-sound, f .table-sound),
+  calls-keep-sound,
   table-replay,
   as-if-never,
   same-rows,

@@ -6,4 +6,5 @@ pub mod FollowLaws
 pub mod MessageLaws
 pub mod WithdrawLaws
 pub mod OpenLaws
+pub mod SoundLaws
 pub mod Claims

@@ -41,7 +41,7 @@ use Rattle.runs.proofs.RowsLaws.{replay}
 use Rattle.runs.proofs.FollowLaws.{Follows, length-plans, length-log, write-behind, stored-sound, stored-rows}
 
 -- the day once the bodies of a message are taken
-abbrev takes : List (List ℕ) → ℕ → Day → Day
+abbrev pub takes : List (List ℕ) → ℕ → Day → Day
 takes bodies sender x =
     record {
       book = bookTaking bodies sender (x .book) (x .counts .used);
@@ -54,7 +54,7 @@ abbrev notes : ℕ → ℕ → List (List ℕ) → List Taken → List Taken
 notes n sender bodies log = on (eqb n 0) log (log ++ record { number = n; sender = sender; bodies = bodies; stands = true } ∷ [])
 
 -- no rows change nothing
-takes-none : (sender : ℕ) (x : Day) → x ≡ takes [] sender x
+pub takes-none : (sender : ℕ) (x : Day) → x ≡ takes [] sender x
 unfolding bookTaking tableTaking takenAll entriesOf flat
 takes-none sender x =
     let b = sym (over-nil (x .counts .used) (x .book)) in
@@ -121,7 +121,7 @@ module _ (plan : List (List ℕ)) (lent : List ℕ) (x : Day) (log : List Taken)
 -- ---- the call
 
 -- the desk sends no row
-from-sender : (register d : List ℕ) (sender n : ℕ) → readingOf Tables.Message register sender d ≡ Readings.Rows n → 0 < length (messageBodies register sender d) → 1 ≤ sender
+pub from-sender : (register d : List ℕ) (sender n : ℕ) → readingOf Tables.Message register sender d ≡ Readings.Rows n → 0 < length (messageBodies register sender d) → 1 ≤ sender
 unfolding messageBodies
 from-sender register d zero n r h =
     let z = desk-nothing register d n r in
@@ -133,18 +133,18 @@ module _ (d : List ℕ) (sender : ℕ) (register : List ℕ) (x : Day) where
   abbrev call : Call
   call = Call.message d sender register
 
-  abbrev sent : List (List ℕ)
+  abbrev pub sent : List (List ℕ)
   sent = messageBodies register sender d
 
-  sent-updates : Each Update sent
+  pub sent-updates : Each Update sent
   unfolding messageBodies
   sent-updates = each-both IsBody (λ (u : List ℕ). updateInRange u ≡ true) sent (bodies-wide register sender d) (rows-in-range register sender (itemsOf Tables.Message d))
 
   module _ (e : isAccepted (messageAnswer d sender register (x .book) (x .table) (x .counts)) ≡ true) where
-    went : Passed d register (x .book) (x .table) sender (x .counts)
+    pub went : Passed d register (x .book) (x .table) sender (x .counts)
     went = passed d register (x .book) (x .table) sender (x .counts) e
 
-    day-after : takes sent sender x ≡ after call x
+    pub day-after : takes sent sender x ≡ after call x
     unfolding messageBook messageTable messageOutcome
     day-after = rw e
 

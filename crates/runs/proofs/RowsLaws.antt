@@ -50,7 +50,7 @@ plan-key : (b : List ℕ) → length b ≡ body-wide → keyOf (planRow b) ≡ k
 unfolding planRow
 plan-key b h = let e = part-part 0 key-wide 0 body-wide (b ++ 0 ∷ []) (omega arith) in rw zero-add at (sym e) ∙ ap keyOf (body-made b 0 h)
 
-plan-rows : (plan : List (List ℕ)) → Each Planned plan → Each Row (planRows plan)
+pub plan-rows : (plan : List (List ℕ)) → Each Planned plan → Each Row (planRows plan)
 unfolding planRows planRow
 plan-rows [] h = tt
 plan-rows (b ∷ plan) h = ((let e = length-append b (0 ∷ []) in let f : length b ≡ body-wide = h .0 .0 in omega arith, plan-row b (h .0 .0) (h .0 .1)), plan-rows plan (h .1))

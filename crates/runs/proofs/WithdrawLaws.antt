@@ -34,7 +34,7 @@ module _ (n sender : ℕ) (x : Day) (e : isAccepted (withdrawAnswer n sender (x 
         counts = record { used = x .counts .used; rows = length without };
       }
 
-  day-after : leaves ≡ after call x
+  pub day-after : leaves ≡ after call x
   unfolding withdrawBook withdrawTable withdrawOutcome
   day-after = rw e
 

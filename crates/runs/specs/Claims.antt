@@ -32,11 +32,19 @@ BookIsPlanAndLog =
     (x .book ≡ over 0 (flat (map planEntry plan) ++ flat (logEntries log)) book)
     × (x .counts .used ≡ length plan * plan-wide + length (logEntries log) * entry-wide))
 
+-- the lent bytes and counts of a day are sound
+abbrev pub Sound : Day → Type 0
+Sound x = (bookSound (x .counts .used) (x .book) ≡ true) × (tableSound (x .counts .rows) (x .table) ≡ true)
+
 -- and the day is sound
 abbrev pub StaysSound : Type 0
 StaysSound =
     AfterRuns
-    (λ plan book x log. (bookSound (x .counts .used) (x .book) ≡ true) × (tableSound (x .counts .rows) (x .table) ≡ true))
+    (λ plan book x log. Sound x)
+
+-- and so is any sound day after any call, whether its book and table agree or not
+abbrev pub CallsKeepSound : Type 0
+CallsKeepSound = (call : Call) (x : Day) → Sound x → Sound (after call x)
 
 -- (b) the table's rows are the replay of the plan and the standing rows, byte for byte
 abbrev pub TableIsReplay : Type 0
@@ -72,4 +80,4 @@ RefusedChangesNothing =
 
 -- all of these
 abbrev pub All : Type 0
-All = BookIsPlanAndLog × StaysSound × TableIsReplay × AsIfNever × SameStandingSameRows × NumbersNeverReturn × RefusedChangesNothing
+All = BookIsPlanAndLog × StaysSound × CallsKeepSound × TableIsReplay × AsIfNever × SameStandingSameRows × NumbersNeverReturn × RefusedChangesNothing

@@ -1,0 +1,152 @@
+-- What each stage of open makes of the answer: refusals that change nothing, and acceptance. Assumes nothing.
+use mathlib.Core.Path.{_≡_, refl, sym, ap, subst, _∙_}
+use mathlib.Core.Bool.{false}
+use mathlib.Core.List.{List, [], map}
+use Prim.Native.Nat.{ℕ, _+_, _*_, _/_, _≤_, _<_}
+use native.Mathlib.Omega.{arith}
+use borrow.Author.Tests.{le-leb, lt-leb, eq-eqb, ne-eqb}
+use lib.ListN.{length, take, length-take}
+use lib.Seq.{take-all}
+use Rattle.lists.specs.Logic.{on}
+use Rattle.lists.specs.Part.{over}
+use Rattle.lists.specs.Rows.{flat, rowsOf, Wide}
+use Rattle.lists.proofs.OverLaws.{onto-fits}
+use Rattle.lists.proofs.WideLaws.{wide-rowsOf, length-flat, rowsOf-flat}
+use Rattle.cells.specs.declared.Table.the-variants as Tables
+use Rattle.reader.specs.declared.Answer.{Answer as Reading}
+use Rattle.reader.specs.declared.Answer.the-variants as Readings
+use Rattle.reader.specs.Rules.{readingOf, rowsUpTo, itemsOf, stagedBy}
+use Rattle.reader.proofs.StagedLaws.{staged-passes, staged-validities}
+use Rattle.passage.specs.Layout.{body-wide}
+use Rattle.plan.specs.Rules.{joined}
+use Rattle.plan.proofs.PlanLaws.{wide-all}
+use Rattle.keys.specs.Sorted.{putAll}
+use Rattle.table.specs.Rules.{room}
+use Rattle.book.specs.Entries.{plan-wide, planEntry}
+use Rattle.book.specs.Rules.{bookRoom, planRows}
+use Rattle.calls.specs.declared.Answer.{Answer}
+use Rattle.calls.specs.declared.Answer.the-variants.{Accepted, BookShort, TableShort, KeyTwice}
+use Rattle.calls.specs.declared.Counts.{Counts}
+use Rattle.calls.specs.declared.Outcome.{Outcome}
+use Rattle.calls.specs.Answers.{isAccepted, unlessRefused}
+use Rattle.calls.specs.Open.{passagesOf, planOf, roomToOpen, openAnswer, openOutcome, openBook, openTable}
+use Rattle.opening.specs.Steps.{outcomeBy, bookBy, tableBy, pairs, joinedTo, calendarAnswer}
+
+-- what is given back by the answer a on these bodies: outcome, book and table
+abbrev pub Opened : Answer → List (List ℕ) → List ℕ → List ℕ → Counts → Outcome → List ℕ → List ℕ → Type 0
+Opened a bodies book table c r b t = (r ≡ outcomeBy a bodies c) × ((b ≡ bookBy a bodies book) × (t ≡ tableBy a bodies table))
+
+module _ (bodies : List (List ℕ)) (book table : List ℕ) (c : Counts) where
+  refuses : (a : Answer) → isAccepted a ≡ false → (r : Outcome) → (r .answer ≡ a) × (r .counts ≡ c) → Opened a bodies book table c r book table
+  unfolding outcomeBy bookBy tableBy
+  refuses a f r e =
+      let k : r .counts ≡ on (isAccepted a) (record { used = length (putAll bodies []) * plan-wide; rows = length (putAll bodies []) }) c = rw f (e .1) in
+      (λ i. record { answer = e .0 i; counts = k i }, (rw f, rw f))
+
+  -- a refusal gives everything back
+  pub refused-with : (a x : Answer) → isAccepted a ≡ false → x ≡ a → (r : Outcome) → (r .answer ≡ a) × (r .counts ≡ c) → Opened x bodies book table c r book table
+  refused-with a x f e r k = subst (λ (y : Answer). Opened y bodies book table c r book table) (sym e) (refuses a f r k)
+
+  -- acceptance of n bodies that became the plan
+  pub accepted-with : (x : Answer) (n : ℕ) (plan : List (List ℕ)) (b t : List ℕ) → x ≡ Accepted 0 → length (putAll bodies []) ≡ n → plan ≡ putAll bodies [] → b ≡ over 0 (flat (map planEntry plan)) book
+      → t ≡ over 0 (flat (planRows plan)) table → Opened x bodies book table c (record { answer = Accepted 0; counts = record { used = n * plan-wide; rows = n } }) b t
+  unfolding outcomeBy bookBy tableBy
+  accepted-with x n plan b t e l p k h = rw (e, l, ← p) (refl, (k, h))
+
+  -- ---- 7, 9, 8
+
+  pub book-short : bookRoom book < length bodies * plan-wide → roomToOpen bodies book table ≡ BookShort
+  unfolding roomToOpen
+  book-short h = rw (lt-leb (length bodies * plan-wide) (bookRoom book) h)
+
+  module _ (fits : length bodies * plan-wide ≤ bookRoom book) where
+    pub key-twice : (length (putAll bodies []) ≡ length bodies → ⊥) → roomToOpen bodies book table ≡ KeyTwice
+    unfolding roomToOpen
+    key-twice n = rw (le-leb (length bodies * plan-wide) (bookRoom book) fits, ne-eqb (length (putAll bodies [])) (length bodies) n)
+
+    pub table-short : length (putAll bodies []) ≡ length bodies → room table < length bodies → roomToOpen bodies book table ≡ TableShort
+    unfolding roomToOpen
+    table-short e h = rw (le-leb (length bodies * plan-wide) (bookRoom book) fits, eq-eqb (length (putAll bodies [])) (length bodies) e, lt-leb (length bodies) (room table) h)
+
+    pub accepted : length (putAll bodies []) ≡ length bodies → length bodies ≤ room table → roomToOpen bodies book table ≡ Accepted 0
+    unfolding roomToOpen
+    accepted e h = rw (le-leb (length bodies * plan-wide) (bookRoom book) fits, eq-eqb (length (putAll bodies [])) (length bodies) e, le-leb (length bodies) (room table) h)
+
+-- ---- the joined pairs, at most so many as the book has room for
+
+module _ (J : List (List ℕ)) (most n : ℕ) (e : n ≡ length (take (most + 1) J)) where
+  more : most < n → most < length J
+  more h = let k : n ≡ _ = e ∙ length-take (most + 1) J in omega arith
+
+  pub all-joined : n ≤ most → n ≡ length J
+  all-joined h = let k : n ≡ _ = e ∙ length-take (most + 1) J in omega arith
+
+  pub pairs-short : (book : List ℕ) → most ≡ bookRoom book / plan-wide → most < n → bookRoom book < length J * plan-wide
+  pairs-short book m h = let k = more h in omega arith
+
+  -- all are read back from an area that has room
+  pub pairs-read : (st₀ st : List ℕ) → st ≡ over 0 (flat (take most J)) st₀ → Wide body-wide J → n ≤ most → most * body-wide ≤ length st₀ → rowsOf body-wide n st ≡ J
+  unfolding over
+  pairs-read st₀ st s w h f =
+      let l = all-joined h in
+      let k : length (flat J) ≤ length st₀ = let z = length-flat body-wide J w in omega arith in
+      rw (l, s, take-all most J (omega arith), onto-fits (flat J) st₀ k) (rowsOf-flat body-wide J _ w)
+
+-- ---- by what the dossiers read as
+
+module _ (np : ℕ) (passes : List ℕ) (nv : ℕ) (validities : List ℕ) where
+  pub wide-pairs : np * 65 ≤ length passes → nv * 24 ≤ length validities → Wide body-wide (pairs np passes nv validities)
+  wide-pairs f g = wide-all (rowsOf 65 np passes) (rowsOf 24 nv validities) (wide-rowsOf 65 np passes f) (wide-rowsOf 24 nv validities g)
+
+module _ (calendar : List ℕ) (ps : List (List ℕ)) (book table : List ℕ) where
+  pub calendar-is : (x : Reading) → readingOf Tables.Calendar [] 0 calendar ≡ x → calendarAnswer calendar ps book table ≡ unlessRefused 2 x (roomToOpen (joinedTo calendar ps) book table)
+  unfolding calendarAnswer
+  calendar-is x e = ap (λ (y : Reading). unlessRefused 2 y (roomToOpen (joinedTo calendar ps) book table)) e
+
+  pub calendar-refused : (c : Counts) (x : Reading) (a : Answer) → readingOf Tables.Calendar [] 0 calendar ≡ x → unlessRefused 2 x (roomToOpen (joinedTo calendar ps) book table) ≡ a → isAccepted a ≡ false
+      → (r : Outcome) → (r .answer ≡ a) × (r .counts ≡ c) → Opened (calendarAnswer calendar ps book table) (joinedTo calendar ps) book table c r book table
+  calendar-refused c x a e u f r k = refused-with (joinedTo calendar ps) book table c a (calendarAnswer calendar ps book table) f (calendar-is x e ∙ u) r k
+
+  -- the validities are read back
+  calendar-read : (v₀ v : List ℕ) (nv : ℕ) → readingOf Tables.Calendar [] 0 calendar ≡ Readings.Rows nv → v ≡ stagedBy Tables.Calendar [] 0 calendar v₀ → nv * 24 ≤ length v₀
+      → joined ps (rowsOf 24 nv v) ≡ joinedTo calendar ps
+  unfolding joinedTo
+  calendar-read v₀ v nv e s f = ap (joined ps) (ap (rowsOf 24 nv) s ∙ staged-validities calendar v₀ nv e f)
+
+  pub calendar-taken : (c : Counts) (r : Outcome) (b t v₀ v : List ℕ) (nv : ℕ) → readingOf Tables.Calendar [] 0 calendar ≡ Readings.Rows nv → v ≡ stagedBy Tables.Calendar [] 0 calendar v₀ → nv * 24 ≤ length v₀
+      → Opened (roomToOpen (joined ps (rowsOf 24 nv v)) book table) (joined ps (rowsOf 24 nv v)) book table c r b t
+      → Opened (calendarAnswer calendar ps book table) (joinedTo calendar ps) book table c r b t
+  calendar-taken c r b t v₀ v nv e s f o =
+      subst (λ (x : Answer). Opened x (joinedTo calendar ps) book table c r b t) (sym (calendar-is (Readings.Rows nv) e))
+      (subst (λ (k : List (List ℕ)). Opened (roomToOpen k book table) k book table c r b t) (calendar-read v₀ v nv e s f) o)
+
+module _ (planning calendar book table : List ℕ) where
+  abbrev rs : List (List ℕ)
+  rs = rowsUpTo Tables.Planning [] 0 (itemsOf Tables.Planning planning)
+
+  pub planning-is : (x : Reading) → readingOf Tables.Planning [] 0 planning ≡ x → openAnswer planning calendar book table ≡ unlessRefused 1 x (calendarAnswer calendar rs book table)
+  unfolding openAnswer calendarAnswer joinedTo passagesOf
+  planning-is x e = ap (λ (y : Reading). unlessRefused 1 y (calendarAnswer calendar rs book table)) e
+
+  -- the rule of open, by its answer
+  open-is : (c : Counts) (r : Outcome) (b t : List ℕ) → Opened (openAnswer planning calendar book table) (passagesOf planning calendar) book table c r b t
+      → (r ≡ openOutcome planning calendar book table c) × ((b ≡ openBook planning calendar book table) × (t ≡ openTable planning calendar book table))
+  unfolding openOutcome openBook openTable planOf outcomeBy bookBy tableBy
+  open-is c r b t o = o
+
+  abbrev pub Opens : Counts → Outcome → List ℕ → List ℕ → Type 0
+  Opens c r b t = (r ≡ openOutcome planning calendar book table c) × ((b ≡ openBook planning calendar book table) × (t ≡ openTable planning calendar book table))
+
+  pub planning-refused : (c : Counts) (x : Reading) (a : Answer) → readingOf Tables.Planning [] 0 planning ≡ x → unlessRefused 1 x (calendarAnswer calendar rs book table) ≡ a → isAccepted a ≡ false
+      → (r : Outcome) → (r .answer ≡ a) × (r .counts ≡ c) → Opens c r book table
+  planning-refused c x a e u f r k = open-is c r book table (refused-with (passagesOf planning calendar) book table c a (openAnswer planning calendar book table) f (planning-is x e ∙ u) r k)
+
+  pub planning-taken : (c : Counts) (r : Outcome) (b t p₀ p : List ℕ) (np : ℕ) → readingOf Tables.Planning [] 0 planning ≡ Readings.Rows np → p ≡ stagedBy Tables.Planning [] 0 planning p₀ → np * 65 ≤ length p₀
+      → Opened (calendarAnswer calendar (rowsOf 65 np p) book table) (joinedTo calendar (rowsOf 65 np p)) book table c r b t
+      → Opens c r b t
+  unfolding joinedTo passagesOf
+  planning-taken c r b t p₀ p np e s f o =
+      let k : rowsOf 65 np p ≡ rs = ap (rowsOf 65 np) s ∙ staged-passes planning p₀ np e f in
+      open-is c r b t
+      (subst (λ (x : Answer). Opened x (joinedTo calendar rs) book table c r b t) (sym (planning-is (Readings.Rows np) e))
+      (subst (λ (q : List (List ℕ)). Opened (calendarAnswer calendar q book table) (joinedTo calendar q) book table c r b t) k o))
