@@ -1,0 +1,117 @@
+-- The answers of a withdrawal, one way out after another, and that a refusal gives back everything. Assumes nothing.
+use mathlib.Core.Path.{_≡_, refl, sym, ap, _∙_}
+use mathlib.Core.Bool.{Bool, true, false}
+use mathlib.Core.List.{List, [], _∷_}
+use Prim.Native.Nat.{ℕ, zero, suc, _+_, _-_, _≤_, _<_}
+use native.Mathlib.Nat.{not-suc-le-zero}
+use native.Mathlib.Omega.{arith}
+use borrow.Author.Tests.{le-leb, lt-leb}
+use lib.Dec.{eqb, leb}
+use lib.ListN.{length, drop, getD}
+use Rattle.lists.specs.Logic.{on, both, either}
+use Rattle.lists.specs.Part.{part}
+use Rattle.lists.specs.Rows.{rowsOf}
+use Rattle.table.specs.Rules.{room, tableSound}
+use Rattle.book.specs.Entries.{entry-wide, sender-at, updatesIn}
+use Rattle.book.specs.Rules.{bookSound, messageEntries}
+use Rattle.book.proofs.PlaceLaws.{kind-at, sender-from}
+use Rattle.lists.proofs.LogicLaws.{both-true, both-false}
+use Rattle.calls.specs.declared.Answer.{Answer}
+use Rattle.calls.specs.declared.Answer.the-variants.{Accepted, Unsound, TableShort, NoMessage, AlreadyWithdrawn, OtherSender}
+use Rattle.calls.specs.declared.Counts.{Counts}
+use Rattle.calls.specs.declared.Outcome.{Outcome}
+use Rattle.calls.specs.Answers.{isAccepted}
+use Rattle.calls.specs.Withdraw.{withdrawSound, rowsWithout, bookWithout, tableWithout, unlessBarred, withdrawAnswer, withdrawOutcome, withdrawBook, withdrawTable}
+use Rattle.withdrawals.specs.Steps.{Stands, roomAnswer, roomOutcome, roomBook, roomTable}
+
+-- ---- soundness, by its two tests
+
+module _ (book table : List ℕ) (c : Counts) where
+  pub sound-parts : withdrawSound book table c ≡ true → (bookSound (c .used) book ≡ true) × (tableSound (c .rows) table ≡ true)
+  unfolding withdrawSound
+  sound-parts e = both-true (bookSound (c .used) book) (tableSound (c .rows) table) e
+
+  pub sound-book : (t : Bool) → bookSound (c .used) book ≡ true → t ≡ tableSound (c .rows) table → t ≡ withdrawSound book table c
+  unfolding withdrawSound
+  sound-book t e g = rw e g
+
+  pub unsound-book : bookSound (c .used) book ≡ false → false ≡ withdrawSound book table c
+  unfolding withdrawSound
+  unsound-book e = rw e
+
+-- ---- a choice by an answer
+
+given-back : {A : Type 0} (a b : Answer) (x y : A) → a ≡ b → isAccepted b ≡ false → on (isAccepted a) x y ≡ y
+given-back a b x y e denied = rw (e, denied)
+
+module _ (n sender : ℕ) (book table : List ℕ) (c : Counts) where
+  abbrev All : Outcome → List ℕ → List ℕ → Type 0
+  All r b t = (r ≡ withdrawOutcome n sender book table c) × ((b ≡ withdrawBook n sender book table c) × (t ≡ withdrawTable n sender book table c))
+
+  pub refused-all : (a : Answer) (r : Outcome) → withdrawAnswer n sender book table c ≡ a → isAccepted a ≡ false → (r .answer ≡ a) × (r .counts ≡ c) → All r book table
+  unfolding withdrawOutcome withdrawBook withdrawTable
+  refused-all a r e denied told = (
+    λ i.
+        record {
+          answer = (told .0 ∙ sym e) i;
+          counts = (told .1 ∙ sym (given-back (withdrawAnswer n sender book table c) a (record { used = c .used; rows = length (rowsWithout n book (c .used) table (c .rows)) }) c e denied)) i;
+        },
+    (
+      sym (given-back (withdrawAnswer n sender book table c) a (bookWithout n book (c .used)) book e denied),
+      sym (given-back (withdrawAnswer n sender book table c) a (tableWithout n book (c .used) table (c .rows)) table e denied),
+    ),
+  )
+
+  -- ---- which answer
+
+  pub not-sound : withdrawSound book table c ≡ false → withdrawAnswer n sender book table c ≡ Unsound
+  unfolding withdrawAnswer
+  not-sound e = rw e
+
+  module _ (sound : withdrawSound book table c ≡ true) where
+    pub not-there : messageEntries n (updatesIn (c .used) book) ≡ [] → withdrawAnswer n sender book table c ≡ NoMessage
+    unfolding withdrawAnswer
+    not-there e = rw (sound, e)
+
+    module _ (at m : ℕ) (st : Stands n (c .used) book at m) where
+      first-row : (w k : ℕ) (t : List ℕ) → 0 < k → rowsOf w k t ≡ part 0 w t ∷ rowsOf w (k - 1) (drop w t)
+      unfolding rowsOf part
+      first-row w zero t h = absurd (not-suc-le-zero h)
+      first-row w (suc k) t h = let e : suc k - 1 ≡ k = omega arith in rw e
+
+      as-read : withdrawAnswer n sender book table c
+          ≡ on (either (eqb sender 0) (eqb sender (getD book (at + sender-at) 0))) (on (eqb (getD book at 0) 3) AlreadyWithdrawn (roomAnswer n book table c)) OtherSender
+      unfolding withdrawAnswer roomAnswer part
+      as-read = rw (sound, st .entries, first-row entry-wide m (drop at book) (st .some), kind-at at book, sender-from at book)
+
+      pub other-sender : either (eqb sender 0) (eqb sender (getD book (at + sender-at) 0)) ≡ false → withdrawAnswer n sender book table c ≡ OtherSender
+      other-sender e = as-read ∙ rw e
+
+      module _ (e : either (eqb sender 0) (eqb sender (getD book (at + sender-at) 0)) ≡ true) where
+        pub already : eqb (getD book at 0) 3 ≡ true → withdrawAnswer n sender book table c ≡ AlreadyWithdrawn
+        already k = as-read ∙ rw (e, k)
+
+        pub goes-on : eqb (getD book at 0) 3 ≡ false → (r : Outcome) (b t : List ℕ)
+            → (r ≡ roomOutcome n book table c) × ((b ≡ roomBook n book table c) × (t ≡ roomTable n book table c)) → All r b t
+        unfolding withdrawOutcome withdrawBook withdrawTable roomOutcome roomBook roomTable
+        goes-on k r b t told =
+            let a : withdrawAnswer n sender book table c ≡ roomAnswer n book table c = as-read ∙ rw (e, k) in
+            rw a told
+
+-- ---- 8, or acceptance
+
+module _ (n : ℕ) (book table : List ℕ) (c : Counts) where
+  abbrev without : List (List ℕ)
+  without = rowsWithout n book (c .used) table (c .rows)
+
+  abbrev Room : Outcome → List ℕ → List ℕ → Type 0
+  Room r b t = (r ≡ roomOutcome n book table c) × ((b ≡ roomBook n book table c) × (t ≡ roomTable n book table c))
+
+  pub room-refused : (r : Outcome) → room table < length without → (r .answer ≡ TableShort) × (r .counts ≡ c) → Room r book table
+  unfolding roomOutcome roomBook roomTable roomAnswer
+  room-refused r h told = rw (lt-leb (length without) (room table) h) ((λ i. record { answer = told .0 i; counts = told .1 i }), (refl, refl))
+
+  pub room-taken : (count : ℕ) (b t : List ℕ) → length without ≤ room table → count ≡ length without → b ≡ bookWithout n book (c .used) → t ≡ tableWithout n book (c .used) table (c .rows)
+      → Room (record { answer = Accepted 0; counts = record { used = c .used; rows = count } }) b t
+  unfolding roomOutcome roomBook roomTable roomAnswer
+  room-taken count b t h e f g = rw (le-leb (length without) (room table) h) ((λ i. record { answer = Accepted 0; counts = record { used = c .used; rows = e i } }), (f, g))
