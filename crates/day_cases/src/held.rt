@@ -1,0 +1,165 @@
+// What the program keeps between two lines of its input, and how a line is read.
+use calls::Counts;
+ghost use Prim.Native.Nat.{_-_, _≤_};
+ghost use lib.ListN.{length};
+
+// The line's letter and its two numbers, how much of book and table is lent, the counts, and where register and dossier end on the desk.
+pub struct Held {
+    pub letter: u8,
+    pub a: usize,
+    pub b: usize,
+    pub book: usize,
+    pub table: usize,
+    pub used: usize,
+    pub rows: usize,
+    pub register: usize,
+    pub dossier: usize,
+}
+
+// On the desk are five dossiers that are kept, each with its end in front, the register, and the dossier. The last one kept is the planning.
+pub const ROOM: usize = 66004;
+
+pub const REGISTER: usize = 330020;
+
+pub const DOSSIER: usize = 331020;
+
+pub const DESK: usize = 397020;
+
+pub fn nothing() -> Held {
+    Held {
+        letter: 0,
+        a: 0,
+        b: 0,
+        book: 0,
+        table: 0,
+        used: 0,
+        rows: 0,
+        register: REGISTER,
+        dossier: DOSSIER,
+    }
+}
+
+pub fn counts(h: Held) -> Counts {
+    Counts {
+        used: h.used,
+        rows: h.rows,
+    }
+}
+
+// What stands behind place n.
+pub fn after(s: &[u8], n: usize) -> &[u8]
+    ensures { λ r. ⌜ length (now r) ≤ length (now (s .entry)) - 1 ⌝ }
+{
+    if n < s.len() {
+        let a = n + 1;
+        return &s[a..];
+    }
+    &s[0..0]
+}
+
+// The first n bytes, or all.
+pub fn front(s: &[u8], n: usize) -> &[u8] {
+    if n <= s.len() {
+        return &s[0..n];
+    }
+    s
+}
+
+pub fn front_mut(s: &mut [u8], n: usize) -> &mut [u8] {
+    if n <= s.len() {
+        return &mut s[0..n];
+    }
+    s
+}
+
+// The bytes from a to e, or none.
+pub fn part(s: &[u8], a: usize, e: usize) -> &[u8] {
+    if e < a {
+        return &s[0..0];
+    }
+    if s.len() < e {
+        return &s[0..0];
+    }
+    &s[a..e]
+}
+
+// b at n, where it fits; the place behind it.
+pub fn append(s: &mut [u8], n: usize, b: &[u8]) -> usize {
+    if s.len() < n {
+        return n;
+    }
+    if s.len() - n < b.len() {
+        return n;
+    }
+    lists::copy_to(s, n, b);
+    n + b.len()
+}
+
+// So many bytes v from n on, as far as they fit; the place behind them.
+pub fn pad(s: &mut [u8], n: usize, many: usize, v: u8) -> usize {
+    let mut end = n;
+    let mut left = many;
+    while 0 < left {
+        if s.len() <= end {
+            return end;
+        }
+        s[end] = v;
+        end += 1;
+        left -= 1;
+    }
+    end
+}
+
+pub fn poke(s: &mut [u8], at: usize, v: usize) {
+    if at < s.len() {
+        s[at] = (v % 256) as u8;
+    }
+}
+
+// What a byte adds to a number: 10 or more where it ends the number.
+fn digit(v: usize, b: u8) -> usize {
+    if b < 48 {
+        return 10;
+    }
+    if 100000000000 < v {
+        return 10;
+    }
+    b as usize - 48
+}
+
+fn with_digit(v: usize, d: usize) -> usize {
+    v % 1000000000000 * 10 + d % 10
+}
+
+// The number that s begins with.
+fn value(s: &[u8]) -> usize {
+    let mut v: usize = 0;
+    let mut i = 0;
+    while i < s.len() {
+        let d = digit(v, s[i]);
+        if 9 < d {
+            return v;
+        }
+        v = with_digit(v, d);
+        i += 1;
+    }
+    v
+}
+
+// What follows the blank.
+pub fn second(line: &[u8]) -> &[u8] {
+    let n = turbo::find(line, 32);
+    after(line, n)
+}
+
+// A line with its letter and its numbers.
+pub fn read(line: &[u8], h: Held) -> Held {
+    if line.len() == 0 {
+        return h;
+    }
+    let mut n = h;
+    n.letter = line[0];
+    n.a = value(after(line, 0));
+    n.b = value(second(line));
+    n
+}
