@@ -1,27 +1,27 @@
 -- The answers of a withdrawal, one way out after another, and that a refusal gives back everything. Assumes nothing.
-use mathlib.Core.Path.{_≡_, refl, sym, ap, _∙_}
+use mathlib.Core.Path.{_≡_, refl, sym, _∙_}
 use mathlib.Core.Bool.{Bool, true, false}
 use mathlib.Core.List.{List, [], _∷_}
 use Prim.Native.Nat.{ℕ, zero, suc, _+_, _-_, _≤_, _<_}
 use native.Mathlib.Nat.{not-suc-le-zero}
 use native.Mathlib.Omega.{arith}
 use borrow.Author.Tests.{le-leb, lt-leb}
-use lib.Dec.{eqb, leb}
+use lib.Dec.{eqb}
 use lib.ListN.{length, drop, getD}
-use Rattle.lists.specs.Logic.{on, both, either}
+use Rattle.lists.specs.Logic.{on, either}
 use Rattle.lists.specs.Part.{part}
 use Rattle.lists.specs.Rows.{rowsOf}
 use Rattle.table.specs.Rules.{room, tableSound}
 use Rattle.book.specs.Entries.{entry-wide, sender-at, updatesIn}
 use Rattle.book.specs.Rules.{bookSound, messageEntries}
 use Rattle.book.proofs.PlaceLaws.{kind-at, sender-from}
-use Rattle.lists.proofs.LogicLaws.{both-true, both-false}
+use Rattle.lists.proofs.LogicLaws.{both-true}
 use Rattle.calls.specs.declared.Answer.{Answer}
 use Rattle.calls.specs.declared.Answer.the-variants.{Accepted, Unsound, TableShort, NoMessage, AlreadyWithdrawn, OtherSender}
 use Rattle.calls.specs.declared.Counts.{Counts}
 use Rattle.calls.specs.declared.Outcome.{Outcome}
 use Rattle.calls.specs.Answers.{isAccepted}
-use Rattle.calls.specs.Withdraw.{withdrawSound, rowsWithout, bookWithout, tableWithout, unlessBarred, withdrawAnswer, withdrawOutcome, withdrawBook, withdrawTable}
+use Rattle.calls.specs.Withdraw.{withdrawSound, rowsWithout, bookWithout, tableWithout, withdrawAnswer, withdrawOutcome, withdrawBook, withdrawTable}
 use Rattle.withdrawals.specs.Steps.{Stands, roomAnswer, roomOutcome, roomBook, roomTable}
 
 -- ---- soundness, by its two tests

@@ -8,7 +8,7 @@ use lib.ListN.{length, take, drop, getD, length-map}
 use lib.Seq.{length-take-le, getD-take}
 use Rattle.lists.specs.Each.{Each}
 use Rattle.lists.specs.Part.{part, over}
-use Rattle.lists.specs.Rows.{rowsOf, flat, Wide}
+use Rattle.lists.specs.Rows.{flat, Wide}
 use Rattle.lists.proofs.PartLaws.{length-part}
 use Rattle.lists.proofs.WideLaws.{rowsOf-flat, length-flat}
 use Rattle.lists.proofs.OverLaws.{onto-fits}

@@ -6,7 +6,7 @@ use Prim.Native.Nat.{ℕ, _+_, _*_, _≤_, _<_}
 use native.Mathlib.Omega.{arith}
 use borrow.Author.Tests.{eq-eqb, ne-eqb}
 use lib.Dec.{eqb}
-use lib.ListN.{length, drop, getD, set, length-map}
+use lib.ListN.{length, drop, getD, length-map}
 use lib.Seq.{getD-set-same}
 use Rattle.lists.specs.Logic.{on}
 use Rattle.lists.specs.Part.{part, over}
@@ -14,7 +14,7 @@ use Rattle.lists.specs.Rows.{rowsOf, Wide}
 use Rattle.lists.specs.BigEndian.{number}
 use Rattle.lists.proofs.PartLaws.{length-part}
 use Rattle.lists.proofs.RowLaws.{row-at, length-rowsOf}
-use Rattle.passage.specs.Layout.{key-wide, body-wide, row-wide, keyOf}
+use Rattle.passage.specs.Layout.{key-wide, body-wide, keyOf}
 use Rattle.keys.specs.declared.Found.{Found}
 use Rattle.keys.specs.declared.Found.the-variants.{At, Missing}
 use Rattle.keys.specs.Sorted.{sortedRows, lookup}

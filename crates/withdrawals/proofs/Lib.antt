@@ -10,3 +10,4 @@ pub mod WorkLaws
 pub mod ReworkLaws
 pub mod StandsLaws
 pub mod AnswerLaws
+pub mod Determined

@@ -3,21 +3,18 @@ use mathlib.Core.Path.{_≡_, refl, sym, ap, _∙_}
 use mathlib.Core.Bool.{Bool, true, false}
 use mathlib.Core.Logic.{inl, inr}
 use mathlib.Core.List.{List, [], _∷_, _++_, map, append-nil}
-use Prim.Native.Nat.{ℕ, zero, suc, _+_, _*_, _≤_, _<_}
+use Prim.Native.Nat.{ℕ, zero, suc, _+_, _*_, _≤_}
 use native.Mathlib.Numerals.{add-one}
-use native.Mathlib.Nat.{add-zero}
 use native.Mathlib.Omega.{arith}
-use lib.ListN.{length, take, drop}
+use lib.ListN.{length, take}
 use Rattle.lists.specs.Logic.{either}
-use Rattle.lists.specs.Each.{Each}
 use Rattle.lists.specs.Text.{same}
 use Rattle.lists.specs.Part.{part}
 use Rattle.lists.specs.Rows.{rowsOf}
-use Rattle.lists.proofs.PartLaws.{part-part, length-part}
+use Rattle.lists.proofs.PartLaws.{part-part}
 use Rattle.lists.proofs.RowLaws.{rowsOf-append, flat-rowsOf, length-rowsOf}
 use Rattle.lists.proofs.WideLaws.{wide-rowsOf, rowsOf-flat}
 use Rattle.passage.specs.Layout.{key-wide, body-wide, keyOf}
-use Rattle.keys.specs.declared.Order.the-variants.{Same}
 use Rattle.keys.specs.Keys.{cmp, byOrder}
 use Rattle.keys.proofs.KeyLaws.{cmp-same, Cases, cases}
 use Rattle.keys.proofs.ReplayLaws.{among}
@@ -25,25 +22,11 @@ use Rattle.sorting.specs.Rules.{keyAt, keysOf, placed, sortedPlaces}
 use Rattle.book.specs.Entries.{entry-wide, body-at, bodyOf}
 use Rattle.calls.specs.Withdraw.{named}
 use Rattle.withdrawals.specs.Slots.{namesAt}
-
-either-swap : (a b c : Bool) → either a (either b c) ≡ either b (either a c)
-either-swap true true c = refl
-either-swap true false c = refl
-either-swap false b c = refl
+use Rattle.withdrawals.proofs.RowsLaws.{either-swap}
 
 either-twice : (a b : Bool) → either a b ≡ either a (either a b)
 either-twice true b = refl
 either-twice false b = refl
-
-either-comm : (a b : Bool) → either a b ≡ either b a
-either-comm true true = refl
-either-comm true false = refl
-either-comm false true = refl
-either-comm false false = refl
-
-either-assoc : (a b c : Bool) → either a (either b c) ≡ either (either a b) c
-either-assoc true b c = refl
-either-assoc false b c = refl
 
 module _ (x : List ℕ) where
   -- a place put in by key adds its key

@@ -2,18 +2,17 @@
 use mathlib.Core.Path.{_≡_, refl, sym, ap, _∙_}
 use mathlib.Core.Bool.{Bool, true, false}
 use mathlib.Core.Logic.{_⊎_, inl, inr}
-use mathlib.Core.List.{List, [], _∷_, _++_, map}
-use Prim.Native.Nat.{ℕ, suc, _+_, _<_}
+use mathlib.Core.List.{List, [], _∷_, _++_}
+use Prim.Native.Nat.{ℕ, _+_, _<_}
 use native.Mathlib.Omega.{arith}
-use lib.Dec.{eqb}
-use lib.ListN.{length, getD}
+use lib.ListN.{length}
 use Rattle.lists.specs.Logic.{on, either}
 use Rattle.lists.specs.Each.{Each}
 use Rattle.lists.specs.Text.{same}
 use Rattle.lists.specs.Part.{part}
 use Rattle.lists.proofs.PartLaws.{length-part}
 use Rattle.passage.specs.Layout.{row-wide, keyOf}
-use Rattle.keys.specs.declared.Order.the-variants.{Less, Same}
+use Rattle.keys.specs.declared.Order.the-variants.{Less}
 use Rattle.keys.specs.Keys.{cmp}
 use Rattle.keys.specs.Sorted.{sortedRows, risesFrom, get, put, remove}
 use Rattle.keys.specs.Replay.{place, reworked}
@@ -21,7 +20,7 @@ use Rattle.keys.proofs.KeyLaws.{less-not-same, cmp-trans}
 use Rattle.keys.proofs.SortedLaws.{rises-head, rises-tail, sorted-rises, sorted-tail}
 use Rattle.keys.proofs.EqualLaws.{Filled}
 use Rattle.keys.proofs.CountLaws.{length-put-new, length-put-held, remove-missing, length-remove-held}
-use Rattle.keys.proofs.ReplayLaws.{RowOf, empty-or, among, sorted-place, each-place, get-place-other, reworked-members}
+use Rattle.keys.proofs.ReplayLaws.{RowOf, among, sorted-place, each-place, get-place-other, reworked-members}
 use Rattle.sorting.proofs.PlaceLaws.{own-part}
 use Rattle.withdrawals.specs.Slots.{slot-wide, hasRow, keyIn, rowIn, removeOne, putOne, removals, puts, weight, weights}
 
@@ -54,6 +53,17 @@ rises-skip : (k j : List ℕ) (ls : List (List ℕ)) → cmp (keyOf k) (keyOf j)
 unfolding risesFrom
 rises-skip k j [] h r = refl
 rises-skip k j (l ∷ ls) h r = rw (cmp-trans (keyOf k) (keyOf j) (keyOf l) h (rises-head j l ls r)) (rises-tail j l ls r)
+
+-- ---- tests
+
+either-assoc : (a b c : Bool) → either a (either b c) ≡ either (either a b) c
+either-assoc true b c = refl
+either-assoc false b c = refl
+
+pub either-swap : (a b c : Bool) → either a (either b c) ≡ either b (either a c)
+either-swap true true c = refl
+either-swap true false c = refl
+either-swap false b c = refl
 
 -- ---- one slot
 
@@ -107,6 +117,11 @@ unfolding reworked
 reworked-append f [] ks rs = refl
 reworked-append f (j ∷ js) ks rs = reworked-append f js ks (place j (f j) rs)
 
+among-append : (x : List ℕ) (js ks : List (List ℕ)) → among x (js ++ ks) ≡ either (among x js) (among x ks)
+unfolding among
+among-append x [] ks = refl
+among-append x (j ∷ js) ks = ap (either (same j x)) (among-append x js ks) ∙ either-assoc (same j x) (among x js) (among x ks)
+
 module _ (f : List ℕ → List ℕ) where
   removals-are : (ks ss rs : List (List ℕ)) → SlotsFor f ks ss → removals ss rs ≡ reworked f (gone f ks) rs
   unfolding removals reworked gone
@@ -131,20 +146,6 @@ module _ (f : List ℕ → List ℕ) where
           → puts ss (on t rs (place k (f k) rs)) ≡ reworked f (on t (held f ks) (k ∷ held f ks)) rs
       go true ih = ih rs
       go false ih = ih (place k (f k) rs)
-
-  either-assoc : (a b c : Bool) → either a (either b c) ≡ either (either a b) c
-  either-assoc true b c = refl
-  either-assoc false b c = refl
-
-  either-swap : (a b c : Bool) → either a (either b c) ≡ either b (either a c)
-  either-swap true true c = refl
-  either-swap true false c = refl
-  either-swap false b c = refl
-
-  pub among-append : (x : List ℕ) (js ks : List (List ℕ)) → among x (js ++ ks) ≡ either (among x js) (among x ks)
-  unfolding among
-  among-append x [] ks = refl
-  among-append x (j ∷ js) ks = ap (either (same j x)) (among-append x js ks) ∙ either-assoc (same j x) (among x js) (among x ks)
 
   among-split : (x : List ℕ) (ks : List (List ℕ)) → either (among x (gone f ks)) (among x (held f ks)) ≡ among x ks
   unfolding among gone held

@@ -1,22 +1,21 @@
 -- Slots as the code writes them. Assumes nothing.
 use mathlib.Core.Path.{_≡_, refl, sym, ap, _∙_}
-use mathlib.Core.Bool.{Bool, true, false}
-use mathlib.Core.Logic.{_⊎_, inl, inr}
-use mathlib.Core.List.{List, [], _∷_, _++_, map, append-nil}
-use Prim.Native.Nat.{ℕ, zero, suc, _+_, _*_, _-_, _≤_, _<_}
+use mathlib.Core.Bool.{true, false}
+use mathlib.Core.Logic.{inl, inr}
+use mathlib.Core.List.{List, [], _∷_, _++_, append-nil}
+use Prim.Native.Nat.{ℕ, zero, _+_, _*_, _-_, _≤_, _<_}
 use native.Mathlib.Numerals.{add-one}
-use native.Mathlib.Nat.{add-zero, zero-add, not-suc-le-zero, le-of-suc-le-suc}
+use native.Mathlib.Nat.{add-zero, not-suc-le-zero}
 use native.Mathlib.Omega.{arith}
 use borrow.Author.Tests.{eq-eqb, ne-eqb}
-use lib.ListN.{length, take, drop, getD, set, replicate, length-replicate, length-append}
+use lib.ListN.{length, take, getD, set, replicate, length-replicate, length-append}
 use lib.Seq.{length-take-le, take-suc, take-length, set-getD, drop-length}
-use Rattle.lists.specs.Each.{Each}
-use Rattle.lists.specs.Part.{part, over, onto}
-use Rattle.lists.specs.Rows.{rowsOf, flat, Wide}
+use Rattle.lists.specs.Part.{part, over}
+use Rattle.lists.specs.Rows.{flat, Wide}
 use Rattle.lists.proofs.PartLaws.{part-part, length-part}
-use Rattle.lists.proofs.OverLaws.{length-over, over-nil, over-cons, over-then, over-longer, getD-before, onto-fits}
+use Rattle.lists.proofs.OverLaws.{over-nil, over-cons, over-then, over-longer, getD-before, onto-fits}
 use Rattle.lists.proofs.ReadLaws.{part-written}
-use Rattle.lists.proofs.RowLaws.{flat-append, rowsOf-over, row-at, length-rowsOf}
+use Rattle.lists.proofs.RowLaws.{flat-append, rowsOf-over}
 use Rattle.lists.proofs.WideLaws.{length-flat}
 use Rattle.lists.proofs.EachLaws.{each-take}
 use Rattle.passage.specs.Layout.{key-wide, body-wide, row-wide}
@@ -45,9 +44,6 @@ module _ (at : ℕ) (k d s t : List ℕ) (hk : length k ≡ key-wide) (keyed : s
       cleared
       ∙ ap (λ (l : List ℕ). over (at + 1 + key-wide) zeros l) (keyed ∙ ap (over (at + 1) k) (set-over at 0 d) ∙ over-then at (0 ∷ []) k d)
       ∙ rw a (over-then at (0 ∷ k) zeros d)
-
-  pub blank-length : length t ≡ length d
-  blank-length = ap length blank ∙ length-over at (slotOf k []) d
 
   module _ (r u : List ℕ) (planned : u ≡ over (at + 1) r t) where
     pub slot-planned : Whole r → some r ≡ true → set u at 1 ≡ over at (slotOf k r) d

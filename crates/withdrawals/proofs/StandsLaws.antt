@@ -1,12 +1,12 @@
 -- Where a message that was found stands, and that marking its entries is its withdrawal. Assumes nothing.
-use mathlib.Core.Path.{_≡_, refl, sym, ap, _∙_}
+use mathlib.Core.Path.{_≡_, sym, ap, _∙_}
 use mathlib.Core.Bool.{true}
-use mathlib.Core.List.{List, [], _∷_, _++_, map}
-use Prim.Native.Nat.{ℕ, _+_, _*_, _-_, _/_, _≤_, _<_}
+use mathlib.Core.List.{List, _++_, map}
+use Prim.Native.Nat.{ℕ, _+_, _*_, _-_, _/_, _≤_}
 use native.Mathlib.Omega.{arith}
 use lib.ListN.{length, take, drop, length-append, length-take, length-drop, length-map}
-use Rattle.lists.specs.Part.{part, over, onto}
-use Rattle.lists.specs.Rows.{rowsOf, flat, Wide}
+use Rattle.lists.specs.Part.{part, over}
+use Rattle.lists.specs.Rows.{rowsOf, flat}
 use Rattle.lists.proofs.PartLaws.{part-is, length-part}
 use Rattle.lists.proofs.OverLaws.{length-over, over-front, over-self, onto-longer}
 use Rattle.lists.proofs.ReadLaws.{take-before}
@@ -15,9 +15,9 @@ use Rattle.lists.proofs.WideLaws.{length-flat, wide-rowsOf}
 use Rattle.book.specs.declared.Held.the-variants.{At}
 use Rattle.book.specs.Held.{heldAs}
 use Rattle.book.specs.Entries.{plan-wide, entry-wide, planCount, plansIn, updatesIn}
-use Rattle.book.specs.Rules.{bookSound, messageEntries, marked, withdrawn, firstOf}
-use Rattle.book.proofs.SoundLaws.{sound-facts, used-within, plans-within, updates-are}
-use Rattle.book.proofs.SplitLaws.{sound-split, length-updates, updateCount}
+use Rattle.book.specs.Rules.{bookSound, marked, withdrawn}
+use Rattle.book.proofs.SoundLaws.{sound-facts, used-within, updates-are}
+use Rattle.book.proofs.SplitLaws.{sound-split, length-updates}
 use Rattle.book.proofs.WriteLaws.{wide-marked}
 use Rattle.book.proofs.AfterLaws.{after-withdrawal}
 use Rattle.book.proofs.HeldLaws.{held-is, found-message}

@@ -2,17 +2,17 @@
 use mathlib.Core.Path.{_≡_, refl, sym, ap, _∙_}
 use mathlib.Core.Bool.{Bool, true, false}
 use mathlib.Core.List.{List, [], _∷_, _++_}
-use Prim.Native.Nat.{ℕ, suc, _+_, _*_, _-_, _≤_, _<_}
-use native.Mathlib.Nat.{not-suc-le-zero, le-refl, le-trans, mul-le-mul-right}
+use Prim.Native.Nat.{ℕ, _+_, _*_, _-_, _≤_, _<_}
+use native.Mathlib.Nat.{not-suc-le-zero, le-refl, le-trans}
 use native.Mathlib.Omega.{arith}
 use borrow.Author.Tests.{eq-eqb, ne-eqb}
 use lib.Dec.{eqb}
 use lib.ListN.{length, take, drop, getD}
 use Rattle.lists.specs.Logic.{on}
 use Rattle.lists.specs.Part.{part}
-use Rattle.lists.specs.Rows.{rowsOf, store, Wide}
+use Rattle.lists.specs.Rows.{rowsOf, store}
 use Rattle.lists.proofs.PartLaws.{length-part, part-part, part-is}
-use Rattle.lists.proofs.RowLaws.{rowsOf-start, rowsOf-step, rowsOf-append, length-rowsOf, row-at}
+use Rattle.lists.proofs.RowLaws.{rowsOf-start, rowsOf-step, rowsOf-append, length-rowsOf}
 use Rattle.lists.proofs.StoreLaws.{store-same}
 use Rattle.lists.proofs.EachLaws.{each-at}
 use Rattle.lists.proofs.WideLaws.{wide-rowsOf}
@@ -23,7 +23,7 @@ use Rattle.keys.specs.Sorted.{sortedRows, lookup, get, put, remove}
 use Rattle.keys.proofs.PutLaws.{get-at, lookup-within}
 use Rattle.keys.proofs.CountLaws.{put-least, remove-most}
 use Rattle.table.specs.Rules.{rows}
-use Rattle.table.proofs.RunLaws.{Holds, holds-start, holds-length, holds-rows, holds-fits, holds-sorted, holds-put, holds-remove}
+use Rattle.table.proofs.RunLaws.{Holds, holds-start, holds-length, holds-rows, holds-put, holds-remove}
 use Rattle.book.proofs.PlaceLaws.{first-at}
 use Rattle.book.proofs.WriteLaws.{rowsOf-snoc}
 use Rattle.withdrawals.specs.Slots.{slot-wide, slotsOf, hasRow, keyIn, rowIn, removeOne, removals, putOne, puts, weight, weights}

@@ -1,9 +1,9 @@
 -- An update among slots whose keys rise: it changes one of them, or none. Assumes nothing.
-use mathlib.Core.Path.{_≡_, refl, sym, ap, _∙_}
+use mathlib.Core.Path.{_≡_, refl, ap, _∙_}
 use mathlib.Core.Bool.{Bool, true, false}
 use mathlib.Core.Logic.{inl, inr}
 use mathlib.Core.List.{List, [], _∷_, map}
-use Prim.Native.Nat.{ℕ, suc}
+use Prim.Native.Nat.{ℕ}
 use native.Mathlib.Omega.{arith}
 use lib.ListN.{getD, set}
 use Rattle.lists.specs.Logic.{on}
@@ -12,8 +12,7 @@ use Rattle.lists.proofs.TextLaws.{same-equal, same-refl}
 use Rattle.passage.specs.Layout.{keyOf}
 use Rattle.keys.specs.declared.Found.{Found}
 use Rattle.keys.specs.declared.Found.the-variants.{At, Missing}
-use Rattle.keys.specs.declared.Order.{Order}
-use Rattle.keys.specs.declared.Order.the-variants.{Less, Same, More}
+use Rattle.keys.specs.declared.Order.the-variants.{Less, Same}
 use Rattle.keys.specs.Keys.{cmp, byOrder}
 use Rattle.keys.specs.Sorted.{sortedRows, risesFrom, lookup, lookupFrom}
 use Rattle.keys.proofs.KeyLaws.{cmp-refl, cmp-same, cmp-trans, Cases, cases, less-not-same, more-not-same}

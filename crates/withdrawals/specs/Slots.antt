@@ -1,9 +1,9 @@
 -- Slots: of each passage that a message names, its row, or that there is none. Assumes nothing.
 use Prim.Native.Nat.{ℕ, _+_, _-_}
-use mathlib.Core.Bool.{Bool, true, false}
-use mathlib.Core.List.{List, [], _∷_, _++_, map}
+use mathlib.Core.Bool.{Bool}
+use mathlib.Core.List.{List, [], _∷_, _++_}
 use lib.Dec.{eqb}
-use lib.ListN.{getD, replicate, take}
+use lib.ListN.{getD, replicate}
 use Rattle.lists.specs.Logic.{on}
 use Rattle.lists.specs.Text.{same}
 use Rattle.lists.specs.Part.{part}

@@ -1,82 +1,62 @@
-use Rattle.lists.proofs.OverLaws.{length-over}
+use mathlib.Core.Path.{sym, _∙_}
+use native.Mathlib.Omega.{arith}
+use borrow.Author.Needs.{needs}
+use lib.ListN.{length-set}
 use Rattle.book.specs.Rules.{planRows}
 use Rattle.keys.specs.Sorted.{get}
 use Rattle.book.proofs.FindLaws.{bodies, wide-bodies}
 use Rattle.book.proofs.WriteLaws.{lent-part}
-use Rattle.withdrawals.specs.Slots.{begunSlot}
-use Rattle.withdrawals.proofs.SlotLaws.{planned-whole}
-use Rattle.withdrawals.proofs.SlotWriteLaws.{blank-length, slot-planned, slot-bare}
-use mathlib.Core.Path.{_≡_, sym, ap, _∙_}
-use Prim.Native.Nat.{_+_, _≤_}
-use native.Mathlib.Omega.{arith}
-use lib.ListN.{length, length-set}
 use Rattle.lists.specs.Part.{part}
 use Rattle.lists.proofs.PartLaws.{length-part}
 use Rattle.passage.specs.Layout.{key-wide}
-use borrow.Author.Needs.{needs}
+use Rattle.withdrawals.specs.Slots.{begunSlot}
+use Rattle.withdrawals.proofs.SlotLaws.{planned-whole}
+use Rattle.withdrawals.proofs.SlotWriteLaws.{slot-planned, slot-bare}
 use Rattle.withdrawals.proofs.begin_slot.Statement.{statement}
 use Rattle.withdrawals.proofs.begin_slot.Tie as tie
-use Rattle.withdrawals.proofs.begin_slot.Reads as reads
-use Rattle.withdrawals.proofs.begin_slot.Lts as lts
-use Rattle.book.proofs.plan_row.Reads as plan-row-reads
-use Rattle.lists.proofs.clear.Reads as clear-reads
-use Rattle.lists.proofs.copy_to.Reads as copy-to-reads
 
--- src/rt:39:5
 slice-write-slots : tie.Need-slice-write-slots
 slice-write-slots c = search needs
 
--- src/rt:40:27
 add-copy-to : tie.Need-add-copy-to
 add-copy-to c = search needs
 
--- src/rt:40:41
 add-copy-to-2 : tie.Need-add-copy-to-2
 add-copy-to-2 c = search needs
 
--- src/rt:40:35
 sub-copy-to : tie.Need-sub-copy-to
 sub-copy-to c = search needs
 
--- src/rt:40:35
 part-copy-to-start : tie.Need-part-copy-to-start
 part-copy-to-start c = search needs
 
--- src/rt:40:35
 part-copy-to-end : tie.Need-part-copy-to-end
 part-copy-to-end c = search needs
 
--- src/rt:40:5
 copy-to-requires : tie.Need-copy-to-requires
 copy-to-requires c κs =
     let a = c .before .before .before .before .before .args in
     let l = length-set (a .slots .now) (a .at) 0 in
     rw (lent-part (a .q) key-wide (a .e .now), length-part (a .q) key-wide (a .e .now) (omega arith)) (omega arith)
 
--- src/rt:43:9
 add-clear : tie.Need-add-clear
 add-clear c = search needs
 
--- src/rt:43:9
 add-clear-2 : tie.Need-add-clear-2
 add-clear-2 c = search needs
 
--- src/rt:44:9
 sub-clear : tie.Need-sub-clear
 sub-clear c = search needs
 
--- src/rt:41:5
 clear-requires : tie.Need-clear-requires
 clear-requires c κs =
     let a = c .before .before .before .before .before .before .before .before .before .args in
     let l = length-set (a .slots .now) (a .at) 0 in
     omega arith
 
--- src/rt:46:42
 add-plan-row : tie.Need-add-plan-row
 add-plan-row c = search needs
 
--- src/rt:46:8
 plan-row-requires : tie.Need-plan-row-requires
 plan-row-requires c κs =
     let start = c .before .before .before .before .before .before .before .before .before .before .before .before .before in
@@ -84,21 +64,18 @@ plan-row-requires c κs =
     let l = length-set (a .slots .now) (a .at) 0 in
     ((start .pre .0 .0, start .pre .0 .1), (start .pre .1, omega arith))
 
--- src/rt:47:9
 slice-write-slots-2 : tie.Need-slice-write-slots-2
 slice-write-slots-2 c =
     let a = c .before .before .before .before .before .before .before .before .before .before .before .before .before .before .before .before .before .args in
     let l = length-set (a .slots .now) (a .at) 0 in
     omega arith
 
--- src/rt:48:9
 same-length : tie.Need-same-length
 same-length c =
     let a = c .before .before .before .before .before .before .before .before .before .before .before .before .before .before .before .before .before .args in
     let l = length-set (a .slots .now) (a .at) 0 in
     simp length-set (omega arith)
 
--- src/rt:48:9
 returns : tie.Need-returns
 unfolding begunSlot
 returns c =
@@ -109,14 +86,12 @@ returns c =
     slot-planned (a .at) k (a .slots .now) _ _ (length-part (a .q) key-wide (a .e .now) (start .pre .0 .1)) (rw (lent-part (a .q) key-wide (a .e .now)) at (c .before .before .before .before .before .before .before .before .before .before .before .copy-to .ensures)) (c .before .before .before .before .before .before .before .clear .ensures)
     (get k (planRows (bodies (a .n) (a .b .now)))) _ (plan .ensures .1) (planned-whole (bodies (a .n) (a .b .now)) (wide-bodies (a .n) (a .b .now) (start .pre .0 .0)) k) (sym (plan .ensures .0) ∙ c .if1 .taken)
 
--- src/rt:34:1
 same-length-2 : tie.Need-same-length-2
 same-length-2 c =
     let a = c .before .before .before .before .before .before .before .before .before .before .before .before .before .before .before .before .before .args in
     let l = length-set (a .slots .now) (a .at) 0 in
     omega arith
 
--- src/rt:34:1
 returns-2 : tie.Need-returns-2
 unfolding begunSlot
 returns-2 c =

@@ -1,15 +1,10 @@
-use mathlib.Core.Path.{_≡_, refl, sym, ap, _∙_}
-use Prim.Native.Nat.{ℕ, _+_, _*_, _-_, _≤_, _<_}
+use Prim.Native.Nat.{_-_, _≤_}
 use native.Mathlib.Omega.{arith}
 use borrow.Author.Needs.{needs}
-use lib.ListN.{length, take}
 use Rattle.table.specs.Rules.{rows}
 use Rattle.withdrawals.proofs.TableLaws.{Summed, sum-start, sum-turn, sum-end}
 use Rattle.withdrawals.proofs.count_after.Statement.{statement}
 use Rattle.withdrawals.proofs.count_after.Tie as tie
-use Rattle.withdrawals.proofs.count_after.Reads as reads
-use Rattle.withdrawals.proofs.count_after.Lts as lts
-use Rattle.withdrawals.proofs.weigh.Reads as weigh-reads
 
 abbrev Inv-loop : tie.InvT-loop
 Inv-loop t n slots c sum₀ i₀ sum i = (i ≤ c) × Summed (rows n t) c slots n i sum
@@ -17,24 +12,20 @@ Inv-loop t n slots c sum₀ i₀ sum i = (i ≤ c) × Summed (rows n t) c slots 
 abbrev μ-loop : tie.MeasureT-loop
 μ-loop t n slots c sum₀ i₀ sum i = c - i
 
--- src/rt:202:5
 loop-holds : tie.Need-loop-holds Inv-loop μ-loop
 loop-holds c =
     let start = c .before .before in
     let a = start .args in
     (search needs, sum-start (rows (a .n) (a .t .now)) (a .c) (a .slots .now) (a .n))
 
--- src/rt:203:36
 mul-weigh : tie.Need-mul-weigh Inv-loop μ-loop
 mul-weigh c = search needs
 
--- src/rt:203:13
 weigh-requires : tie.Need-weigh-requires Inv-loop μ-loop
 weigh-requires c κs =
     let start = c .before .before .before .before in
     ((start .pre .0 .0, omega arith), start .pre .1)
 
--- src/rt:204:15
 add-sum : tie.Need-add-sum Inv-loop μ-loop
 add-sum c =
     let start = c .before .before .before .before .before in
@@ -44,15 +35,12 @@ add-sum c =
     let t = sum-turn (rows (a .n) (a .t .now)) (a .c) (a .slots .now) (a .n) (loop .i) (loop .sum) (c .weigh .result) (c .before .loop-test .taken) (loop .inv .1) (c .weigh .ensures) .small in
     omega arith
 
--- src/rt:205:9
 add-i : tie.Need-add-i Inv-loop μ-loop
 add-i c = search needs
 
--- src/rt:202:5
 loop-less : tie.Need-loop-less Inv-loop μ-loop
 loop-less c = search needs
 
--- src/rt:202:5
 loop-again : tie.Need-loop-again Inv-loop μ-loop
 loop-again c =
     let start = c .before .before .before .before .before in
@@ -60,7 +48,6 @@ loop-again c =
     let loop = c .before .before .loop in
     (omega arith, sum-turn (rows (a .n) (a .t .now)) (a .c) (a .slots .now) (a .n) (loop .i) (loop .sum) (c .weigh .result) (c .before .loop-test .taken) (loop .inv .1) (c .weigh .ensures))
 
--- src/rt:195:1
 returns : tie.Need-returns Inv-loop μ-loop
 returns c =
     let start = c .before .before .before .before in

@@ -1,42 +1,31 @@
-use mathlib.Core.Path.{_≡_, sym, _∙_}
-use Prim.Native.Nat.{_+_, _-_}
-use native.Mathlib.Omega.{arith}
+use mathlib.Core.Path.{sym}
+use Prim.Native.Nat.{_-_}
+use borrow.Author.Needs.{needs}
 use Rattle.lists.proofs.RowLaws.{length-rowsOf}
 use Rattle.lists.proofs.StoreLaws.{store-same}
 use Rattle.passage.specs.Layout.{row-wide}
 use Rattle.withdrawals.proofs.TableLaws.{has-one, has-none, row-lent, row-lent-length}
-use borrow.Author.Needs.{needs}
 use Rattle.withdrawals.proofs.put_one.Statement.{statement}
 use Rattle.withdrawals.proofs.put_one.Tie as tie
-use Rattle.withdrawals.proofs.put_one.Reads as reads
-use Rattle.withdrawals.proofs.put_one.Lts as lts
-use Rattle.table.proofs.put_row.Reads as put-row-reads
 
--- src/rt:246:8
 shared-slice-read-if1 : tie.Need-shared-slice-read-if1
 shared-slice-read-if1 c = search needs
 
--- src/rt:247:44
 add-put-row : tie.Need-add-put-row
 add-put-row c = search needs
 
--- src/rt:247:52
 add-put-row-2 : tie.Need-add-put-row-2
 add-put-row-2 c = search needs
 
--- src/rt:247:37
 sub-put-row : tie.Need-sub-put-row
 sub-put-row c = search needs
 
--- src/rt:247:37
 part-put-row-start : tie.Need-part-put-row-start
 part-put-row-start c = search needs
 
--- src/rt:247:37
 part-put-row-end : tie.Need-part-put-row-end
 part-put-row-end c = search needs
 
--- src/rt:247:9
 put-row-requires : tie.Need-put-row-requires
 put-row-requires c κs =
     let start = c .before .before .before .before .before .before in
@@ -44,17 +33,14 @@ put-row-requires c κs =
     rw (row-lent (a .at) (a .slots .now))
     ((start .pre .0 .0, rw (has-one (a .at) (a .slots .now) (c .before .before .if1 .taken)) at (start .pre .0 .2), row-lent-length (a .at) (a .slots .now) (start .pre .0 .1)), start .pre .1)
 
--- src/rt:247:9
 same-length : tie.Need-same-length
 same-length c = search needs
 
--- src/rt:247:9
 returns : tie.Need-returns
 returns c =
     let a = c .before .before .before .before .before .before .before .before .before .args in
     rw (has-one (a .at) (a .slots .now) (c .before .before .before .before .before .if1 .taken)) (rw (row-lent (a .at) (a .slots .now)) at (c .before .before .put-row .ensures))
 
--- src/rt:240:1
 returns-2 : tie.Need-returns-2
 returns-2 c =
     let a = c .before .before .before .before .args in

@@ -1,17 +1,13 @@
-use Rattle.withdrawals.specs.Slots.{slotsOf, removals}
-use mathlib.Core.Path.{_≡_, refl, sym, ap, _∙_}
-use Prim.Native.Nat.{ℕ, _+_, _*_, _-_, _≤_, _<_}
+use mathlib.Core.Path.{_≡_}
+use Prim.Native.Nat.{_-_, _≤_}
 use native.Mathlib.Omega.{arith}
 use borrow.Author.Needs.{needs}
-use lib.ListN.{length, take}
 use Rattle.table.specs.Rules.{rows}
 use Rattle.table.proofs.RunLaws.{holds-length, holds-fits, holds-sorted}
+use Rattle.withdrawals.specs.Slots.{slotsOf, removals}
 use Rattle.withdrawals.proofs.TableLaws.{Removed, removed-start, removed-turn}
 use Rattle.withdrawals.proofs.remove_all.Statement.{statement}
 use Rattle.withdrawals.proofs.remove_all.Tie as tie
-use Rattle.withdrawals.proofs.remove_all.Reads as reads
-use Rattle.withdrawals.proofs.remove_all.Lts as lts
-use Rattle.withdrawals.proofs.remove_one.Reads as remove-one-reads
 
 abbrev Inv-loop : tie.InvT-loop
 Inv-loop t₀ n slots c count₀ i₀ t count i = (i ≤ c) × Removed n t₀ slots i count t
@@ -19,18 +15,15 @@ Inv-loop t₀ n slots c count₀ i₀ t count i = (i ≤ c) × Removed n t₀ sl
 abbrev μ-loop : tie.MeasureT-loop
 μ-loop t₀ n slots c count₀ i₀ t count i = c - i
 
--- src/rt:232:5
 loop-holds : tie.Need-loop-holds Inv-loop μ-loop
 loop-holds c =
     let start = c .before .before in
     let a = start .args in
     (search needs, removed-start (a .n) (a .t .now) (a .slots .now) (start .pre .0 .0) (start .pre .1))
 
--- src/rt:233:45
 mul-remove-one : tie.Need-mul-remove-one Inv-loop μ-loop
 mul-remove-one c = search needs
 
--- src/rt:233:9
 remove-one-requires : tie.Need-remove-one-requires Inv-loop μ-loop
 remove-one-requires c κs =
     let start = c .before .before .before .before .before in
@@ -40,15 +33,12 @@ remove-one-requires c κs =
     let h = loop .inv .1 .0 in
     ((holds-fits (a .n) (a .t .now) (loop .count) (loop .t) rs h, omega arith), holds-sorted (a .n) (a .t .now) (loop .count) (loop .t) rs h)
 
--- src/rt:234:9
 add-i : tie.Need-add-i Inv-loop μ-loop
 add-i c = search needs
 
--- src/rt:232:5
 loop-less : tie.Need-loop-less Inv-loop μ-loop
 loop-less c = search needs
 
--- src/rt:232:5
 loop-again : tie.Need-loop-again Inv-loop μ-loop
 loop-again c =
     let start = c .before .before .before .before .before .before .before .before in
@@ -57,14 +47,12 @@ loop-again c =
     let one = c .before .before .remove-one in
     (omega arith, removed-turn (a .n) (a .t .now) (a .slots .now) (loop .i) (loop .count) (loop .t) (one .result) _ (loop .inv .1) (one .ensures .0) (one .ensures .1))
 
--- src/rt:224:1
 same-length : tie.Need-same-length Inv-loop μ-loop
 same-length c =
     let a = c .before .before .before .before .args in
     let loop = c .before .loop in
     holds-length (a .n) (a .t .now) (loop .count) (loop .t) (removals (slotsOf (loop .i) (a .slots .now)) (rows (a .n) (a .t .now))) (loop .inv .1 .0)
 
--- src/rt:224:1
 returns : tie.Need-returns Inv-loop μ-loop
 returns c =
     let a = c .before .before .before .before .args in

@@ -1,5 +1,5 @@
-use mathlib.Core.Path.{_≡_, refl, sym, ap, _∙_}
-use Prim.Native.Nat.{ℕ, _+_, _*_, _-_, _≤_, _<_}
+use mathlib.Core.Path.{_≡_, refl}
+use Prim.Native.Nat.{_-_, _≤_}
 use native.Mathlib.Omega.{arith}
 use borrow.Author.Needs.{needs}
 use lib.ListN.{length, take}
@@ -7,9 +7,6 @@ use Rattle.withdrawals.specs.Slots.{slotsOf, namesAt}
 use Rattle.withdrawals.proofs.HeardLaws.{Heard, heard-start, heard-turn, heard-end}
 use Rattle.withdrawals.proofs.replay.Statement.{statement}
 use Rattle.withdrawals.proofs.replay.Tie as tie
-use Rattle.withdrawals.proofs.replay.Reads as reads
-use Rattle.withdrawals.proofs.replay.Lts as lts
-use Rattle.withdrawals.proofs.replay_one.Reads as replay-one-reads
 
 abbrev Inv-loop : tie.InvT-loop
 Inv-loop b at k number e m order c slots₀ i₀ slots i = (i ≤ k) × (length slots ≡ length slots₀) × Heard number b at k (namesAt e (take c order)) (slotsOf c slots₀) i (slotsOf c slots)
@@ -17,36 +14,29 @@ Inv-loop b at k number e m order c slots₀ i₀ slots i = (i ≤ k) × (length 
 abbrev μ-loop : tie.MeasureT-loop
 μ-loop b at k number e m order c slots₀ i₀ slots i = k - i
 
--- src/rt:155:5
 loop-holds : tie.Need-loop-holds Inv-loop μ-loop
 loop-holds c =
     let start = c .before .before .before .before in
     let a = start .args in
     (search needs, refl, heard-start (a .number) (a .b .now) (a .at) (a .k) _ _ (start .pre .1 .1 .1))
 
--- src/rt:158:18
 mul-replay-one : tie.Need-mul-replay-one Inv-loop μ-loop
 mul-replay-one c = search needs
 
--- src/rt:158:13
 add-replay-one : tie.Need-add-replay-one Inv-loop μ-loop
 add-replay-one c = search needs
 
--- src/rt:156:9
 replay-one-requires : tie.Need-replay-one-requires Inv-loop μ-loop
 replay-one-requires c κs =
     let start = c .before .before .before .before .before .before .before in
     ((omega arith, start .pre .0 .1, start .pre .0 .2, omega arith), (start .pre .1 .0, (start .pre .1 .1 .0, c .before .before .loop .inv .2 .keys)))
 
--- src/rt:166:9
 add-i : tie.Need-add-i Inv-loop μ-loop
 add-i c = search needs
 
--- src/rt:155:5
 loop-less : tie.Need-loop-less Inv-loop μ-loop
 loop-less c = search needs
 
--- src/rt:155:5
 loop-again : tie.Need-loop-again Inv-loop μ-loop
 loop-again c =
     let start = c .before .before .before .before .before .before .before .before .before .before in
@@ -54,11 +44,9 @@ loop-again c =
     let loop = c .before .before .before .before .before .loop in
     (omega arith, omega arith, heard-turn (a .number) (a .b .now) (a .at) (a .k) _ _ (loop .i) (slotsOf (a .c) (loop .slots)) _ (start .pre .0 .0) (c .before .before .before .before .loop-test .taken) (loop .inv .2) (c .before .before .replay-one .ensures))
 
--- src/rt:137:1
 same-length : tie.Need-same-length Inv-loop μ-loop
 same-length c = search needs
 
--- src/rt:137:1
 returns : tie.Need-returns Inv-loop μ-loop
 returns c =
     let start = c .before .before .before .before .before .before in

@@ -1,56 +1,43 @@
-use Rattle.withdrawals.specs.Slots.{slotsOf}
 use mathlib.Core.Path.{sym, _∙_}
 use native.Mathlib.Omega.{arith}
-use Rattle.withdrawals.proofs.HeardLaws.{entry-own, entry-fallen, entry-other}
 use borrow.Author.Needs.{needs}
+use Rattle.withdrawals.specs.Slots.{slotsOf}
+use Rattle.withdrawals.proofs.HeardLaws.{entry-own, entry-fallen, entry-other}
 use Rattle.withdrawals.proofs.replay_one.Statement.{statement}
 use Rattle.withdrawals.proofs.replay_one.Tie as tie
-use Rattle.withdrawals.proofs.replay_one.Reads as reads
-use Rattle.withdrawals.proofs.replay_one.Lts as lts
-use Rattle.lists.proofs.get_number.Reads as get-number-reads
-use Rattle.withdrawals.proofs.take_update.Reads as take-update-reads
 
--- src/rt:125:16
 shared-slice-read-kind : tie.Need-shared-slice-read-kind
 shared-slice-read-kind c = search needs
 
--- src/rt:127:9
 returns : tie.Need-returns
 returns c =
     let start = c .before .before .before .before .before .before in
     let a = start .args in
     entry-fallen (a .number) (a .p) (a .b .now) _ (start .pre .0 .0) (c .if1 .taken)
 
--- src/rt:129:36
 add-get-number : tie.Need-add-get-number
 add-get-number c = search needs
 
--- src/rt:129:9
 get-number-requires : tie.Need-get-number-requires
 get-number-requires c κs = search needs
 
--- src/rt:131:9
 returns-2 : tie.Need-returns-2
 returns-2 c =
     let start = c .before .before .before .before .before .before .before .before in
     let a = start .args in
     entry-own (a .number) (a .p) (a .b .now) _ (start .pre .0 .0) (sym (c .before .get-number .ensures) ∙ c .if2 .taken)
 
--- src/rt:133:20
 add-take-update : tie.Need-add-take-update
 add-take-update c = search needs
 
--- src/rt:133:5
 take-update-requires : tie.Need-take-update-requires
 take-update-requires c κs =
     let start = c .before .before .before .before .before .before .before .before .before in
     ((omega arith, start .pre .0 .1, start .pre .0 .2, start .pre .0 .3), start .pre .1)
 
--- src/rt:109:1
 same-length : tie.Need-same-length
 same-length c = search needs
 
--- src/rt:109:1
 returns-3 : tie.Need-returns-3
 returns-3 c =
     let start = c .before .before .before .before .before .before .before .before .before .before .before .before in

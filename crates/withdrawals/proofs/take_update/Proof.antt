@@ -1,56 +1,48 @@
 use mathlib.Core.Path.{sym, _∙_}
+use Prim.Native.Nat.{_<_}
 use native.Mathlib.Omega.{arith}
-use Rattle.withdrawals.proofs.HeardLaws.{update-below, update-taken, update-missing}
 use borrow.Author.Needs.{needs}
+use Rattle.withdrawals.proofs.HeardLaws.{update-below, update-taken, update-missing}
 use Rattle.withdrawals.proofs.take_update.Statement.{statement}
 use Rattle.withdrawals.proofs.take_update.Tie as tie
-use Rattle.withdrawals.proofs.take_update.Reads as reads
-use Rattle.withdrawals.proofs.take_update.Lts as lts
-use Rattle.sorting.proofs.find_place.Reads as find-place-reads
-use Rattle.withdrawals.proofs.take_into.Reads as take-into-reads
 
--- src/rt:96:9
 find-place-requires : tie.Need-find-place-requires
 find-place-requires c κs =
     let start = c .before .before .before .before in
     ((omega arith, start .pre .0 .1, start .pre .0 .2, omega arith), (start .pre .1 .0, start .pre .1 .1 .0))
 
--- src/rt:98:19
 enum-known-f : tie.Need-enum-known-f
 enum-known-f c = search needs
 
--- src/rt:99:30
+-- the slot that was found is one of them
+below : (c : tie.After-f) → c .f .given .0 .0 < c .before .before .before .before .before .before .before .args .c
+below c =
+    let start = c .before .before .before .before .before .before .before in
+    let a = start .args in
+    update-below (a .c) (a .p) (a .b .now) (a .slots .now) _ (start .pre .0 .3) (start .pre .0 .0) (start .pre .1 .1 .0) (start .pre .1 .1 .1) _ (sym (c .f .given .1) ∙ c .before .before .find-place .ensures)
+
 mul-take-into : tie.Need-mul-take-into
 mul-take-into c =
-    let start = c .before .before .before .before .before .before .before .before .before in
-    let a = start .args in
-    let h = update-below (a .c) (a .p) (a .b .now) (a .slots .now) _ (start .pre .0 .3) (start .pre .0 .0) (start .pre .1 .1 .0) (start .pre .1 .1 .1) _ (sym (c .before .before .f .given .1) ∙ c .before .before .before .before .find-place .ensures) in
+    let h = below (c .before .before) in
     omega arith
 
--- src/rt:99:13
 take-into-requires : tie.Need-take-into-requires
 take-into-requires c κs =
-    let start = c .before .before .before .before .before .before .before .before .before in
-    let a = start .args in
-    let h = update-below (a .c) (a .p) (a .b .now) (a .slots .now) _ (start .pre .0 .3) (start .pre .0 .0) (start .pre .1 .1 .0) (start .pre .1 .1 .1) _ (sym (c .before .before .f .given .1) ∙ c .before .before .before .before .find-place .ensures) in
-    (omega arith, start .pre .0 .0)
+    let h = below (c .before .before) in
+    (omega arith, c .before .before .before .before .before .before .before .before .before .pre .0 .0)
 
--- src/rt:100:13
 same-length : tie.Need-same-length
 same-length c = search needs
 
--- src/rt:100:13
 returns : tie.Need-returns
 returns c =
     let start = c .before .before .before .before .before .before .before .before .before .before .before .before in
     let a = start .args in
     update-taken (a .c) (a .p) (a .b .now) (a .slots .now) _ (start .pre .0 .3) (start .pre .0 .0) (start .pre .1 .1 .0) (start .pre .1 .1 .1) _ _ (sym (c .before .before .before .before .before .f .given .1) ∙ c .before .before .before .before .before .before .before .find-place .ensures) (c .before .before .take-into .ensures)
 
--- src/rt:103:13
 enum-told : tie.Need-enum-told
 enum-told c = search needs
 
--- src/rt:103:13
 returns-2 : tie.Need-returns-2
 returns-2 c =
     let start = c .before .before .before .before .before .before .before in

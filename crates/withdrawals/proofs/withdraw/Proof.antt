@@ -1,48 +1,34 @@
-use mathlib.Core.Path.{_≡_, refl, sym, ap, _∙_}
+use mathlib.Core.Path.{refl, sym, _∙_}
+use borrow.Author.Needs.{needs}
 use Rattle.calls.specs.declared.Answer.the-variants.{Unsound}
 use Rattle.withdrawals.proofs.AnswerLaws.{refused-all, not-sound}
-use borrow.Author.Needs.{needs}
 use Rattle.withdrawals.proofs.withdraw.Statement.{statement}
 use Rattle.withdrawals.proofs.withdraw.Tie as tie
-use Rattle.withdrawals.proofs.withdraw.Reads as reads
-use Rattle.withdrawals.proofs.withdraw.Lts as lts
-use Rattle.calls.proofs.refused.Reads as refused-reads
-use Rattle.withdrawals.proofs.is_sound.Reads as is-sound-reads
-use Rattle.withdrawals.proofs.withdraw_sound.Reads as withdraw-sound-reads
 
--- src/rt:375:8
 is-sound-requires : tie.Need-is-sound-requires
 is-sound-requires c κs = search needs
 
--- src/rt:376:9
 withdraw-sound-requires : tie.Need-withdraw-sound-requires
 withdraw-sound-requires c κs = sym (c .before .before .before .is-sound .ensures) ∙ c .before .before .if1 .taken
 
--- src/rt:376:9
 same-length : tie.Need-same-length
 same-length c = search needs
 
--- src/rt:376:9
 same-length-2 : tie.Need-same-length-2
 same-length-2 c = search needs
 
--- src/rt:376:9
 returns : tie.Need-returns
 returns c = search needs
 
--- src/rt:378:5
 refused-requires : tie.Need-refused-requires
 refused-requires c κs = search needs
 
--- src/rt:370:1
 same-length-3 : tie.Need-same-length-3
 same-length-3 c = search needs
 
--- src/rt:370:1
 same-length-4 : tie.Need-same-length-4
 same-length-4 c = search needs
 
--- src/rt:370:1
 returns-2 : tie.Need-returns-2
 returns-2 c =
     let a = c .before .before .before .before .before .before .before .args in
