@@ -10,6 +10,7 @@ pub mod SplitLaws
 pub mod MessageLaws
 pub mod ChangeLaws
 pub mod AfterLaws
+pub mod MarkLaws
 pub mod StandingLaws
 pub mod HeldLaws
 pub mod Claims

@@ -1,6 +1,5 @@
 -- What updates make of rows, over any row rule: `rule held u` is the row that the update u makes of the held row, or of none, []. Assumes nothing.
 use Prim.Native.Nat.{ℕ}
-use mathlib.Core.Bool.{Bool, true, false}
 use mathlib.Core.List.{List, [], _∷_}
 use Rattle.lists.specs.Logic.{on}
 use Rattle.lists.specs.Text.{same}

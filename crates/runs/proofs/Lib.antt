@@ -1,7 +1,6 @@
 pub mod EntryLaws
 pub mod LogLaws
 pub mod RowsLaws
-pub mod MarkLaws
 pub mod FollowLaws
 pub mod MessageLaws
 pub mod WithdrawLaws

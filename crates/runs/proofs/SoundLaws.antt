@@ -1,5 +1,5 @@
 -- An accepted call on any sound day leaves a sound day. The row rule enters by its laws alone. Assumes nothing.
-use mathlib.Core.Path.{_≡_, refl, sym, ap, subst, _∙_}
+use mathlib.Core.Path.{_≡_, refl, subst}
 use mathlib.Core.Bool.{true}
 use mathlib.Core.List.{List, [], _∷_}
 use mathlib.Core.Logic.{_⊎_, inl, inr}
@@ -7,12 +7,12 @@ use Prim.Native.Nat.{ℕ, _+_, _*_, _≤_, _<_}
 use native.Mathlib.Omega.{arith}
 use lib.ListN.{length}
 use Rattle.lists.specs.Each.{Each}
-use Rattle.lists.specs.Rows.{rowsOf, store, Wide}
+use Rattle.lists.specs.Rows.{rowsOf, store}
 use Rattle.lists.proofs.WideLaws.{wide-rowsOf}
 use Rattle.passage.specs.Layout.{row-wide}
 use Rattle.passage.specs.Ranges.{rowInRange}
 use Rattle.keys.specs.Sorted.{sortedRows, get}
-use Rattle.keys.specs.Replay.{takenAll, reworked}
+use Rattle.keys.specs.Replay.{takenAll}
 use Rattle.keys.proofs.ReplayLaws.{each-both, get-has, sorted-takenAll, each-takenAll, replayed-has, sorted-reworked, each-reworked}
 use Rattle.update.specs.Rule.{rowRule}
 use Rattle.update.proofs.RuleLaws.{rule-wide}
@@ -20,7 +20,7 @@ use Rattle.update.proofs.InRangeLaws.{rule-in-range}
 use Rattle.table.specs.Rules.{tableSound, room}
 use Rattle.table.proofs.SoundLaws.{sound-fits, sound-range, sound-sorted, range-each, each-range, sound-stored}
 use Rattle.book.specs.Entries.{entry-wide, planBodies, updatesIn}
-use Rattle.book.specs.Rules.{bookSound, noEntry, chained, withdrawn, standing, planRows, rowFor}
+use Rattle.book.specs.Rules.{bookSound, noEntry, withdrawn, standing, planRows, rowFor}
 use Rattle.book.proofs.SoundLaws.{sound-facts}
 use Rattle.book.proofs.SplitLaws.{wide-updates}
 use Rattle.book.proofs.StandingLaws.{standing-ranges, sound-plan-ranges}
@@ -33,7 +33,7 @@ use Rattle.runs.specs.Runs.{Day, Call, answerOf, after}
 use Rattle.runs.specs.Claims.{Sound}
 use Rattle.runs.proofs.LogLaws.{Update, each-so}
 use Rattle.runs.proofs.RowsLaws.{Row, plan-rows}
-use Rattle.runs.proofs.MarkLaws.{book-less}
+use Rattle.book.proofs.MarkLaws.{book-less}
 use Rattle.runs.proofs.MessageLaws as Message
 use Rattle.runs.proofs.WithdrawLaws as Withdraw
 

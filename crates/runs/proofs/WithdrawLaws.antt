@@ -15,7 +15,7 @@ use Rattle.calls.proofs.AcceptedLaws.{left}
 use Rattle.runs.specs.Runs.{Day, Call, after, Taken, struck, noted, logEntries, logStanding}
 use Rattle.runs.proofs.LogLaws.{NotedFrom, log-struck, log-withdrawn, length-withdrawn, standing-updates}
 use Rattle.runs.proofs.RowsLaws.{replay, rows-struck}
-use Rattle.runs.proofs.MarkLaws.{book-less}
+use Rattle.book.proofs.MarkLaws.{book-less}
 use Rattle.runs.proofs.FollowLaws.{Follows, length-plans, length-log, write-again, plan-count, stored-sound, stored-rows}
 
 module _ (n sender : ℕ) (x : Day) (e : isAccepted (withdrawAnswer n sender (x .book) (x .table) (x .counts)) ≡ true) where

@@ -28,6 +28,7 @@ const MOST_NAMED: usize = 4096;
 // A slot: one byte, 1 where there is a row; then the row, or else its key and zero bytes.
 const SLOT_WIDE: usize = 1 + passage::ROW_WIDE;
 
+// A slot for each of them.
 const SLOTS: usize = 278528;
 
 // The slot from `at` on becomes that of the key at q of e, with the row of the n plan entries of b, if they have one.
@@ -49,7 +50,7 @@ fn begin_slot(b: &[u8], n: usize, e: &[u8], q: usize, slots: &mut [u8], at: usiz
     }
 }
 
-// A slot for each of the c entries of e whose places are the first in `order`.
+// A slot for each of the c entries of e whose places are the first in `order`, as its plan says.
 fn begin_slots(b: &[u8], n: usize, e: &[u8], m: usize, order: &[u32], c: usize, slots: &mut [u8])
     requires { ⌜ (n * plan-wide ≤ length (now b)) × (m * entry-wide ≤ length (now e)) × (c ≤ length (now order)) × (c * slot-wide ≤ length (now slots)) ⌝ }
     requires { ⌜ sortedRows (map planBodyOf (rowsOf plan-wide n (now b))) ≡ true ⌝ }
@@ -133,7 +134,7 @@ fn replay_one(
     take_update(b, p + book::BODY_AT, e, m, order, c, slots);
 }
 
-// The k updates from `at` on, one after another.
+// The k updates from `at` on, one after another, in the order accepted.
 fn replay(
     b: &[u8],
     at: usize,
@@ -182,7 +183,7 @@ fn weigh(t: &[u8], n: usize, slots: &[u8], at: usize) -> usize
     }
 }
 
-// The rows that there will be, and c.
+// How many rows there will be, and one more for each of the c slots: so nothing is ever taken away from the sum.
 fn count_after(t: &[u8], n: usize, slots: &[u8], c: usize) -> usize
     requires { ⌜ (n * row-wide ≤ length (now t)) × (c * slot-wide ≤ length (now slots)) × (n ≤ 2048) × (c ≤ 4096) ⌝ }
     requires { ⌜ sortedRows (rows n (now t)) ≡ true ⌝ }
@@ -211,7 +212,7 @@ fn remove_one(t: &mut [u8], n: usize, slots: &[u8], at: usize) -> usize
     table::remove_key(t, n, slots, at + 1)
 }
 
-// Rows leave first, so that no byte behind the final rows is touched.
+// The slots without a row, one after another; the new count. Rows leave before rows come, so that no byte behind the final rows is touched.
 fn remove_all(t: &mut [u8], n: usize, slots: &[u8], c: usize) -> usize
     requires { ⌜ (n * row-wide ≤ length (now t)) × (c * slot-wide ≤ length (now slots)) ⌝ }
     requires { ⌜ sortedRows (rows n (now t)) ≡ true ⌝ }
@@ -240,7 +241,7 @@ fn put_one(t: &mut [u8], n: usize, slots: &[u8], at: usize) -> usize
     n
 }
 
-// Then the rows come.
+// The slots with a row, one after another; the new count.
 fn put_all(t: &mut [u8], n: usize, slots: &[u8], c: usize) -> usize
     requires { ⌜ (n * row-wide ≤ length (now t)) × (c * slot-wide ≤ length (now slots)) × (length (puts (slotsOf c (now slots)) (rows n (now t))) * row-wide ≤ length (now t)) ⌝ }
     requires { ⌜ sortedRows (rows n (now t)) ≡ true ⌝ }

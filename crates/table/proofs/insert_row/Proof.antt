@@ -1,6 +1,5 @@
 use Rattle.table.proofs.RowMoveLaws.{move-in}
 use mathlib.Core.Path.{_∙_}
-use Prim.Native.Nat.{_-_}
 use native.Mathlib.Omega.{arith}
 use borrow.Author.Needs.{needs}
 use Rattle.table.proofs.insert_row.Statement.{statement}

@@ -1,5 +1,5 @@
 use mathlib.Core.Path.{_≡_, sym, ap, _∙_}
-use Prim.Native.Nat.{_+_, _-_}
+use Prim.Native.Nat.{_+_}
 use lib.ListN.{length, length-set}
 use Rattle.lists.proofs.RowLaws.{length-rowsOf}
 use Rattle.lists.proofs.RowWriteLaws.{length-insertAt}

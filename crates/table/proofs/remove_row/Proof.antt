@@ -1,6 +1,5 @@
 use Rattle.table.proofs.RowMoveLaws.{move-out}
 use mathlib.Core.Path.{_∙_}
-use Prim.Native.Nat.{_-_}
 use borrow.Author.Needs.{needs}
 use Rattle.table.proofs.remove_row.Statement.{statement}
 use Rattle.table.proofs.remove_row.Tie as tie

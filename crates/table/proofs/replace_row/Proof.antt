@@ -1,5 +1,4 @@
 use mathlib.Core.Path.{_∙_}
-use Prim.Native.Nat.{_-_}
 use Rattle.passage.specs.Layout.{row-wide}
 use Rattle.lists.proofs.RowWriteLaws.{store-replace}
 use borrow.Author.Needs.{needs}

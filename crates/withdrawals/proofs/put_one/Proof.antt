@@ -1,5 +1,4 @@
 use mathlib.Core.Path.{sym}
-use Prim.Native.Nat.{_-_}
 use borrow.Author.Needs.{needs}
 use Rattle.lists.proofs.RowLaws.{length-rowsOf}
 use Rattle.lists.proofs.StoreLaws.{store-same}
