@@ -1,4 +1,5 @@
 pub mod RefusalLaws
 pub mod AcceptedLaws
 pub mod TakenLaws
+pub mod OrderLaws
 pub mod Claims

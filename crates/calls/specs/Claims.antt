@@ -6,7 +6,7 @@ use mathlib.Core.List.{List, [], _∷_}
 use mathlib.Core.Logic.{_↔_}
 use lib.Dec.{eqb}
 use lib.ListN.{length}
-use Rattle.lists.specs.Logic.{on, either}
+use Rattle.lists.specs.Logic.{either}
 use Rattle.lists.specs.Each.{Each}
 use Rattle.lists.specs.Text.{same}
 use Rattle.lists.specs.Rows.{rowsOf}
@@ -28,6 +28,7 @@ use Rattle.calls.specs.Answers.{numbers, isAccepted}
 use Rattle.calls.specs.Message.{messageBodies, rowsTaken, messageAnswer, messageOutcome, messageBook, messageTable}
 use Rattle.calls.specs.Withdraw.{rowsWithout, withdrawAnswer, withdrawOutcome, withdrawBook, withdrawTable}
 use Rattle.calls.specs.Open.{openAnswer, openOutcome, openBook, openTable}
+use Rattle.calls.specs.Order.{MessageOrder, WithdrawOrder, OpenOrder}
 
 -- ---- demand 1
 
@@ -98,12 +99,15 @@ WithdrawAcceptedExactly =
     × (either (eqb sender 0) (eqb sender (senderOf e)) ≡ true) × (eqb (kindOf e) 3 ≡ false))
     × (length (rowsWithout number book (c .used) table (c .rows)) ≤ room table))
 
--- all of these
+-- all of these, and the order in which numbers are given (`Order.antt`)
 abbrev pub All : Type 0
 All =
     AcceptanceIsZero
     × RefusalsGiveBack
     × NumbersListed
+    × MessageOrder
+    × WithdrawOrder
+    × OpenOrder
     × MessageAcceptedExactly
     × RowsChangeTheirPassage
     × WithdrawAcceptedExactly

@@ -2,4 +2,5 @@ pub mod Answers
 pub mod Message
 pub mod Withdraw
 pub mod Open
+pub mod Order
 pub mod Claims
