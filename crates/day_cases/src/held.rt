@@ -1,5 +1,4 @@
 // What the program keeps between two lines of its input, and how a line is read.
-use calls::Counts;
 ghost use Prim.Native.Nat.{_-_, _≤_};
 ghost use lib.ListN.{length};
 
@@ -16,14 +15,8 @@ pub struct Held {
     pub dossier: usize,
 }
 
-// On the desk are five dossiers that are kept, each with its end in front, the register, and the dossier. The last one kept is the planning.
-pub const ROOM: usize = 66004;
-
-pub const REGISTER: usize = 330020;
-
-pub const DOSSIER: usize = 331020;
-
-pub const DESK: usize = 397020;
+// On the desk the register stands behind byte 0, the dossier behind byte 1000.
+pub const DOSSIER: usize = 1001;
 
 pub fn nothing() -> Held {
     Held {
@@ -34,19 +27,12 @@ pub fn nothing() -> Held {
         table: 0,
         used: 0,
         rows: 0,
-        register: REGISTER,
+        register: 1,
         dossier: DOSSIER,
     }
 }
 
-pub fn counts(h: Held) -> Counts {
-    Counts {
-        used: h.used,
-        rows: h.rows,
-    }
-}
-
-// What stands behind place n.
+// What stands behind byte n.
 pub fn after(s: &[u8], n: usize) -> &[u8]
     ensures { λ r. ⌜ length (now r) ≤ length (now (s .entry)) - 1 ⌝ }
 {
@@ -72,15 +58,9 @@ pub fn front_mut(s: &mut [u8], n: usize) -> &mut [u8] {
     s
 }
 
-// The bytes from a to e, or none.
-pub fn part(s: &[u8], a: usize, e: usize) -> &[u8] {
-    if e < a {
-        return &s[0..0];
-    }
-    if s.len() < e {
-        return &s[0..0];
-    }
-    &s[a..e]
+// What stands behind byte n, up to e.
+pub fn part(s: &[u8], n: usize, e: usize) -> &[u8] {
+    after(front(s, e), n)
 }
 
 // b at n, where it fits; the place behind it.
@@ -110,25 +90,16 @@ pub fn pad(s: &mut [u8], n: usize, many: usize, v: u8) -> usize {
     end
 }
 
-pub fn poke(s: &mut [u8], at: usize, v: usize) {
-    if at < s.len() {
-        s[at] = (v % 256) as u8;
-    }
+pub fn byte(v: usize) -> u8 {
+    (v % 256) as u8
 }
 
-// What a byte adds to a number: 10 or more where it ends the number.
-fn digit(v: usize, b: u8) -> usize {
-    if b < 48 {
-        return 10;
-    }
-    if 100000000000 < v {
-        return 10;
-    }
-    b as usize - 48
+pub fn word(v: usize) -> u32 {
+    (v % 4294967296) as u32
 }
 
-fn with_digit(v: usize, d: usize) -> usize {
-    v % 1000000000000 * 10 + d % 10
+fn with_digit(v: usize, d: u8) -> usize {
+    v % 100000000000 * 10 + d as usize
 }
 
 // The number that s begins with.
@@ -136,7 +107,7 @@ fn value(s: &[u8]) -> usize {
     let mut v: usize = 0;
     let mut i = 0;
     while i < s.len() {
-        let d = digit(v, s[i]);
+        let d = s[i] ^ 48;
         if 9 < d {
             return v;
         }
@@ -152,6 +123,20 @@ pub fn second(line: &[u8]) -> &[u8] {
     after(line, n)
 }
 
+// b and t lend a book and a table of so many bytes, u and v set the counts.
+fn set(h: Held) -> Held {
+    let mut n = h;
+    let letter = h.letter;
+    match letter {
+        b'b' => n.book = h.a,
+        b't' => n.table = h.a,
+        b'u' => n.used = h.a,
+        b'v' => n.rows = h.a,
+        _ => {}
+    }
+    n
+}
+
 // A line with its letter and its numbers.
 pub fn read(line: &[u8], h: Held) -> Held {
     if line.len() == 0 {
@@ -161,5 +146,5 @@ pub fn read(line: &[u8], h: Held) -> Held {
     n.letter = line[0];
     n.a = value(after(line, 0));
     n.b = value(second(line));
-    n
+    set(n)
 }

@@ -1,6 +1,5 @@
 // What is printed.
 use calls::Answer;
-use calls::Counts;
 use libc::STDOUT_FILENO;
 ghost use Prim.Native.Nat.{_<_};
 
@@ -27,34 +26,42 @@ fn count(what: &[u8], n: usize) {
     number(n);
 }
 
-fn four(a: usize, b: usize, c: usize, d: usize) {
-    number(a);
-    number(b);
-    number(c);
-    number(d);
+struct Four {
+    a: usize,
+    b: usize,
+    c: usize,
+    d: u8,
 }
 
-fn plain(a: usize) {
-    four(a, 0, 0, 0);
+fn of(a: usize, b: usize, c: usize, d: u8) -> Four {
+    Four { a, b, c, d }
 }
 
 // Document 01's number, its values, and which dossier.
-fn answer(a: Answer) {
+fn told(a: Answer) -> Four {
     match a {
-        Answer::Accepted(n) => four(0, n as usize, 0, 0),
-        Answer::Unsound => plain(1),
-        Answer::TooLong(w) => four(2, 0, 0, w as usize),
-        Answer::Syntax(i, w) => four(3, i, 0, w as usize),
-        Answer::Form(l, w) => four(4, l, 0, w as usize),
-        Answer::Field(l, c, w) => four(5, l, c, w as usize),
-        Answer::Owner(l) => four(6, l, 0, 0),
-        Answer::BookShort => plain(7),
-        Answer::TableShort => plain(8),
-        Answer::KeyTwice => plain(9),
-        Answer::NoMessage => plain(10),
-        Answer::AlreadyWithdrawn => plain(11),
-        Answer::OtherSender => plain(12),
+        Answer::Accepted(n) => of(0, n as usize, 0, 0),
+        Answer::Unsound => of(1, 0, 0, 0),
+        Answer::TooLong(w) => of(2, 0, 0, w),
+        Answer::Syntax(i, w) => of(3, i, 0, w),
+        Answer::Form(l, w) => of(4, l, 0, w),
+        Answer::Field(l, c, w) => of(5, l, c, w),
+        Answer::Owner(l) => of(6, l, 0, 0),
+        Answer::BookShort => of(7, 0, 0, 0),
+        Answer::TableShort => of(8, 0, 0, 0),
+        Answer::KeyTwice => of(9, 0, 0, 0),
+        Answer::NoMessage => of(10, 0, 0, 0),
+        Answer::AlreadyWithdrawn => of(11, 0, 0, 0),
+        Answer::OtherSender => of(12, 0, 0, 0),
     }
+}
+
+pub fn answer(a: Answer) {
+    let f = told(a);
+    number(f.a);
+    number(f.b);
+    number(f.c);
+    number(f.d as usize);
 }
 
 // The sum with a byte more.
@@ -76,11 +83,10 @@ fn sum(s: &[u8]) -> usize {
     total as usize
 }
 
-// An answer with its counts, and sums over all lent bytes of book and table.
-pub fn outcome(a: Answer, c: Counts, book: &[u8], table: &[u8]) {
-    answer(a);
-    count(b", used", c.used);
-    count(b", rows", c.rows);
+// The counts, and sums over all lent bytes of book and table.
+pub fn sums(used: usize, rows: usize, book: &[u8], table: &[u8]) {
+    count(b", used", used);
+    count(b", rows", rows);
     count(b", sums", sum(book));
     number(sum(table));
     end();

@@ -8,10 +8,10 @@ use Rattle.day_cases.proofs.lines.run.Statement.{statement}
 use Rattle.day_cases.proofs.lines.run.Tie as tie
 
 abbrev Inv-loop : tie.InvT-loop
-Inv-loop input desk₀ book₀ table₀ h₀ rest₀ desk book table h rest = (length rest ≤ length input) × (length desk ≡ length desk₀) × (length book ≡ length book₀) × (length table ≡ length table₀)
+Inv-loop input desk₀ kept₀ book₀ table₀ h₀ rest₀ desk kept book table h rest = (length rest ≤ length input) × (length desk ≡ length desk₀) × (length kept ≡ length kept₀) × (length book ≡ length book₀) × (length table ≡ length table₀)
 
 abbrev μ-loop : tie.MeasureT-loop
-μ-loop input desk₀ book₀ table₀ h₀ rest₀ desk book table h rest = length rest
+μ-loop input desk₀ kept₀ book₀ table₀ h₀ rest₀ desk kept book table h rest = length rest
 
 nothing-requires : tie.Need-nothing-requires Inv-loop μ-loop
 nothing-requires c κs = tt
@@ -52,6 +52,9 @@ same-length-2 c = search needs
 same-length-3 : tie.Need-same-length-3 Inv-loop μ-loop
 same-length-3 c = search needs
 
+same-length-4 : tie.Need-same-length-4 Inv-loop μ-loop
+same-length-4 c = search needs
+
 returns : tie.Need-returns Inv-loop μ-loop
 returns c = tt
 
@@ -74,4 +77,5 @@ run-spec =
     same-length
     same-length-2
     same-length-3
+    same-length-4
     returns)
