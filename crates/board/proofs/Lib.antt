@@ -1,0 +1,5 @@
+pub mod AskLaws
+pub mod ShowLaws
+pub mod PlaceLaws
+pub mod PassLaws
+pub mod BoardLaws
