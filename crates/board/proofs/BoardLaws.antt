@@ -31,8 +31,8 @@ module _ (owner stop : List ℕ) (date second horizon : ℕ) (table : List ℕ) 
   unfolding boardAnswer boardPlaces
   out-of-range e f = (rw (e, f), rw (e, f))
 
-  listed-all : tableSound n table ≡ true → asksInRange owner stop date second horizon ≡ true
-      → let l = listed (shows owner stop (momentAt date second) (momentAt date second + horizon)) (rows n table) in
+  pub listed-all : tableSound n table ≡ true → asksInRange owner stop date second horizon ≡ true
+      → let l = boardOf owner stop date second horizon table n in
       Given (Listed (length (take (length places) l)) (length l)) (over 0 (take (length places) l) places)
   unfolding boardAnswer boardPlaces boardOf
   listed-all e f = (rw (e, f), rw (e, f))
@@ -52,5 +52,6 @@ module _ (owner stop : List ℕ) (date second horizon : ℕ) (table : List ℕ) 
     pub listed-given : tableSound n table ≡ true → asksInRange owner stop date second horizon ≡ true
         → let l = listed (showing whose here (m .0) (m .0 + horizon)) (rows n table) in
         Given (Listed (length (take (length places) l)) (length l)) (over 0 (take (length places) l) places)
+    unfolding boardOf
     listed-given e f =
         rw (o, s, from-is, showing-is owner stop (momentAt date second) (momentAt date second + horizon)) (listed-all e f)

@@ -3,3 +3,6 @@ pub mod ShowLaws
 pub mod PlaceLaws
 pub mod PassLaws
 pub mod BoardLaws
+pub mod OrderLaws
+pub mod Determined
+pub mod Claims

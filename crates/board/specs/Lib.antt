@@ -1,3 +1,5 @@
 pub mod Show
 pub mod Rules
 pub mod Pass
+pub mod Claims
+pub mod Cases

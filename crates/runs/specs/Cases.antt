@@ -18,7 +18,7 @@ use Rattle.book.specs.Rules.{planRow, planRows}
 use Rattle.runs.specs.Runs.{Taken, struck, logStanding}
 
 -- CXX, 2016-03-01, line A031, journey 1, stop S1 with this order number, to CIOS, with this timestamp and status, 24:10:00 both, INTERMEDIATE, show cancelled 1, flexible 1, monitored 0
-abbrev passage : ℕ → ℕ → ℕ → List ℕ
+abbrev pub passage : ℕ → ℕ → ℕ → List ℕ
 passage order stamp status =
     bytes "CXX" ++ replicate 7 0
     ++ spelled 4 20160301
@@ -35,31 +35,31 @@ passage order stamp status =
     ++ (1 ∷ 1 ∷ 1 ∷ 0 ∷ [])
 
 -- what a row of a message says
-abbrev says : ℕ → ℕ → List ℕ
+abbrev pub says : ℕ → ℕ → List ℕ
 says order status = passage order 1456841730 status
 
-abbrev PLANNED : ℕ
+abbrev pub PLANNED : ℕ
 PLANNED = 0
 
-abbrev CANCEL : ℕ
+abbrev pub CANCEL : ℕ
 CANCEL = 1
 
-abbrev UNKNOWN : ℕ
+abbrev pub UNKNOWN : ℕ
 UNKNOWN = 2
 
-abbrev PASSED : ℕ
+abbrev pub PASSED : ℕ
 PASSED = 5
 
 -- a plan of one passage
-abbrev plan : List (List ℕ)
+abbrev pub plan : List (List ℕ)
 plan = passage 1 0 PLANNED ∷ []
 
 -- message n of one row, standing
-abbrev message : ℕ → List ℕ → Taken
+abbrev pub message : ℕ → List ℕ → Taken
 message n body = record { number = n; sender = 1; bodies = body ∷ []; stands = true }
 
 -- the statuses of the table's rows
-abbrev statuses : List (List ℕ) → List Taken → List ℕ
+abbrev pub statuses : List (List ℕ) → List Taken → List ℕ
 statuses bodies log = map statusOf (takenAll rowRule (logStanding log) (planRows bodies))
 
 -- these bodies are whole and in range
@@ -68,18 +68,18 @@ unfolding part number spelled updateInRange planInRange commonInRange keyInRange
 body-case = (refl, refl, refl)
 
 -- P6: message 1 CANCEL, message 2 UNKNOWN: CANCEL; with 1 withdrawn: UNKNOWN
-cancel-case : (statuses plan (message 1 (says 1 CANCEL) ∷ message 2 (says 1 UNKNOWN) ∷ []) ≡ CANCEL ∷ [])
+pub P6 : (statuses plan (message 1 (says 1 CANCEL) ∷ message 2 (says 1 UNKNOWN) ∷ []) ≡ CANCEL ∷ [])
     × (statuses plan (map (struck 1) (message 1 (says 1 CANCEL) ∷ message 2 (says 1 UNKNOWN) ∷ [])) ≡ UNKNOWN ∷ [])
 unfolding logStanding takenAll taken put get cmp part number spelled planRows planRow rowRule applyRow mayMove table17 beginning
-cancel-case = (refl, refl)
+P6 = (refl, refl)
 
 -- P7: PASSED, then CANCEL: PASSED; the first withdrawn: CANCEL
-passed-case : (statuses plan (message 1 (says 1 PASSED) ∷ message 2 (says 1 CANCEL) ∷ []) ≡ PASSED ∷ [])
+pub P7 : (statuses plan (message 1 (says 1 PASSED) ∷ message 2 (says 1 CANCEL) ∷ []) ≡ PASSED ∷ [])
     × (statuses plan (map (struck 1) (message 1 (says 1 PASSED) ∷ message 2 (says 1 CANCEL) ∷ [])) ≡ CANCEL ∷ [])
 unfolding logStanding takenAll taken put get cmp part number spelled planRows planRow rowRule applyRow mayMove table17 beginning
-passed-case = (refl, refl)
+P7 = (refl, refl)
 
 -- P9: two order numbers at one stop are two passages
-order-case : map orderOf (takenAll rowRule (logStanding (message 1 (says 2 PASSED) ∷ [])) (planRows plan)) ≡ 1 ∷ 2 ∷ []
+pub P9 : map orderOf (takenAll rowRule (logStanding (message 1 (says 2 PASSED) ∷ [])) (planRows plan)) ≡ 1 ∷ 2 ∷ []
 unfolding logStanding takenAll taken put get cmp part number spelled planRows planRow rowRule applyRow mayMove table17 beginning
-order-case = refl
+P9 = refl

@@ -1,0 +1,83 @@
+-- P1 to P11 hold, each by the case or law of the crate that it is about. Assumes nothing.
+use Prim.Native.Nat.{ℕ, _+_, _*_, _≤_}
+use native.Mathlib.Omega.{arith}
+use mathlib.Core.Path.{_≡_, refl, ap, _∙_}
+use mathlib.Core.Bool.{true}
+use mathlib.Core.List.{List, [], _∷_, _++_}
+use lib.ListN.{length}
+use Rattle.lists.specs.Text.{bytes}
+use Rattle.lists.proofs.RowLaws.{length-rowsOf}
+use Rattle.syntax.specs.Machine.{field, escape, firstEscape, nul, ret, opened, marked, step, accepting, run, fault}
+use Rattle.syntax.specs.Cases as Syntax
+use Rattle.turbo.specs.Split.{until, past, linesFrom, markOf, afterMark}
+use Rattle.turbo.specs.Cases as Turbo
+use Rattle.fields.specs.Cases as Fields
+use Rattle.passage.specs.Layout.{row-wide}
+use Rattle.cells.specs.declared.Table.the-variants as Tables
+use Rattle.reader.specs.declared.Answer.the-variants.{Rows, Syntax as SyntaxAt}
+use Rattle.reader.specs.Items.{items}
+use Rattle.reader.specs.Rules.{firstLine, firstColumn, rowsUpTo, answerTo, readingOf, itemsOf}
+use Rattle.keys.specs.Replay.{takenAll}
+use Rattle.update.specs.Rule.{mayMove, table17}
+use Rattle.table.specs.Rules.{room}
+use Rattle.table.proofs.SoundLaws.{sound-within}
+use Rattle.book.specs.Entries.{entry-wide}
+use Rattle.book.specs.Rules.{bookRoom}
+use Rattle.book.proofs.SoundLaws.{sound-facts}
+use Rattle.calls.specs.declared.Counts.{Counts}
+use Rattle.calls.specs.Answers.{numbers}
+use Rattle.calls.specs.Message.{messageSound, messageBodies, rowsTaken, roomFor, messageAnswer}
+use Rattle.calls.proofs.AcceptedLaws.{sound-parts, passes}
+use Rattle.runs.specs.Cases as Runs
+use Rattle.board.specs.Cases as Board
+use Rattle.cases.specs.Paper.{P5, P10, P11, All}
+
+p5 : P5
+unfolding mayMove table17
+p5 = (refl, refl)
+
+-- ---- no bytes
+
+nothing-read : (register : List ℕ) (sender : ℕ) → readingOf Tables.Message register sender [] ≡ SyntaxAt 0
+unfolding readingOf fault run accepting
+nothing-read register sender = refl
+
+p10 : P10
+unfolding messageAnswer
+p10 register book table sender c s = rw (s, nothing-read register sender)
+
+-- ---- a group line alone
+
+abbrev group : List ℕ
+group = bytes "\\G" ++ 13 ∷ 10 ∷ []
+
+group-read : (register : List ℕ) (sender : ℕ) → readingOf Tables.Message register sender group ≡ Rows 0
+unfolding readingOf fault run accepting step marked opened ret nul firstEscape escape field answerTo firstLine firstColumn rowsUpTo items linesFrom markOf afterMark until past
+group-read register sender = refl
+
+group-bodies : (register : List ℕ) (sender : ℕ) → messageBodies register sender group ≡ []
+unfolding messageBodies rowsUpTo items linesFrom markOf afterMark until past
+group-bodies register sender = refl
+
+none-taken : (t : List ℕ) (n : ℕ) → n ≤ room t → length (rowsTaken [] t n) ≤ room t
+unfolding takenAll
+none-taken t n h = rw (length-rowsOf row-wide n t) h
+
+p11 : P11
+p11 register book table sender c s =
+    let parts = sound-parts group register book table sender c s in
+    let bodies = group-bodies register sender in
+    let used = sound-facts (c .used) book (parts .1) .room in
+    let rows = sound-within (c .rows) table (parts .2) in
+    ap numbers (
+    passes group register book table sender c record {
+      sound = s;
+      rows = (0, group-read register sender);
+      in-book = rw bodies (omega arith);
+      in-table = rw bodies (none-taken table (c .rows) rows);
+    }
+    )
+    ∙ rw bodies
+
+pub cases : All
+cases = (Fields.P1, Fields.P2, Fields.P3, (Turbo.P4, Syntax.P4), p5, Runs.P6, Runs.P7, (Board.at-the-end, Board.past-the-end), Runs.P9, p10, p11)

@@ -1,0 +1,79 @@
+-- Document 01's cases P1 to P11, one statement each. `proofs/Paper.antt` proves them together. Assumes nothing.
+use Prim.Native.Nat.{ℕ, _+_}
+use mathlib.Core.Path.{_≡_}
+use mathlib.Core.Bool.{true, false}
+use mathlib.Core.List.{List, [], _∷_, _++_, map}
+use Rattle.lists.specs.Text.{bytes}
+use Rattle.syntax.specs.declared.Verdict.the-variants.{FaultAt}
+use Rattle.syntax.specs.Machine.{fault}
+use Rattle.turbo.specs.Escape.{decode}
+use Rattle.fields.specs.declared.Time.the-variants as Times
+use Rattle.fields.specs.declared.Number.the-variants.{Is, Wrong}
+use Rattle.fields.specs.Times.{time}
+use Rattle.fields.specs.Dates.{date}
+use Rattle.fields.specs.Stamps.{stamp}
+use Rattle.passage.specs.Layout.{orderOf}
+use Rattle.keys.specs.Replay.{takenAll}
+use Rattle.update.specs.Rule.{statusAfter, rowRule}
+use Rattle.book.specs.Rules.{planRows}
+use Rattle.calls.specs.declared.Counts.{Counts}
+use Rattle.calls.specs.Answers.{numbers}
+use Rattle.calls.specs.Message.{messageSound, messageAnswer}
+use Rattle.runs.specs.Runs.{struck, logStanding}
+use Rattle.runs.specs.Cases.{says, CANCEL, UNKNOWN, PASSED, plan, message, statuses}
+use Rattle.board.specs.Cases.{late, shownFor}
+
+-- P1: 31:59:59 is 115,199; 32:00:00 is refused
+abbrev pub P1 : Type 0
+P1 = (time (bytes "31:59:59") ≡ Times.Is (record { 0 = 115199 })) × (time (bytes "32:00:00") ≡ Times.Wrong)
+
+-- P2: 2000-02-29 is a date, 2023-02-29 not
+abbrev pub P2 : Type 0
+P2 = (date (bytes "2000-02-29") ≡ Is 20000229) × (date (bytes "2023-02-29") ≡ Wrong)
+
+-- P3: 2016-03-01T15:15:30+01:00 is 1,456,841,730
+abbrev pub P3 : Type 0
+P3 = stamp (bytes "2016-03-01T15:15:30+01:00") ≡ Is 1456841730
+
+-- P4: `a\pb\i` is `a|b\`; `\x` faults
+abbrev pub P4 : Type 0
+P4 = (decode (bytes "a\\pb\\i") ≡ bytes "a|b\\") × (fault (bytes "\\G\\x" ++ 13 ∷ 10 ∷ []) ≡ FaultAt 3)
+
+-- P5: ARRIVED, 4, then DRIVING, 3, stays ARRIVED; PASSED, 5, then ARRIVED is ARRIVED
+abbrev pub P5 : Type 0
+P5 = (statusAfter 4 3 ≡ 4) × (statusAfter 5 4 ≡ 4)
+
+-- P6: plan, message 1 CANCEL, message 2 UNKNOWN: CANCEL; with 1 withdrawn: UNKNOWN
+abbrev pub P6 : Type 0
+P6 =
+    (statuses plan (message 1 (says 1 CANCEL) ∷ message 2 (says 1 UNKNOWN) ∷ []) ≡ CANCEL ∷ [])
+    × (statuses plan (map (struck 1) (message 1 (says 1 CANCEL) ∷ message 2 (says 1 UNKNOWN) ∷ [])) ≡ UNKNOWN ∷ [])
+
+-- P7: PASSED then CANCEL: PASSED; first withdrawn: CANCEL
+abbrev pub P7 : Type 0
+P7 =
+    (statuses plan (message 1 (says 1 PASSED) ∷ message 2 (says 1 CANCEL) ∷ []) ≡ PASSED ∷ [])
+    × (statuses plan (map (struck 1) (message 1 (says 1 PASSED) ∷ message 2 (says 1 CANCEL) ∷ [])) ≡ CANCEL ∷ [])
+
+-- P8: a departure at now + horizon is shown, a second later not: 24:10:00 at 23:50:00, for 1,200 seconds and for 1,199
+abbrev pub P8 : Type 0
+P8 = (shownFor 1200 late ≡ true) × (shownFor 1199 late ≡ false)
+
+-- P9: two order numbers at one stop are two passages
+abbrev pub P9 : Type 0
+P9 = map orderOf (takenAll rowRule (logStanding (message 1 (says 2 PASSED) ∷ [])) (planRows plan)) ≡ 1 ∷ 2 ∷ []
+
+-- what a message of these bytes gets, whoever sends it, where all that it is lent is sound
+abbrev pub Gets : List ℕ → ℕ × ℕ × ℕ × ℕ → Type 0
+Gets d n = (register book table : List ℕ) (sender : ℕ) (c : Counts) → messageSound register book table c ≡ true → numbers (messageAnswer d sender register book table c) ≡ n
+
+-- P10: zero bytes: refusal 3 at 0
+abbrev pub P10 : Type 0
+P10 = Gets [] (3, 0, 0, 0)
+
+-- P11: a group line alone: accepted, number 0
+abbrev pub P11 : Type 0
+P11 = Gets (bytes "\\G" ++ 13 ∷ 10 ∷ []) (0, 0, 0, 0)
+
+abbrev pub All : Type 0
+All = P1 × P2 × P3 × P4 × P5 × P6 × P7 × P8 × P9 × P10 × P11
