@@ -1,6 +1,6 @@
 -- The call: refusals in their order, then the list of a pass. Assumes nothing.
-use mathlib.Core.Path.{_≡_, refl, sym, ap, _∙_}
-use mathlib.Core.Bool.{Bool, true, false}
+use mathlib.Core.Path.{_≡_, ap}
+use mathlib.Core.Bool.{true, false}
 use mathlib.Core.List.{List}
 use Prim.Native.Nat.{ℕ, _+_, _<_}
 use native.Mathlib.Omega.{arith}
@@ -13,7 +13,7 @@ use Rattle.fields.specs.Texts.{padded}
 use Rattle.table.specs.Rules.{rows, tableSound}
 use Rattle.board.specs.declared.Answer.{Answer}
 use Rattle.board.specs.declared.Answer.the-variants.{Listed, Unsound, OutOfRange}
-use Rattle.board.specs.Show.{momentAt, shows}
+use Rattle.board.specs.Show.{momentAt}
 use Rattle.board.specs.Pass.{showing}
 use Rattle.board.specs.Rules.{asksInRange, listed, boardOf, boardAnswer, boardPlaces}
 use Rattle.board.proofs.AskLaws.{asks-date, asks-second, asks-horizon}

@@ -1,16 +1,16 @@
 -- The claims of `specs/Claims.antt` hold. Assumes nothing.
 use mathlib.Core.Path.{_≡_, refl, sym, ap, _∙_}
 use mathlib.Core.Bool.{Bool, true, false, not}
-use mathlib.Core.List.{List, [], _∷_}
+use mathlib.Core.List.{List, []}
 use mathlib.Core.Logic.{_⊎_, inl, inr, ⊎-elim}
-use Prim.Native.Nat.{ℕ, zero, suc, _+_, _-_, _*_, _≤_, _<_}
+use Prim.Native.Nat.{ℕ, zero, suc, _+_, _-_, _≤_, _<_}
 use native.Mathlib.Omega.{arith}
-use borrow.Author.Tests.{eqb-true, eqb-false, leb-true, eq-eqb, ne-eqb, le-leb, not-true}
-use lib.Dec.{eqb, leb, leb·zero}
+use borrow.Author.Tests.{eqb-true, eqb-false, eq-eqb, ne-eqb, not-true}
+use lib.Dec.{eqb}
 use lib.ListN.{length, take, getD}
 use lib.Seq.{take-all, length-take-le, getD-take}
 use Rattle.lists.specs.Logic.{on, both, either, within}
-use Rattle.lists.specs.Part.{part, over}
+use Rattle.lists.specs.Part.{over}
 use Rattle.lists.specs.Text.{same}
 use Rattle.lists.proofs.LogicLaws.{both-true, within-true, in-range}
 use Rattle.lists.proofs.TextLaws.{same-equal, same-refl}
@@ -22,10 +22,10 @@ use Rattle.keys.specs.declared.Order.the-variants.{Less}
 use Rattle.keys.specs.Keys.{cmp}
 use Rattle.keys.proofs.KeyLaws.{cmp-trans}
 use Rattle.keys.proofs.SortedLaws.{sorted-pair}
-use Rattle.table.specs.Rules.{rows, tableSound}
+use Rattle.table.specs.Rules.{rows}
 use Rattle.table.proofs.SoundLaws.{sound-sorted}
 use Rattle.board.specs.Show.{departs, momentAt, atStop, cancelShown, flexibleShown, mayShow, shows}
-use Rattle.board.specs.Rules.{momentIn, listed, boardOf, asksInRange, boardAnswer, boardPlaces}
+use Rattle.board.specs.Rules.{momentIn, listed, boardOf}
 use Rattle.board.specs.Claims.{All, ShowFacts, ShowsExactly, ListsExactly, InOrder, PlacesRiseAsKeys, CutOnlyWhereFull, RefusesExactly, times, rowAt}
 use Rattle.board.proofs.PassLaws.{cut-most, front-part}
 use Rattle.board.proofs.BoardLaws.{unsound, out-of-range, listed-all}

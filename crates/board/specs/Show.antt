@@ -1,9 +1,9 @@
 -- Which passages a board shows. Assumes nothing.
-use Prim.Native.Nat.{ℕ, _+_}
-use mathlib.Core.Bool.{Bool, true, false, not}
+use Prim.Native.Nat.{ℕ}
+use mathlib.Core.Bool.{Bool, not}
 use mathlib.Core.List.{List}
 use lib.Dec.{eqb}
-use Rattle.lists.specs.Logic.{on, both, either, within}
+use Rattle.lists.specs.Logic.{both, either, within}
 use Rattle.lists.specs.Text.{same}
 use Rattle.clock.specs.Moment.{momentOf}
 use Rattle.fields.specs.Texts.{padded}
