@@ -137,13 +137,17 @@ fn set(h: Held) -> Held {
     n
 }
 
+fn letter(line: &[u8]) -> u8 {
+    if line.len() == 0 {
+        return 0;
+    }
+    line[0]
+}
+
 // A line with its letter and its numbers.
 pub fn read(line: &[u8], h: Held) -> Held {
-    if line.len() == 0 {
-        return h;
-    }
     let mut n = h;
-    n.letter = line[0];
+    n.letter = letter(line);
     n.a = value(after(line, 0));
     n.b = value(second(line));
     set(n)

@@ -149,13 +149,23 @@ fn asked(
     told(r, book, table, h)
 }
 
+fn asks(letter: u8) -> bool {
+    match letter {
+        b'O' | b'M' | b'W' => true,
+        _ => false,
+    }
+}
+
 fn call(desk: &[u8], kept: &[u8], book: &mut [u8], table: &mut [u8], h: Held) -> Held {
-    let b = held::front_mut(book, h.book);
-    let t = held::front_mut(table, h.table);
-    let plan = shelf(kept, 4);
-    let dossier = held::part(desk, 1000, h.dossier);
-    let register = held::part(desk, 0, h.register);
-    asked(plan, dossier, register, b, t, h)
+    if asks(h.letter) {
+        let b = held::front_mut(book, h.book);
+        let t = held::front_mut(table, h.table);
+        let plan = shelf(kept, 4);
+        let dossier = held::part(desk, 1000, h.dossier);
+        let register = held::part(desk, 0, h.register);
+        return asked(plan, dossier, register, b, t, h);
+    }
+    h
 }
 
 // H prints all used bytes of what is lent, # is a heading.
@@ -183,14 +193,8 @@ fn one(
     let n = papers(line, desk, kept, held::read(line, h));
     lend(book, b'b', 170, b'p', n);
     lend(table, b't', 187, b'q', n);
-    let letter = n.letter;
-    match letter {
-        b'O' | b'M' | b'W' => call(desk, kept, book, table, n),
-        _ => {
-            show(line, book, table, n);
-            n
-        }
-    }
+    show(line, book, table, n);
+    call(desk, kept, book, table, n)
 }
 
 pub fn run(input: &[u8], desk: &mut [u8], kept: &mut [u8], book: &mut [u8], table: &mut [u8]) {
