@@ -3,3 +3,4 @@ pub mod AcceptedLaws
 pub mod TakenLaws
 pub mod OrderLaws
 pub mod Claims
+pub mod Determined
