@@ -1,9 +1,9 @@
 -- The claims of `specs/Claims.antt` hold. Assumes nothing.
 use mathlib.Core.Path.{_≡_, refl, sym, ap, _∙_}
 use mathlib.Core.Bool.{Bool, true, false, not}
-use mathlib.Core.List.{List, []}
+use mathlib.Core.List.{List}
 use mathlib.Core.Logic.{_⊎_, inl, inr, ⊎-elim}
-use Prim.Native.Nat.{ℕ, zero, suc, _+_, _-_, _≤_, _<_}
+use Prim.Native.Nat.{ℕ, _+_, _≤_, _<_}
 use native.Mathlib.Omega.{arith}
 use borrow.Author.Tests.{eqb-true, eqb-false, eq-eqb, ne-eqb, not-true}
 use lib.Dec.{eqb}
@@ -17,16 +17,12 @@ use Rattle.lists.proofs.TextLaws.{same-equal, same-refl}
 use Rattle.lists.proofs.OverLaws.{getD-after}
 use Rattle.lists.proofs.RowLaws.{row-at, length-rowsOf}
 use Rattle.fields.specs.Texts.{padded}
-use Rattle.passage.specs.Layout.{keyOf, ownerOf, stopOf, statusOf, stopTypeOf, showCancelledOf, flexibleOf, monitoredOf, row-wide}
-use Rattle.keys.specs.declared.Order.the-variants.{Less}
-use Rattle.keys.specs.Keys.{cmp}
-use Rattle.keys.proofs.KeyLaws.{cmp-trans}
-use Rattle.keys.proofs.SortedLaws.{sorted-pair}
+use Rattle.passage.specs.Layout.{ownerOf, stopOf, statusOf, stopTypeOf, showCancelledOf, flexibleOf, monitoredOf, row-wide}
 use Rattle.table.specs.Rules.{rows}
-use Rattle.table.proofs.SoundLaws.{sound-sorted}
 use Rattle.board.specs.Show.{departs, momentAt, atStop, cancelShown, flexibleShown, mayShow, shows}
 use Rattle.board.specs.Rules.{momentIn, listed, boardOf}
 use Rattle.board.specs.Claims.{All, ShowFacts, ShowsExactly, ListsExactly, InOrder, PlacesRiseAsKeys, CutOnlyWhereFull, RefusesExactly, times, rowAt}
+use Rattle.board.proofs.FirstLaws.{keys-rise}
 use Rattle.board.proofs.PassLaws.{cut-most, front-part}
 use Rattle.board.proofs.BoardLaws.{unsound, out-of-range, listed-all}
 use Rattle.board.proofs.OrderLaws.{Before, listed-once, listed-never, listed-ordered, listed-below}
@@ -179,19 +175,8 @@ cut-only-where-full owner stop date second horizon table n places e f =
 
 -- ---- the order
 
-rise : (rs : List (List ℕ)) (i d : ℕ) → ((k : ℕ) → k + 1 < length rs → cmp (keyOf (getD rs k [])) (keyOf (getD rs (k + 1) [])) ≡ Less) → i + 1 + d < length rs
-    → cmp (keyOf (getD rs i [])) (keyOf (getD rs (i + 1 + d) [])) ≡ Less
-rise rs i zero s h = let e : i + 1 + 0 ≡ i + 1 = omega arith in rw e (s i (omega arith))
-rise rs i (suc d) s h =
-    let e : i + 1 + suc d ≡ i + 1 + d + 1 = omega arith in
-    rw e (cmp-trans _ _ _ (rise rs i d s (omega arith)) (s (i + 1 + d) (omega arith)))
-
 places-rise-as-keys : PlacesRiseAsKeys
-places-rise-as-keys table n i j s h k =
-    let e : i + 1 + (j - (i + 1)) ≡ j = omega arith in
-    let w : length (rows n table) ≡ n = length-rowsOf row-wide n table in
-    let p = rise (rows n table) i (j - (i + 1)) (λ k l. sorted-pair (rows n table) k (sound-sorted n table s) l) (omega arith) in
-    rw (← (row-at row-wide n i table (omega arith)), ← (row-at row-wide n j table k)) (rw e at p)
+places-rise-as-keys table n i j s h k = keys-rise n table i j s h k
 
 in-order : InOrder
 in-order owner stop date second horizon table n k h =

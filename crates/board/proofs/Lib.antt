@@ -1,6 +1,7 @@
 pub mod AskLaws
 pub mod ShowLaws
 pub mod PlaceLaws
+pub mod FirstLaws
 pub mod PassLaws
 pub mod BoardLaws
 pub mod OrderLaws

@@ -1,5 +1,6 @@
 pub mod Show
 pub mod Rules
+pub mod First
 pub mod Pass
 pub mod Claims
 pub mod Cases

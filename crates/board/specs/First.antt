@@ -1,0 +1,18 @@
+-- Where the rows of an owner begin. Assumes nothing.
+use Prim.Native.Nat.{ℕ}
+use mathlib.Core.List.{List}
+use lib.ListN.{replicate}
+use Rattle.lists.specs.Part.{over}
+use Rattle.passage.specs.Layout.{key-wide}
+use Rattle.keys.specs.declared.Found.{Found}
+use Rattle.keys.specs.declared.Found.the-variants.{At, Missing}
+use Rattle.keys.specs.Sorted.{lookup}
+
+-- the place of a key that was looked up, there or missing
+abbrev pub placed : Found → ℕ
+placed (At i) = i
+placed (Missing i) = i
+
+-- the place of the least key that an owner, padded, can have
+unfoldable pub firstOf : List ℕ → List (List ℕ) → ℕ
+firstOf owner rs = placed (lookup (over 0 owner (replicate key-wide 0)) rs)
