@@ -13,11 +13,12 @@ use Rattle.fields.specs.Texts.{padded}
 use Rattle.table.specs.Rules.{rows, tableSound}
 use Rattle.board.specs.declared.Answer.{Answer}
 use Rattle.board.specs.declared.Answer.the-variants.{Listed, Unsound, OutOfRange}
-use Rattle.board.specs.Show.{momentAt}
-use Rattle.board.specs.Pass.{showing}
-use Rattle.board.specs.Rules.{asksInRange, listed, boardOf, boardAnswer, boardPlaces}
-use Rattle.board.proofs.AskLaws.{asks-date, asks-second, asks-horizon}
-use Rattle.board.proofs.ShowLaws.{showing-is}
+use Rattle.shows.specs.Show.{momentAt}
+use Rattle.shows.specs.Look.{showing}
+use Rattle.shows.specs.Ask.{asksInRange}
+use Rattle.board.specs.Rules.{listed, boardOf, boardAnswer, boardPlaces}
+use Rattle.shows.proofs.AskLaws.{asks-date, asks-second, asks-horizon}
+use Rattle.shows.proofs.ShowLaws.{showing-is}
 
 module _ (owner stop : List ℕ) (date second horizon : ℕ) (table : List ℕ) (n : ℕ) (places : List ℕ) where
   abbrev Given : Answer → List ℕ → Type 0

@@ -1,5 +1,3 @@
-pub mod AskLaws
-pub mod ShowLaws
 pub mod PlaceLaws
 pub mod FirstLaws
 pub mod PassLaws

@@ -14,8 +14,9 @@ use Rattle.keys.specs.declared.Order.the-variants.{Less}
 use Rattle.keys.specs.Keys.{cmp}
 use Rattle.table.specs.Rules.{tableSound}
 use Rattle.board.specs.declared.Answer.the-variants.{Listed, Unsound, OutOfRange}
-use Rattle.board.specs.Show.{departs, momentAt, shows}
-use Rattle.board.specs.Rules.{asksInRange, boardOf, boardAnswer, boardPlaces}
+use Rattle.shows.specs.Show.{departs, momentAt, shows}
+use Rattle.shows.specs.Ask.{asksInRange}
+use Rattle.board.specs.Rules.{boardOf, boardAnswer, boardPlaces}
 
 -- ---- which rows
 

@@ -1,4 +1,3 @@
-pub mod Show
 pub mod Rules
 pub mod First
 pub mod Pass

@@ -169,6 +169,10 @@ module _ (t : Table) (j : ℕ) (h : j < wanted t) where
       let n : k < length (widths t) = rw length-widths m in
       rw (← (width-at t j h)) (begins-apart (widths t) j k l n)
 
+-- an offset is a byte
+pub offset-byte : (t : Table) (j : ℕ) → j < wanted t → getD (places 0 (widths t)) j 0 < 256
+offset-byte t j h = let e = offset-listed t j h in let w = offset-within t j h in let r = row-room t in omega arith
+
 -- a row whose parts are the cells
 pub row-flat :
     (t : Table) (cells : List (List ℕ)) (row : List ℕ) → length cells ≡ wanted t

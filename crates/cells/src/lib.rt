@@ -60,8 +60,8 @@ pub fn kind_of(t: Table, j: usize) -> u8
     }
 }
 
-// Where the columns' cells begin in a row.
-const MESSAGE_AT: [usize; 16] = [
+// Where the columns' cells begin in a row. In bytes: a constant table is laid out anew where it is read.
+const MESSAGE_AT: [u8; 16] = [
     0,
     10,
     14,
@@ -80,9 +80,9 @@ const MESSAGE_AT: [usize; 16] = [
     65,
 ];
 
-const PLANNING_AT: [usize; 12] = [0, 10, 20, 24, 25, 35, 37, 47, 57, 60, 63, 64];
+const PLANNING_AT: [u8; 12] = [0, 10, 20, 24, 25, 35, 37, 47, 57, 60, 63, 64];
 
-const CALENDAR_AT: [usize; 3] = [0, 10, 20];
+const CALENDAR_AT: [u8; 3] = [0, 10, 20];
 
 // Where the cell of column j begins in a row.
 pub fn offset_of(t: Table, j: usize) -> usize
@@ -90,9 +90,9 @@ pub fn offset_of(t: Table, j: usize) -> usize
     ensures { λ r. ⌜ r ≡ offset t j ⌝ }
 {
     match t {
-        Table::Message => MESSAGE_AT[j],
-        Table::Planning => PLANNING_AT[j],
-        Table::Calendar => CALENDAR_AT[j],
+        Table::Message => MESSAGE_AT[j] as usize,
+        Table::Planning => PLANNING_AT[j] as usize,
+        Table::Calendar => CALENDAR_AT[j] as usize,
     }
 }
 

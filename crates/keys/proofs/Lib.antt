@@ -1,4 +1,5 @@
 pub mod KeyLaws
+pub mod WordLaws
 pub mod SortedLaws
 pub mod PutLaws
 pub mod FindLaws

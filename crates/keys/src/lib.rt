@@ -3,8 +3,10 @@ ghost use mathlib.Core.Path.{_≡_};
 ghost use Prim.Native.Nat.{_+_, _≤_};
 ghost use lib.ListN.{length};
 ghost use Rattle.lists.specs.Part.{part};
+ghost use Rattle.lists.specs.BigEndian.{number};
 ghost use Rattle.passage.specs.Layout.{key-wide};
-ghost use Rattle.keys.specs.Keys.{cmp};
+ghost use Rattle.keys.specs.Keys.{cmp, byByte};
+ghost use Rattle.keys.specs.declared.Order.the-variants.{Same};
 
 pub enum Order {
     Less,
@@ -18,15 +20,48 @@ pub enum Found {
     Missing(usize),
 }
 
-// The key at p of a against the key at q of b, byte by byte.
+// Keys are compared eight bytes at a time, and the last byte by itself.
+const WORDS: usize = passage::KEY_WIDE / 8;
+
+const LAST: usize = passage::KEY_WIDE - 1;
+
+// The number that the eight bytes from `at` on spell: between as many bytes, byte order is the order of the numbers.
+fn word_at(s: &[u8], at: usize) -> u64
+    requires { ⌜ at + 8 ≤ length (now s) ⌝ }
+    ensures { λ r. ⌜ r ≡ number (part at 8 (now (s .entry))) ⌝ }
+{
+    let mut n: u64 = 0;
+    let mut k = 0;
+    while k < 8 {
+        let b = s[at + k] as u64;
+        n = n * 256 + b;
+        k += 1;
+    }
+    n
+}
+
+// The last bytes of two keys.
+fn compare_last(x: u8, y: u8) -> Order
+    ensures { λ r. ⌜ r ≡ byByte x y Same ⌝ }
+{
+    if x < y {
+        return Order::Less;
+    }
+    if y < x {
+        return Order::More;
+    }
+    Order::Same
+}
+
+// The key at p of a against the key at q of b, in byte order.
 pub fn compare_key(a: &[u8], p: usize, b: &[u8], q: usize) -> Order
     requires { ⌜ (p + key-wide ≤ length (now a)) × (q + key-wide ≤ length (now b)) ⌝ }
     ensures { λ r. ⌜ r ≡ cmp (part p key-wide (now (a .entry))) (part q key-wide (now (b .entry))) ⌝ }
 {
     let mut i = 0;
-    while i < passage::KEY_WIDE {
-        let x = a[p + i];
-        let y = b[q + i];
+    while i < WORDS {
+        let x = word_at(a, p + i * 8);
+        let y = word_at(b, q + i * 8);
         if x < y {
             return Order::Less;
         }
@@ -35,5 +70,5 @@ pub fn compare_key(a: &[u8], p: usize, b: &[u8], q: usize) -> Order
         }
         i += 1;
     }
-    Order::Same
+    compare_last(a[p + LAST], b[q + LAST])
 }

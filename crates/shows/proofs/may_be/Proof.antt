@@ -1,6 +1,6 @@
-use Rattle.board.proofs.ShowLaws.{may-be-is}
-use Rattle.board.proofs.may_be.Statement.{statement}
-use Rattle.board.proofs.may_be.Tie as tie
+use Rattle.shows.proofs.ShowLaws.{may-be-is}
+use Rattle.shows.proofs.may_be.Statement.{statement}
+use Rattle.shows.proofs.may_be.Tie as tie
 
 returns : tie.Need-returns
 returns c = let a = c .args in may-be-is (a .from) (a .till) (a .moment) (a .status) (a .show) (a .flexible) (a .monitored)

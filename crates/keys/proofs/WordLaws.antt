@@ -1,0 +1,104 @@
+-- Keys compared a word at a time. Assumes nothing.
+use mathlib.Core.Path.{_≡_, refl, sym, _∙_}
+use mathlib.Core.Bool.{Bool, true, false}
+use mathlib.Core.List.{List, [], _∷_, _++_}
+use Prim.Native.Nat.{ℕ, _+_, _-_, _^_, _≤_, _<_}
+use native.Mathlib.Nat.{add-zero, lt-of-lt-of-le, pow-le-pow-right}
+use native.Mathlib.Omega.{arith}
+use borrow.Author.Tests.{lt-ltb}
+use lib.Dec.{ltb}
+use lib.ListN.{length, getD}
+use Rattle.lists.specs.Logic.{on}
+use Rattle.lists.specs.Each.{Bytes}
+use Rattle.lists.specs.Part.{part}
+use Rattle.lists.specs.BigEndian.{number, precedes}
+use Rattle.lists.proofs.EachLaws.{bytes-part}
+use Rattle.lists.proofs.PartLaws.{part-add, part-step, part-done, length-part}
+use Rattle.lists.proofs.BigEndianLaws.{number-below, number-same, precedes-number}
+use Rattle.keys.specs.declared.Order.{Order}
+use Rattle.keys.specs.declared.Order.the-variants.{Less, Same, More}
+use Rattle.keys.specs.Keys.{cmp, byByte}
+use Rattle.keys.proofs.KeyLaws.{byByte-eq, flipped}
+
+-- up to seven bytes leave room for one more in 64 bits
+pub word-fits : (at i n : ℕ) (s : List ℕ) → n ≡ number (part at i s) → Bytes s → at + i ≤ length s → i ≤ 7 → n < 256 ^ 7
+word-fits at i n s e b h k =
+    let l = length-part at i s h in
+    let f : number (part at i s) < 256 ^ i = rw l at (number-below (part at i s) (bytes-part at i s b)) in
+    rw e (lt-of-lt-of-le f (pow-le-pow-right {n = 256} (omega arith) k))
+
+-- ---- as many bytes in front decide, or else the rest
+
+precedes-less : (l m u v : List ℕ) → length l ≡ length m → precedes l m ≡ true → cmp (l ++ u) (m ++ v) ≡ Less
+unfolding precedes cmp
+precedes-less [] [] u v e p = let z : _≡_ {A = ℕ} 0 1 = cc in absurd (omega arith)
+precedes-less [] (y ∷ m) u v e p = absurd (omega arith)
+precedes-less (x ∷ l) [] u v e p = absurd (omega arith)
+precedes-less (x ∷ l) (y ∷ m) u v e p = go (ltb x y) (ltb y x) p (precedes-less l m u v (omega arith))
+  where
+    go : (s t : Bool) → on s true (on t false (precedes l m)) ≡ true → (precedes l m ≡ true → cmp (l ++ u) (m ++ v) ≡ Less) → on s Less (on t More (cmp (l ++ u) (m ++ v))) ≡ Less
+    go true t h ih = refl
+    go false true h ih = let z : _≡_ {A = ℕ} 0 1 = cc in absurd (omega arith)
+    go false false h ih = ih h
+
+equal-front : (l u v : List ℕ) → cmp (l ++ u) (l ++ v) ≡ cmp u v
+unfolding cmp
+equal-front [] u v = refl
+equal-front (x ∷ l) u v = byByte-eq x x _ refl ∙ equal-front l u v
+
+module _ (l m u v : List ℕ) (e : length l ≡ length m) (h : Bytes l) (k : Bytes m) where
+  front-less : number l < number m → cmp (l ++ u) (m ++ v) ≡ Less
+  front-less n = precedes-less l m u v e (precedes-number l m e h k ∙ lt-ltb _ _ n)
+
+  front-same : number l ≡ number m → cmp (l ++ u) (m ++ v) ≡ cmp u v
+  front-same n = rw (number-same l m e h k n) (equal-front m u v)
+
+-- ---- a turn of the loop: x and y are the words at i of two parts of n bytes
+
+module _ (a b : List ℕ) (p q n i w : ℕ) (ha : p + n ≤ length a) (hb : q + n ≤ length b) (hi : i + w ≤ n) (ka : Bytes a) (kb : Bytes b)
+    (x y : ℕ) (ex : x ≡ number (part (p + i) w a)) (ey : y ≡ number (part (q + i) w b)) where
+  split : (t : List ℕ) (r : ℕ) → part (r + i) (n - i) t ≡ part (r + i) w t ++ part (r + (i + w)) (n - (i + w)) t
+  split t r =
+      let e : n - i ≡ w + (n - (i + w)) = omega arith in
+      let f : r + (i + w) ≡ r + i + w = omega arith in
+      rw (e, f) (part-add (r + i) w (n - (i + w)) t)
+
+  wide : length (part (p + i) w a) ≡ length (part (q + i) w b)
+  wide = length-part (p + i) w a (omega arith) ∙ sym (length-part (q + i) w b (omega arith))
+
+  abbrev front : List ℕ → ℕ → List ℕ
+  front t r = part (r + i) w t
+
+  abbrev rest : List ℕ → ℕ → List ℕ
+  rest t r = part (r + (i + w)) (n - (i + w)) t
+
+  abbrev in-a : Bytes (front a p)
+  in-a = bytes-part (p + i) w a ka
+
+  abbrev in-b : Bytes (front b q)
+  in-b = bytes-part (q + i) w b kb
+
+  pub word-less : x < y → cmp (part (p + i) (n - i) a) (part (q + i) (n - i) b) ≡ Less
+  word-less h =
+      let k : number (front a p) < number (front b q) = omega arith in
+      rw (split a p, split b q) (front-less (front a p) (front b q) (rest a p) (rest b q) wide in-a in-b k)
+
+  pub word-more : y < x → cmp (part (p + i) (n - i) a) (part (q + i) (n - i) b) ≡ More
+  word-more h =
+      let k : number (front b q) < number (front a p) = omega arith in
+      let e : cmp (part (q + i) (n - i) b) (part (p + i) (n - i) a) ≡ Less =
+      rw (split a p, split b q) (front-less (front b q) (front a p) (rest b q) (rest a p) (sym wide) in-b in-a k) in
+      flipped _ _ Less e
+
+  pub word-same : y ≤ x → x ≤ y → cmp (part (p + i) (n - i) a) (part (q + i) (n - i) b) ≡ cmp (rest a p) (rest b q)
+  word-same h k =
+      let e : number (front a p) ≡ number (front b q) = omega arith in
+      rw (split a p, split b q) (front-same (front a p) (front b q) (rest a p) (rest b q) wide in-a in-b e)
+
+-- ---- the last byte
+
+pub last-byte : (a b : List ℕ) (p q n i j : ℕ) → p + n ≤ length a → q + n ≤ length b → i ≡ j → j + 1 ≡ n
+    → cmp (part (p + i) (n - i) a) (part (q + i) (n - i) b) ≡ byByte (getD a (p + j) 0) (getD b (q + j) 0) Same
+unfolding cmp
+last-byte a b p q n i j h k e f =
+    rw (e, part-step a p n j (omega arith) (omega arith), part-step b q n j (omega arith) (omega arith), part-done a (p + (j + 1)) n (j + 1) (omega arith), part-done b (q + (j + 1)) n (j + 1) (omega arith))

@@ -1,0 +1,3 @@
+pub mod AskLaws
+pub mod ShowLaws
+pub mod Determined
