@@ -1,0 +1,181 @@
+//! The columns of the three wanted tables, and the whole layouts that 000 gives for two of them.
+
+#[derive(Clone, Copy, Debug, PartialEq, Eq)]
+pub enum Kind {
+    Text,
+    Number(usize),
+    Flag,
+    Date,
+    Time,
+    Stamp,
+    Status,
+    StopType,
+    Flexible,
+}
+
+/// A wanted column: its name, its type, and whether it may be missing.
+pub struct Wanted {
+    pub name: &'static str,
+    pub kind: Kind,
+    pub optional: bool,
+}
+
+const fn required(name: &'static str, kind: Kind) -> Wanted {
+    Wanted { name, kind, optional: false }
+}
+
+const fn optional(name: &'static str, kind: Kind) -> Wanted {
+    Wanted { name, kind, optional: true }
+}
+
+/// A wanted table: its name, its columns, and the whole layout that 000 gives.
+pub struct Form {
+    pub name: &'static str,
+    pub wanted: &'static [Wanted],
+    pub full: &'static [&'static str],
+}
+
+pub static MESSAGE: Form = Form {
+    name: "DATEDPASSTIME",
+    wanted: &[
+        required("DataOwnerCode", Kind::Text),
+        required("OperationDate", Kind::Date),
+        required("LinePlanningNumber", Kind::Text),
+        required("VehicleJourneyNumber", Kind::Number(6)),
+        required("FortifyOrderNumber", Kind::Number(2)),
+        required("UserStopCode", Kind::Text),
+        required("UserStopOrderNumber", Kind::Number(3)),
+        required("DestinationCode", Kind::Text),
+        required("LastUpdateTimeStamp", Kind::Stamp),
+        required("TripStopStatus", Kind::Status),
+        required("ExpectedArrivalTime", Kind::Time),
+        required("ExpectedDepartureTime", Kind::Time),
+        required("JourneyStopType", Kind::StopType),
+        optional("ShowCancelledTrip", Kind::Flag),
+        optional("ShowFlexibleTrip", Kind::Flexible),
+        optional("Monitored", Kind::Flag),
+    ],
+    full: &[
+        "DataOwnerCode",
+        "OperationDate",
+        "LinePlanningNumber",
+        "VehicleJourneyNumber",
+        "FortifyOrderNumber",
+        "UserStopOrderNumber",
+        "UserStopCode",
+        "LocalServiceLevelCode",
+        "JourneyPatternCode",
+        "LineDirection",
+        "LastUpdateTimeStamp",
+        "DestinationCode",
+        "IsTimingStop",
+        "ExpectedArrivalTime",
+        "ExpectedDepartureTime",
+        "TripStopStatus",
+        "MessageContent",
+        "MessageType",
+        "SideCode",
+        "NumberOfCoaches",
+        "WheelChairAccessible",
+        "OperatorCode",
+        "ReasonType",
+        "SubReasonType",
+        "ReasonContent",
+        "AdviceType",
+        "SubAdviceType",
+        "AdviceContent",
+        "TimingPointDataOwnerCode",
+        "TimingPointCode",
+        "JourneyStopType",
+        "TargetArrivalTime",
+        "TargetDepartureTime",
+        "RecordedArrivalTime",
+        "RecordedDepartureTime",
+        "DetectedUserStopCode",
+        "DistanceSinceDetectedUserStop",
+        "Detected_RD_X",
+        "Detected_RD_Y",
+        "VehicleNumber",
+        "BlockCode",
+        "LineVeTagNumber",
+        "VejoJourneyNumber",
+        "VehicleJourneyType",
+        "VejoBlockNumCode",
+        "JourneyModificationType",
+        "VejoDepartureTime",
+        "VejoArrivalTime",
+        "VejoTripStatusType",
+        "ExtraJourney",
+        "CancelledJourney",
+        "ShowCancelledTrip",
+        "ShowFlexibleTrip",
+        "Monitored",
+        "MonitoringError",
+        "ExtraCall",
+        "CancelledCall",
+        "ShowCancelledStop",
+        "AimedQuayRef",
+        "ExpectedQuayRef",
+        "ActualQuayRef",
+        "Occupancy",
+        "LineDestIcon",
+        "LineDestColor",
+        "LineDestTextColor",
+    ],
+};
+
+pub static PLANNING: Form = Form {
+    name: "LOCALSERVICEGROUPPASSTIME",
+    wanted: &[
+        required("DataOwnerCode", Kind::Text),
+        required("LinePlanningNumber", Kind::Text),
+        required("VehicleJourneyNumber", Kind::Number(6)),
+        required("FortifyOrderNumber", Kind::Number(2)),
+        required("UserStopCode", Kind::Text),
+        required("UserStopOrderNumber", Kind::Number(3)),
+        required("LocalServiceLevelCode", Kind::Text),
+        required("DestinationCode", Kind::Text),
+        required("TargetArrivalTime", Kind::Time),
+        required("TargetDepartureTime", Kind::Time),
+        required("JourneyStopType", Kind::StopType),
+        optional("ShowFlexibleTrip", Kind::Flexible),
+    ],
+    full: &[
+        "DataOwnerCode",
+        "LocalServiceLevelCode",
+        "LinePlanningNumber",
+        "VehicleJourneyNumber",
+        "FortifyOrderNumber",
+        "UserStopCode",
+        "UserStopOrderNumber",
+        "JourneyPatternCode",
+        "LineDirection",
+        "DestinationCode",
+        "TargetArrivalTime",
+        "TargetDepartureTime",
+        "SideCode",
+        "WheelChairAccessible",
+        "JourneyStopType",
+        "IsTimingStop",
+        "ProductFormulaType",
+        "GetIn",
+        "GetOut",
+        "ShowFlexibleTrip",
+        "LineDestIcon",
+        "LineDestColor",
+        "LineDestTextColor",
+        "BlockCode",
+        "SequenceInBlock",
+        "VehicleJourneyType",
+    ],
+};
+
+pub static CALENDAR: Form = Form {
+    name: "LOCALSERVICEGROUPVALIDITY",
+    wanted: &[
+        required("DataOwnerCode", Kind::Text),
+        required("LocalServiceLevelCode", Kind::Text),
+        required("OperationDate", Kind::Date),
+    ],
+    full: &["DataOwnerCode", "LocalServiceLevelCode", "OperationDate"],
+};
