@@ -1,0 +1,70 @@
+// The correction desk's program: does what a script says, a command a line, and prints each answer and each board.
+mod script;
+mod text;
+
+use script::Held;
+use text::Loaded;
+
+// The script's lines, one after the other.
+fn lines(s: &[u8], register: &mut [u8], book: &mut [u8], table: &mut [u8]) -> Held {
+    let mut h = script::nothing();
+    let mut rest = s;
+    while 0 < rest.len() {
+        let n = turbo::find(rest, 10);
+        h = script::line(&rest[0..n], register, book, table, h);
+        let next = text::after(rest, n);
+        rest = next;
+    }
+    h
+}
+
+// How many bytes of a script there are: of the file that the argument names, or of standard input.
+fn size(paper: &mut [u8]) -> usize {
+    let words = os::arg_count();
+    if words < 2 {
+        return io::read_full(libc::STDIN_FILENO, paper);
+    }
+    let mut path = io::buffer();
+    let n = os::arg(1, &mut path);
+    match text::load(&path[..n], paper) {
+        Loaded::Bytes(k) => k,
+        Loaded::Unreadable => {
+            desk_words::say(b"the script cannot be read\n");
+            0
+        }
+    }
+}
+
+fn report(bad: u32) {
+    if 0 < bad {
+        desk_words::tell(b"lines not done: %\n", bad as usize, 0);
+    }
+}
+
+// The buffers come as arrays of known size: so no proof has to count one through.
+fn run(
+    paper: &mut [u8; 65537],
+    register: &mut [u8; 704],
+    book: &mut [u8; 294912],
+    table: &mut [u8; 137216],
+) {
+    let n = size(paper);
+    if n == 0 {
+        desk_words::usage();
+        return;
+    }
+    if 65536 < n {
+        desk_words::say(b"script over 65,536 bytes: nothing done\n");
+        return;
+    }
+    let h = lines(text::front(paper, n), register, book, table);
+    report(h.bad);
+}
+
+fn main() {
+    let mut paper = [0u8; 65537];
+    let mut register = [0u8; 704];
+    let mut book = [0u8; 294912];
+    let mut table = [0u8; 137216];
+    run(&mut paper, &mut register, &mut book, &mut table);
+}

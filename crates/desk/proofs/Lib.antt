@@ -1,0 +1,4 @@
+pub mod AnswerLaws
+pub mod Claims
+pub mod Determined
+pub mod DossierLaws

@@ -1,0 +1,91 @@
+/* A stop's board, then with a cancellation, then with that withdrawn. `tools/run-c-example` builds and runs it. */
+#define _DEFAULT_SOURCE /* timegm */
+#include <stdio.h>
+#include <string.h>
+#include <time.h>
+
+#include "desk.h"
+
+static const char planning[] =
+    "\\Gplan\r\n"
+    "\\TLOCALSERVICEGROUPPASSTIME\r\n"
+    "\\LDataOwnerCode|LocalServiceLevelCode|LinePlanningNumber|VehicleJourneyNumber|FortifyOrderNumber|UserStopCode"
+    "|UserStopOrderNumber|DestinationCode|TargetArrivalTime|TargetDepartureTime|JourneyStopType\r\n"
+    "CXX|1|A031|122|0|S1|15|CIOS|24:10:00|24:10:00|INTERMEDIATE\r\n"
+    "CXX|2|A031|101|0|S1|15|CIOS|00:05:00|00:05:00|INTERMEDIATE\r\n";
+
+static const char calendar[] =
+    "\\Gcalendar\r\n"
+    "\\TLOCALSERVICEGROUPVALIDITY\r\n"
+    "\\LDataOwnerCode|LocalServiceLevelCode|OperationDate\r\n"
+    "CXX|1|2016-03-01\r\n"
+    "CXX|2|2016-03-02\r\n";
+
+static const char cancellation[] =
+    "\\Gpasstimes\r\n"
+    "\\TDATEDPASSTIME\r\n"
+    "\\LDataOwnerCode|OperationDate|LinePlanningNumber|VehicleJourneyNumber|FortifyOrderNumber|UserStopCode|UserStopOrderNumber"
+    "|DestinationCode|LastUpdateTimeStamp|TripStopStatus|ExpectedArrivalTime|ExpectedDepartureTime|JourneyStopType|ShowCancelledTrip\r\n"
+    "CXX|2016-03-02|A031|101|0|S1|15|CIOS|2016-03-01T23:40:00+01:00|CANCEL|00:05:00|00:05:00|INTERMEDIATE|1\r\n";
+
+/* sender 3 may send for CXX */
+static const char registered[11] = "\003CXX";
+
+static uint8_t book[DESK_BOOK], table[DESK_TABLE];
+static uint64_t answer[6]; /* the counts to pass on are answer[4] and answer[5] */
+
+#define TEXT(s) (const uint8_t *)(s), sizeof(s) - 1
+
+static unsigned number_at(const uint8_t *bytes, int width)
+{
+    unsigned n = 0;
+    for (int i = 0; i < width; i++) n = n << 8 | bytes[i];
+    return n;
+}
+
+static void print_row(const uint8_t *row)
+{
+    static const char *const statuses[] = {"PLANNED", "CANCEL", "UNKNOWN", "DRIVING", "ARRIVED", "PASSED"};
+    unsigned date = number_at(row + DESK_DATE_AT, 4);
+    /* 24:10:00 is ten past midnight on the day after: timegm carries the seconds over */
+    struct tm t = {.tm_year = (int)(date / 10000) - 1900, .tm_mon = (int)(date / 100 % 100) - 1, .tm_mday = (int)(date % 100),
+                   .tm_sec = (int)number_at(row + DESK_DEPARTURE_AT, 3)};
+    char clock[20];
+    timegm(&t);
+    strftime(clock, sizeof clock, "%Y-%m-%d %H:%M:%S", &t);
+    printf("%s %.10s %.10s %s\n", clock, row + DESK_LINE_AT, row + DESK_DESTINATION_AT, statuses[row[DESK_STATUS_AT]]);
+}
+
+/* the board of S1, half an hour from 23:50:00 on */
+static void print_board(uint64_t rows)
+{
+    uint32_t places[8];
+    uint64_t board[6];
+    puts("BOARD CXX S1 2016-03-01 23:50:00 1800");
+    desk_board(TEXT("CXX"), TEXT("S1"), 20160301, 85800, 1800, table, sizeof table, rows, places, 8, board);
+    for (uint64_t i = 0; i < board[1]; i++) print_row(table + places[i] * DESK_ROW);
+    printf("END %u %u\n", (unsigned)board[1], (unsigned)board[2]);
+}
+
+static int refused(const char *call, uint32_t number)
+{
+    if (number != 0) printf("%s: refused with %u, %u, %u\n", call, (unsigned)number, (unsigned)answer[1], (unsigned)answer[2]);
+    return number != 0;
+}
+
+int main(void)
+{
+    if (refused("open", desk_open(TEXT(planning), TEXT(calendar), book, sizeof book, table, sizeof table, 0, 0, answer))) return 1;
+    print_board(answer[5]);
+
+    if (refused("message", desk_message(TEXT(cancellation), 3, (const uint8_t *)registered, sizeof registered, book, sizeof book,
+                                        table, sizeof table, answer[4], answer[5], answer))) return 1;
+    uint32_t message = (uint32_t)answer[1];
+    printf("\nmessage %u:\n", (unsigned)message);
+    print_board(answer[5]);
+
+    if (refused("withdraw", desk_withdraw(message, 3, book, sizeof book, table, sizeof table, answer[4], answer[5], answer))) return 1;
+    printf("\nmessage %u withdrawn:\n", (unsigned)message);
+    print_board(answer[5]);
+    return 0;
+}
