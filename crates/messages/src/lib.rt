@@ -93,11 +93,12 @@ fn take_rows(
     calls::refused(Answer::TableShort, c)
 }
 
-// The dossier is read into a staging area first: nothing lent is written before it is certain that all rows are taken.
+// The dossier is read into the staging area first: nothing lent is written before it is certain that all rows are taken.
 fn read_and_take(
     d: &[u8],
     sender: u8,
     register: &[u8],
+    staging: &mut [u8; STAGED],
     book: &mut [u8],
     table: &mut [u8],
     c: Counts,
@@ -107,14 +108,13 @@ fn read_and_take(
     ensures entries { λ _. ⌜ now (book .exit) ≡ messageBook (now (d .entry)) sender (now (register .entry)) (now (book .entry)) (now (table .entry)) c ⌝ }
     ensures rows { λ _. ⌜ now (table .exit) ≡ messageTable (now (d .entry)) sender (now (register .entry)) (now (book .entry)) (now (table .entry)) c ⌝ }
 {
-    let mut staging = [0u8; STAGED];
-    match reader::read_message(d, register, sender, &mut staging) {
+    match reader::read_message(d, register, sender, staging) {
         reader::Answer::TooLong => calls::refused(Answer::TooLong(0), c),
         reader::Answer::Syntax(i) => calls::refused(Answer::Syntax(i, 0), c),
         reader::Answer::Form(l) => calls::refused(Answer::Form(l, 0), c),
         reader::Answer::Field(l, k) => calls::refused(Answer::Field(l, k, 0), c),
         reader::Answer::Owner(l) => calls::refused(Answer::Owner(l), c),
-        reader::Answer::Rows(n) => take_rows(&staging, n, sender, book, table, c),
+        reader::Answer::Rows(n) => take_rows(staging, n, sender, book, table, c),
     }
 }
 
@@ -132,7 +132,8 @@ pub fn message(
     ensures rows { λ _. ⌜ now (table .exit) ≡ messageTable (now (d .entry)) sender (now (register .entry)) (now (book .entry)) (now (table .entry)) c ⌝ }
 {
     if is_sound(register, book, table, c) {
-        return read_and_take(d, sender, register, book, table, c);
+        let mut staging = [0u8; STAGED];
+        return read_and_take(d, sender, register, &mut staging, book, table, c);
     }
     calls::refused(Answer::Unsound, c)
 }

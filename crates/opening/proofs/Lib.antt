@@ -1,4 +1,2 @@
-pub mod WriteLaws
-pub mod SortLaws
 pub mod StageLaws
 pub mod Determined

@@ -1,36 +1,30 @@
 -- The answers of a withdrawal, one way out after another, and that a refusal gives back everything. Assumes nothing.
-use mathlib.Core.Path.{_≡_, refl, sym, _∙_}
+use mathlib.Core.Path.{_≡_, sym, _∙_}
 use mathlib.Core.Bool.{Bool, true, false}
 use mathlib.Core.List.{List, [], _∷_}
-use Prim.Native.Nat.{ℕ, zero, suc, _+_, _-_, _≤_, _<_}
+use Prim.Native.Nat.{ℕ, zero, suc, _+_, _-_, _<_}
 use native.Mathlib.Nat.{not-suc-le-zero}
 use native.Mathlib.Omega.{arith}
-use borrow.Author.Tests.{le-leb, lt-leb}
 use lib.Dec.{eqb}
 use lib.ListN.{length, drop, getD}
 use Rattle.lists.specs.Logic.{on, either}
 use Rattle.lists.specs.Part.{part}
 use Rattle.lists.specs.Rows.{rowsOf}
-use Rattle.table.specs.Rules.{room, tableSound}
+use Rattle.table.specs.Rules.{tableSound}
 use Rattle.book.specs.Entries.{entry-wide, sender-at, updatesIn}
 use Rattle.book.specs.Rules.{bookSound, messageEntries}
 use Rattle.book.proofs.PlaceLaws.{kind-at, sender-from}
-use Rattle.lists.proofs.LogicLaws.{both-true}
 use Rattle.calls.specs.declared.Answer.{Answer}
-use Rattle.calls.specs.declared.Answer.the-variants.{Accepted, Unsound, TableShort, NoMessage, AlreadyWithdrawn, OtherSender}
+use Rattle.calls.specs.declared.Answer.the-variants.{Unsound, NoMessage, AlreadyWithdrawn, OtherSender}
 use Rattle.calls.specs.declared.Counts.{Counts}
 use Rattle.calls.specs.declared.Outcome.{Outcome}
 use Rattle.calls.specs.Answers.{isAccepted}
 use Rattle.calls.specs.Withdraw.{withdrawSound, rowsWithout, bookWithout, tableWithout, withdrawAnswer, withdrawOutcome, withdrawBook, withdrawTable}
-use Rattle.withdrawals.specs.Steps.{Stands, roomAnswer, roomOutcome, roomBook, roomTable}
+use Rattle.reworks.specs.Steps.{Stands, roomAnswer, roomOutcome, roomBook, roomTable}
 
 -- ---- soundness, by its two tests
 
 module _ (book table : List ℕ) (c : Counts) where
-  pub sound-parts : withdrawSound book table c ≡ true → (bookSound (c .used) book ≡ true) × (tableSound (c .rows) table ≡ true)
-  unfolding withdrawSound
-  sound-parts e = both-true (bookSound (c .used) book) (tableSound (c .rows) table) e
-
   pub sound-book : (t : Bool) → bookSound (c .used) book ≡ true → t ≡ tableSound (c .rows) table → t ≡ withdrawSound book table c
   unfolding withdrawSound
   sound-book t e g = rw e g
@@ -97,21 +91,3 @@ module _ (n sender : ℕ) (book table : List ℕ) (c : Counts) where
         goes-on k r b t told =
             let a : withdrawAnswer n sender book table c ≡ roomAnswer n book table c = as-read ∙ rw (e, k) in
             rw a told
-
--- ---- 8, or acceptance
-
-module _ (n : ℕ) (book table : List ℕ) (c : Counts) where
-  abbrev without : List (List ℕ)
-  without = rowsWithout n book (c .used) table (c .rows)
-
-  abbrev Room : Outcome → List ℕ → List ℕ → Type 0
-  Room r b t = (r ≡ roomOutcome n book table c) × ((b ≡ roomBook n book table c) × (t ≡ roomTable n book table c))
-
-  pub room-refused : (r : Outcome) → room table < length without → (r .answer ≡ TableShort) × (r .counts ≡ c) → Room r book table
-  unfolding roomOutcome roomBook roomTable roomAnswer
-  room-refused r h told = rw (lt-leb (length without) (room table) h) ((λ i. record { answer = told .0 i; counts = told .1 i }), (refl, refl))
-
-  pub room-taken : (count : ℕ) (b t : List ℕ) → length without ≤ room table → count ≡ length without → b ≡ bookWithout n book (c .used) → t ≡ tableWithout n book (c .used) table (c .rows)
-      → Room (record { answer = Accepted 0; counts = record { used = c .used; rows = count } }) b t
-  unfolding roomOutcome roomBook roomTable roomAnswer
-  room-taken count b t h e f g = rw (le-leb (length without) (room table) h) ((λ i. record { answer = Accepted 0; counts = record { used = c .used; rows = e i } }), (f, g))

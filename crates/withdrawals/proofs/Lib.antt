@@ -1,13 +1,3 @@
-pub mod SlotLaws
-pub mod TakeLaws
-pub mod RowsLaws
-pub mod NamesLaws
-pub mod SlotWriteLaws
-pub mod BeginLaws
-pub mod HeardLaws
-pub mod TableLaws
-pub mod WorkLaws
-pub mod ReworkLaws
 pub mod StandsLaws
 pub mod AnswerLaws
 pub mod Determined

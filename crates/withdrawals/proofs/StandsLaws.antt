@@ -15,7 +15,7 @@ use Rattle.book.proofs.SplitLaws.{sound-split, length-updates}
 use Rattle.book.proofs.MarkLaws.{marks-alone}
 use Rattle.book.proofs.HeldLaws.{held-is, found-message}
 use Rattle.calls.specs.Withdraw.{bookWithout}
-use Rattle.withdrawals.specs.Steps.{Stands}
+use Rattle.reworks.specs.Steps.{Stands}
 
 module _ (n used : ℕ) (b : List ℕ) (sound : bookSound used b ≡ true) (i m : ℕ) (found : heldAs n (updatesIn used b) ≡ At i m) where
   abbrev us : List (List ℕ)

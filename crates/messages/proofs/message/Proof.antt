@@ -1,38 +1,32 @@
 -- `message` meets its contract. Assumes nothing.
-use mathlib.Core.Path.{sym, _∙_}
+use mathlib.Core.Path.{refl, sym, _∙_}
 use Rattle.messages.proofs.ReadLaws.{unsound}
-use borrow.Author.Needs.{needs}
 use Rattle.messages.proofs.message.Statement.{statement}
 use Rattle.messages.proofs.message.Tie as tie
-use Rattle.messages.proofs.message.Reads as reads
-use Rattle.messages.proofs.message.Lts as lts
-use Rattle.calls.proofs.refused.Reads as refused-reads
-use Rattle.messages.proofs.is_sound.Reads as is-sound-reads
-use Rattle.messages.proofs.read_and_take.Reads as read-and-take-reads
 
 is-sound-requires : tie.Need-is-sound-requires
-is-sound-requires c κs = search needs
+is-sound-requires c κs = tt
 
 read-and-take-requires : tie.Need-read-and-take-requires
-read-and-take-requires c κs = sym (c .before .before .before .is-sound .ensures) ∙ c .before .before .if1 .taken
+read-and-take-requires c κs = sym (c .before .before .before .before .is-sound .ensures) ∙ c .before .before .before .if1 .taken
 
 same-length : tie.Need-same-length
-same-length c = search needs
+same-length c = c .before .before .before .before .read-and-take .kept .1 .1 .1 .1 .0
 
 same-length-2 : tie.Need-same-length-2
-same-length-2 c = search needs
+same-length-2 c = c .before .before .before .before .read-and-take .kept .1 .1 .1 .1 .1 .0
 
 returns : tie.Need-returns
-returns c = search needs
+returns c = c .before .before .before .before .read-and-take .ensures
 
 refused-requires : tie.Need-refused-requires
-refused-requires c κs = search needs
+refused-requires c κs = tt
 
 same-length-3 : tie.Need-same-length-3
-same-length-3 c = search needs
+same-length-3 c = refl
 
 same-length-4 : tie.Need-same-length-4
-same-length-4 c = search needs
+same-length-4 c = refl
 
 returns-2 : tie.Need-returns-2
 returns-2 c =

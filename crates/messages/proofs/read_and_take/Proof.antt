@@ -1,8 +1,7 @@
 -- `read_and_take` meets its contract. Assumes nothing.
-use Prim.Native.Nat.{ℕ}
 use native.Mathlib.Omega.{arith}
 use mathlib.Core.Path.{_≡_, refl, sym, ap, _∙_}
-use lib.ListN.{length-replicate}
+use lib.ListN.{length}
 use Rattle.lists.specs.Rows.{rowsOf}
 use Rattle.passage.specs.Layout.{body-wide}
 use Rattle.reader.specs.declared.Answer.the-variants.{TooLong, Syntax, Form, Field, Owner}
@@ -13,95 +12,89 @@ use Rattle.messages.proofs.ReadLaws.{staged-bodies, dossier-refused, ro
 use borrow.Author.Needs.{needs}
 use Rattle.messages.proofs.read_and_take.Statement.{statement}
 use Rattle.messages.proofs.read_and_take.Tie as tie
-use Rattle.messages.proofs.read_and_take.Reads as reads
-use Rattle.messages.proofs.read_and_take.Lts as lts
-use Rattle.calls.proofs.refused.Reads as refused-reads
-use Rattle.messages.proofs.take_rows.Reads as take-rows-reads
-use Rattle.reader.proofs.read_message.Reads as read-message-reads
-
-slice-aggregate-read-message : tie.Need-slice-aggregate-read-message
-slice-aggregate-read-message c = search needs
 
 read-message-requires : tie.Need-read-message-requires
-read-message-requires c κs = search needs
+read-message-requires c κs = tt
 
 enum-told : tie.Need-enum-told
 enum-told c = search needs
 
 refused-requires : tie.Need-refused-requires
-refused-requires c κs = search needs
+refused-requires c κs = tt
 
 enum-known-i : tie.Need-enum-known-i
 enum-known-i c = search needs
 
 refused-requires-2 : tie.Need-refused-requires-2
-refused-requires-2 c κs = search needs
+refused-requires-2 c κs = tt
 
 enum-known-l : tie.Need-enum-known-l
 enum-known-l c = search needs
 
 refused-requires-3 : tie.Need-refused-requires-3
-refused-requires-3 c κs = search needs
+refused-requires-3 c κs = tt
 
 enum-known-l-2 : tie.Need-enum-known-l-2
 enum-known-l-2 c = search needs
 
 refused-requires-4 : tie.Need-refused-requires-4
-refused-requires-4 c κs = search needs
+refused-requires-4 c κs = tt
 
 enum-known-l-3 : tie.Need-enum-known-l-3
 enum-known-l-3 c = search needs
 
 refused-requires-5 : tie.Need-refused-requires-5
-refused-requires-5 c κs = search needs
+refused-requires-5 c κs = tt
 
 enum-known-n : tie.Need-enum-known-n
 enum-known-n c = search needs
 
-slice-aggregate-take-rows : tie.Need-slice-aggregate-take-rows
-slice-aggregate-take-rows c = search needs
+-- the area's length
+long : (r : tie.After-read-message) → length (r .before .before .before .before .before .before .args .staging .now) ≡ 160182
+long r = let l = r .before .read-message-arg .given in omega arith
 
 take-rows-requires : tie.Need-take-rows-requires
 take-rows-requires c κs =
     let read = c .before .before .before .before .before .before .before in
     let s = c .before .before .before .before .before .before .before .before .before .before .before .before .before in
     let a = s .args in
-    let got = rows-few (a .register .now) (a .sender) (a .d .now) _ (sym (read .read-message .ensures .0) ∙ c .before .before .before .before .n .given .1) .1 in
+    let got = rows-few (a .register .now) (a .sender) (a .d .now) _ (sym (read .read-message .ensures .0) ∙ c .before .before .before .before .before .n .given .1) .1 in
     let parts = sound-parts (a .d .now) (a .register .now) (a .book .now) (a .table .now) (a .sender) (a .c) (s .pre) in
-    ((got, omega (arith, read .read-message .kept .1 .1 .1 .0)), (parts .1, parts .2))
+    let l = read .read-message .kept .1 .1 .1 .0 ∙ long read in
+    ((got, omega arith), (parts .1, parts .2))
 
 returns : tie.Need-returns
 returns c =
-    let read = c .before .before .before .before in
-    let s = c .before .before .before .before .before .before .before .before .before .before in
+    let read = c .before .before .before in
+    let s = c .before .before .before .before .before .before .before .before .before in
     let a = s .args in
     dossier-refused (a .d .now) (a .sender) (a .register .now) (a .book .now) (a .table .now) (a .c) (s .pre) TooLong (sym (read .read-message .ensures .0) ∙ c .before .enum-told .given .1) refl (c .refused .result) (c .refused .ensures)
 
 returns-2 : tie.Need-returns-2
 returns-2 c =
-    let read = c .before .before .before .before .before in
-    let s = c .before .before .before .before .before .before .before .before .before .before .before in
+    let read = c .before .before .before .before in
+    let s = c .before .before .before .before .before .before .before .before .before .before in
     let a = s .args in
     dossier-refused (a .d .now) (a .sender) (a .register .now) (a .book .now) (a .table .now) (a .c) (s .pre) (Syntax _) (sym (read .read-message .ensures .0) ∙ c .before .before .i .given .1) refl (c .refused2 .result) (c .refused2 .ensures)
 
 returns-3 : tie.Need-returns-3
 returns-3 c =
-    let read = c .before .before .before .before .before in
-    let s = c .before .before .before .before .before .before .before .before .before .before .before in
+    let read = c .before .before .before .before in
+    let s = c .before .before .before .before .before .before .before .before .before .before in
     let a = s .args in
     dossier-refused (a .d .now) (a .sender) (a .register .now) (a .book .now) (a .table .now) (a .c) (s .pre) (Form _) (sym (read .read-message .ensures .0) ∙ c .before .before .l .given .1) refl (c .refused3 .result) (c .refused3 .ensures)
 
 returns-4 : tie.Need-returns-4
 returns-4 c =
-    let read = c .before .before .before .before .before in
-    let s = c .before .before .before .before .before .before .before .before .before .before .before in
+    let read = c .before .before .before .before in
+    let s = c .before .before .before .before .before .before .before .before .before .before in
     let a = s .args in
     dossier-refused (a .d .now) (a .sender) (a .register .now) (a .book .now) (a .table .now) (a .c) (s .pre) (Field _ _) (sym (read .read-message .ensures .0) ∙ c .before .before .l2 .given .1) refl (c .refused4 .result) (c .refused4 .ensures)
 
 returns-5 : tie.Need-returns-5
 returns-5 c =
-    let read = c .before .before .before .before .before in
-    let s = c .before .before .before .before .before .before .before .before .before .before .before in
+    let read = c .before .before .before .before in
+    let s = c .before .before .before .before .before .before .before .before .before .before in
     let a = s .args in
     dossier-refused (a .d .now) (a .sender) (a .register .now) (a .book .now) (a .table .now) (a .c) (s .pre) (Owner _) (sym (read .read-message .ensures .0) ∙ c .before .before .l3 .given .1) refl (c .refused5 .result) (c .refused5 .ensures)
 
@@ -117,18 +110,17 @@ returns-6 c =
     let read = took .before .before .before .before .before .before .before .before in
     let s = read .before .before .before .before .before .before in
     let a = s .args in
-    let reads = sym (read .read-message .ensures .0) ∙ took .before .before .before .before .before .n .given .1 in
-    let n = took .before .before .before .before .before .n .given .0 .0 in
+    let reads = sym (read .read-message .ensures .0) ∙ took .before .before .before .before .before .before .n .given .1 in
+    let n = took .before .before .before .before .before .before .n .given .0 .0 in
     let few = rows-few (a .register .now) (a .sender) (a .d .now) n reads .1 in
     let same : rowsOf body-wide n (read .read-message .last .1 .1 .1 .0) ≡ messageBodies (a .register .now) (a .sender) (a .d .now) =
-    ap (rowsOf body-wide n) (read .read-message .ensures .1) ∙ staged-bodies (a .register .now) (a .sender) (a .d .now) _ n reads few (length-replicate {A = ℕ} 160182 0) in
+    ap (rowsOf body-wide n) (read .read-message .ensures .1) ∙ staged-bodies (a .register .now) (a .sender) (a .d .now) _ n reads few (long read) in
     rows-taken (a .d .now) (a .sender) (a .register .now) (a .book .now) (a .table .now) (a .c) (s .pre) n reads _ same (took .take-rows .result) _ _ (took .take-rows .ensures)
 
 pub read-and-take-spec : {M : Type 1} → statement M
 read-and-take-spec =
     tie.close
     (tie.spec
-    slice-aggregate-read-message
     read-message-requires
     enum-told
     refused-requires
@@ -141,7 +133,6 @@ read-and-take-spec =
     enum-known-l-3
     refused-requires-5
     enum-known-n
-    slice-aggregate-take-rows
     take-rows-requires
     returns
     returns-2

@@ -1,152 +1,17 @@
-use mathlib.Core.Path.{_≡_, refl, sym, _∙_}
-use mathlib.Core.List.{[]}
-use Prim.Native.Nat.{_*_, _≤_}
-use native.Mathlib.Omega.{arith}
-use borrow.Author.Needs.{needs}
-use Rattle.cells.specs.declared.Table.the-variants as Tables
-use Rattle.reader.specs.declared.Answer.{Answer as Reading}
-use Rattle.reader.specs.declared.Answer.the-variants as Readings
-use Rattle.reader.specs.Rules.{readingOf}
-use Rattle.reader.proofs.AnswerLaws.{planning-few}
-use Rattle.calls.specs.declared.Answer.the-variants.{TooLong, Syntax, Form, Field, Owner}
-use Rattle.opening.proofs.StageLaws.{planning-refused, planning-taken}
 use Rattle.opening.proofs.open.Statement.{statement}
 use Rattle.opening.proofs.open.Tie as tie
 
-slice-aggregate-read-planning : tie.Need-slice-aggregate-read-planning
-slice-aggregate-read-planning c = search needs
-
-read-planning-requires : tie.Need-read-planning-requires
-read-planning-requires c κs = search needs
-
--- ---- once it is read
-
-abbrev st : tie.After-passes2 → tie.Start
-st v = v .before .before .before .before .before .before .before
-
--- how it reads
-reads : (v : tie.After-passes2) (x : Reading) → v .before .read-planning .result ≡ x → readingOf Tables.Planning [] 0 (st v .args .planning .now) ≡ x
-reads v x e = sym (v .before .read-planning .ensures .0) ∙ e
-
-enum-told : tie.Need-enum-told
-enum-told c = search needs
-
-refused-requires : tie.Need-refused-requires
-refused-requires c κs = search needs
-
-enum-known-i : tie.Need-enum-known-i
-enum-known-i c = search needs
-
-refused-requires-2 : tie.Need-refused-requires-2
-refused-requires-2 c κs = search needs
-
-enum-known-l : tie.Need-enum-known-l
-enum-known-l c = search needs
-
-refused-requires-3 : tie.Need-refused-requires-3
-refused-requires-3 c κs = search needs
-
-enum-known-l-2 : tie.Need-enum-known-l-2
-enum-known-l-2 c = search needs
-
-refused-requires-4 : tie.Need-refused-requires-4
-refused-requires-4 c κs = search needs
-
-enum-known-l-3 : tie.Need-enum-known-l-3
-enum-known-l-3 c = search needs
-
-refused-requires-5 : tie.Need-refused-requires-5
-refused-requires-5 c κs = search needs
-
-enum-known-np : tie.Need-enum-known-np
-enum-known-np c = search needs
-
-returns : tie.Need-returns
-returns c =
-    let v = c .before .before .before in
-    let a = st v .args in
-    planning-refused (a .planning .now) (a .calendar .now) (a .book .now) (a .table .now) (a .c) Readings.TooLong (TooLong 1) (reads v _ (c .before .enum-told .given .1)) refl refl (c .refused .result) (c .refused .ensures)
-
-returns-2 : tie.Need-returns-2
-returns-2 c =
-    let v = c .before .before .before .before in
-    let a = st v .args in
-    planning-refused (a .planning .now) (a .calendar .now) (a .book .now) (a .table .now) (a .c) (Readings.Syntax (c .before .before .i .given .0 .0)) (Syntax (c .before .before .i .given .0 .0) 1) (reads v _ (c .before .before .i .given .1)) refl refl (c .refused2 .result) (c .refused2 .ensures)
-
-returns-3 : tie.Need-returns-3
-returns-3 c =
-    let v = c .before .before .before .before in
-    let a = st v .args in
-    planning-refused (a .planning .now) (a .calendar .now) (a .book .now) (a .table .now) (a .c) (Readings.Form (c .before .before .l .given .0 .0)) (Form (c .before .before .l .given .0 .0) 1) (reads v _ (c .before .before .l .given .1)) refl refl (c .refused3 .result) (c .refused3 .ensures)
-
-returns-4 : tie.Need-returns-4
-returns-4 c =
-    let v = c .before .before .before .before in
-    let a = st v .args in
-    planning-refused (a .planning .now) (a .calendar .now) (a .book .now) (a .table .now) (a .c) (Readings.Field (c .before .before .l2 .given .0 .0) (c .before .before .l2 .given .0 .1 .0)) (Field (c .before .before .l2 .given .0 .0) (c .before .before .l2 .given .0 .1 .0) 1) (reads v _ (c .before .before .l2 .given .1)) refl refl (c .refused4 .result) (c .refused4 .ensures)
-
-returns-5 : tie.Need-returns-5
-returns-5 c =
-    let v = c .before .before .before .before in
-    let a = st v .args in
-    planning-refused (a .planning .now) (a .calendar .now) (a .book .now) (a .table .now) (a .c) (Readings.Owner (c .before .before .l3 .given .0 .0)) (Owner (c .before .before .l3 .given .0 .0)) (reads v _ (c .before .before .l3 .given .1)) refl refl (c .refused5 .result) (c .refused5 .ensures)
-
-slice-aggregate-read-and-join : tie.Need-slice-aggregate-read-and-join
-slice-aggregate-read-and-join c = search needs
-
--- all rows have room
-fits : (n : tie.After-np) → n .np .given .0 .0 * 65 ≤ 425945
-fits n =
-    let v = n .before .before in
-    let f = planning-few (st v .args .planning .now) _ (reads v _ (n .np .given .1)) .1 in
-    omega arith
-
-read-and-join-requires : tie.Need-read-and-join-requires
-read-and-join-requires c κs =
-    let n = c .before .before .before .before in
-    let v = n .before .before in
-    let l = v .before .read-planning .kept .1 .0 in
-    let f = fits n in
-    omega arith
+open-by-requires : tie.Need-open-by-requires
+open-by-requires c κs = tt
 
 same-length : tie.Need-same-length
-same-length c = search needs
+same-length c = c .before .before .before .before .open-by .kept .1 .1 .1 .1 .1 .0
 
 same-length-2 : tie.Need-same-length-2
-same-length-2 c = search needs
+same-length-2 c = c .before .before .before .before .open-by .kept .1 .1 .1 .1 .1 .1 .0
 
-returns-6 : tie.Need-returns-6
-returns-6 c =
-    let w = c .before .before .before .before in
-    let n = w .before .before .before .before .before in
-    let v = n .before .before in
-    let a = st v .args in
-    planning-taken (a .planning .now) (a .calendar .now) (a .book .now) (a .table .now) (a .c) (w .read-and-join .result) (w .read-and-join .last .1 .1 .1 .0) (w .read-and-join .last .1 .1 .1 .1 .0) _ (v .before .read-planning .last .1 .0) (n .np .given .0 .0) (reads v _ (n .np .given .1)) (v .before .read-planning .ensures .1) (fits n) (w .read-and-join .ensures)
+returns : tie.Need-returns
+returns c = c .before .before .before .before .open-by .ensures
 
 pub open-spec : {M : Type 1} → statement M
-open-spec =
-    tie.close
-    (tie.spec
-    slice-aggregate-read-planning
-    read-planning-requires
-    enum-told
-    refused-requires
-    enum-known-i
-    refused-requires-2
-    enum-known-l
-    refused-requires-3
-    enum-known-l-2
-    refused-requires-4
-    enum-known-l-3
-    refused-requires-5
-    enum-known-np
-    slice-aggregate-read-and-join
-    read-and-join-requires
-    returns
-    returns-2
-    returns-3
-    returns-4
-    returns-5
-    same-length
-    same-length-2
-    returns-6)
+open-spec = tie.close (tie.spec open-by-requires same-length same-length-2 returns)

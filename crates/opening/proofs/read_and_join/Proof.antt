@@ -3,6 +3,7 @@ use mathlib.Core.List.{List, []}
 use Prim.Native.Nat.{ℕ, _*_, _≤_}
 use native.Mathlib.Omega.{arith}
 use borrow.Author.Needs.{needs}
+use lib.ListN.{length}
 use Rattle.lists.specs.Rows.{rowsOf}
 use Rattle.cells.specs.declared.Table.the-variants as Tables
 use Rattle.reader.specs.declared.Answer.{Answer as Reading}
@@ -10,24 +11,21 @@ use Rattle.reader.specs.declared.Answer.the-variants as Readings
 use Rattle.reader.specs.Rules.{readingOf}
 use Rattle.reader.proofs.AnswerLaws.{calendar-few}
 use Rattle.calls.specs.declared.Answer.the-variants.{TooLong, Syntax, Form, Field, Owner}
-use Rattle.opening.proofs.StageLaws.{calendar-refused, calendar-taken}
+use Rattle.opening.proofs.StageLaws.{room-for, calendar-refused, calendar-taken}
 use Rattle.opening.proofs.read_and_join.Statement.{statement}
 use Rattle.opening.proofs.read_and_join.Tie as tie
 
-slice-aggregate-read-calendar : tie.Need-slice-aggregate-read-calendar
-slice-aggregate-read-calendar c = search needs
-
 read-calendar-requires : tie.Need-read-calendar-requires
-read-calendar-requires c κs = search needs
+read-calendar-requires c κs = tt
 
 -- ---- once it is read
 
-abbrev st : tie.After-validities2 → tie.Start
-st v = v .before .before .before .before .before .before .before
+abbrev st : tie.After-read-calendar → tie.Start
+st v = v .before .before .before .before .before .before
 
 -- how it reads
-reads : (v : tie.After-validities2) (x : Reading) → v .before .read-calendar .result ≡ x → readingOf Tables.Calendar [] 0 (st v .args .calendar .now) ≡ x
-reads v x e = sym (v .before .read-calendar .ensures .0) ∙ e
+reads : (v : tie.After-read-calendar) (x : Reading) → v .read-calendar .result ≡ x → readingOf Tables.Calendar [] 0 (st v .args .calendar .now) ≡ x
+reads v x e = sym (v .read-calendar .ensures .0) ∙ e
 
 -- the pass times
 abbrev ps : tie.Start → List (List ℕ)
@@ -37,31 +35,31 @@ enum-told : tie.Need-enum-told
 enum-told c = search needs
 
 refused-requires : tie.Need-refused-requires
-refused-requires c κs = search needs
+refused-requires c κs = tt
 
 enum-known-i : tie.Need-enum-known-i
 enum-known-i c = search needs
 
 refused-requires-2 : tie.Need-refused-requires-2
-refused-requires-2 c κs = search needs
+refused-requires-2 c κs = tt
 
 enum-known-l : tie.Need-enum-known-l
 enum-known-l c = search needs
 
 refused-requires-3 : tie.Need-refused-requires-3
-refused-requires-3 c κs = search needs
+refused-requires-3 c κs = tt
 
 enum-known-l-2 : tie.Need-enum-known-l-2
 enum-known-l-2 c = search needs
 
 refused-requires-4 : tie.Need-refused-requires-4
-refused-requires-4 c κs = search needs
+refused-requires-4 c κs = tt
 
 enum-known-l-3 : tie.Need-enum-known-l-3
 enum-known-l-3 c = search needs
 
 refused-requires-5 : tie.Need-refused-requires-5
-refused-requires-5 c κs = search needs
+refused-requires-5 c κs = tt
 
 enum-known-nv : tie.Need-enum-known-nv
 enum-known-nv c = search needs
@@ -96,8 +94,12 @@ returns-5 c =
     let a = st v .args in
     calendar-refused (a .calendar .now) (ps (st v)) (a .book .now) (a .table .now) (a .c) (Readings.Owner (c .before .before .l3 .given .0 .0)) (Owner (c .before .before .l3 .given .0 .0)) (reads v _ (c .before .before .l3 .given .1)) refl refl (c .refused5 .result) (c .refused5 .ensures)
 
-slice-aggregate-join-all : tie.Need-slice-aggregate-join-all
-slice-aggregate-join-all c = search needs
+-- the area's length, before and after
+long : (v : tie.After-read-calendar) → length (st v .args .validities .now) ≡ 131064
+long v = let l = v .before .read-calendar-arg .given in omega arith
+
+read-long : (v : tie.After-read-calendar) → length (v .read-calendar .last .1 .0) ≡ 131064
+read-long v = v .read-calendar .kept .1 .0 ∙ long v
 
 -- all rows have room
 fits : (n : tie.After-nv) → n .nv .given .0 .0 * 24 ≤ 131064
@@ -108,11 +110,9 @@ fits n =
 
 join-all-requires : tie.Need-join-all-requires
 join-all-requires c κs =
-    let n = c .before .before .before .before in
+    let n = c .before .before .before .before .before .before in
     let v = n .before .before in
-    let l = v .before .read-calendar .kept .1 .0 in
-    let f = fits n in
-    (st v .pre, omega arith)
+    (st v .pre, room-for _ 131064 (v .read-calendar .last .1 .0) (read-long v) (fits n))
 
 same-length : tie.Need-same-length
 same-length c = search needs
@@ -123,16 +123,15 @@ same-length-2 c = search needs
 returns-6 : tie.Need-returns-6
 returns-6 c =
     let w = c .before .before .before .before in
-    let n = w .before .before .before .before .before in
+    let n = w .before .before .before .before .before .before .before in
     let v = n .before .before in
     let a = st v .args in
-    calendar-taken (a .calendar .now) (ps (st v)) (a .book .now) (a .table .now) (a .c) (w .join-all .result) (w .join-all .last .1 .1 .1 .1 .0) (w .join-all .last .1 .1 .1 .1 .1 .0) _ (v .before .read-calendar .last .1 .0) (n .nv .given .0 .0) (reads v _ (n .nv .given .1)) (v .before .read-calendar .ensures .1) (fits n) (w .join-all .ensures)
+    calendar-taken (a .calendar .now) (ps (st v)) (a .book .now) (a .table .now) (a .c) (w .join-all .result) (w .join-all .last .1 .1 .1 .1 .1 .0) (w .join-all .last .1 .1 .1 .1 .1 .1 .0) (a .validities .now) (v .read-calendar .last .1 .0) (n .nv .given .0 .0) (reads v _ (n .nv .given .1)) (v .read-calendar .ensures .1) (room-for _ 131064 (a .validities .now) (long v) (fits n)) (w .join-all .ensures)
 
 pub read-and-join-spec : {M : Type 1} → statement M
 read-and-join-spec =
     tie.close
     (tie.spec
-    slice-aggregate-read-calendar
     read-calendar-requires
     enum-told
     refused-requires
@@ -145,7 +144,6 @@ read-and-join-spec =
     enum-known-l-3
     refused-requires-5
     enum-known-nv
-    slice-aggregate-join-all
     join-all-requires
     returns
     returns-2

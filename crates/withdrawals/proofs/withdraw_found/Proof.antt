@@ -4,7 +4,8 @@ use borrow.Author.Tests.{eq-eqb, ne-eqb}
 use borrow.Author.Needs.{needs}
 use Rattle.book.proofs.SoundLaws.{sound-facts, used-within}
 use Rattle.calls.specs.declared.Answer.the-variants.{AlreadyWithdrawn, OtherSender}
-use Rattle.withdrawals.proofs.AnswerLaws.{sound-parts, refused-all, other-sender, already, goes-on}
+use Rattle.reworks.proofs.RoomLaws.{sound-parts}
+use Rattle.withdrawals.proofs.AnswerLaws.{refused-all, other-sender, already, goes-on}
 use Rattle.withdrawals.proofs.withdraw_found.Statement.{statement}
 use Rattle.withdrawals.proofs.withdraw_found.Tie as tie
 
@@ -40,8 +41,8 @@ returns c =
     (already (a .number) (a .sender) (a .book .now) (a .table .now) (a .c) (start .pre .0) (a .at) (a .m) (start .pre .1) (c .before .before .if1 .taken) (eq-eqb _ _ (c .before .if2 .taken)))
     refl (c .refused .ensures)
 
-rework-requires : tie.Need-rework-requires
-rework-requires c κs = search needs
+rework-few-requires : tie.Need-rework-few-requires
+rework-few-requires c κs = search needs
 
 same-length : tie.Need-same-length
 same-length c = search needs
@@ -51,15 +52,30 @@ same-length-2 c = search needs
 
 returns-2 : tie.Need-returns-2
 returns-2 c =
-    let start = c .before .before .before .before .before .before .before .before .before .before .before .before .before in
+    let start = c .before .before .before .before .before .before .before .before .before .before .before .before .before .before in
     let a = start .args in
-    goes-on (a .number) (a .sender) (a .book .now) (a .table .now) (a .c) (start .pre .0) (a .at) (a .m) (start .pre .1) (c .before .before .before .before .before .before .before .before .if1 .taken) (ne-eqb _ _ (c .before .before .before .before .before .before .before .if2 .left)) _ _ _ (c .before .before .before .before .rework .ensures)
+    goes-on (a .number) (a .sender) (a .book .now) (a .table .now) (a .c) (start .pre .0) (a .at) (a .m) (start .pre .1) (c .before .before .before .before .before .before .before .before .before .if1 .taken) (ne-eqb _ _ (c .before .before .before .before .before .before .before .before .if2 .left)) _ _ _ (c .before .before .before .before .rework-few .ensures)
+
+rework-many-requires : tie.Need-rework-many-requires
+rework-many-requires c κs = search needs
+
+same-length-3 : tie.Need-same-length-3
+same-length-3 c = search needs
+
+same-length-4 : tie.Need-same-length-4
+same-length-4 c = search needs
+
+returns-3 : tie.Need-returns-3
+returns-3 c =
+    let start = c .before .before .before .before .before .before .before .before .before .before .before .before .before .before in
+    let a = start .args in
+    goes-on (a .number) (a .sender) (a .book .now) (a .table .now) (a .c) (start .pre .0) (a .at) (a .m) (start .pre .1) (c .before .before .before .before .before .before .before .before .before .if1 .taken) (ne-eqb _ _ (c .before .before .before .before .before .before .before .before .if2 .left)) _ _ _ (c .before .before .before .before .rework-many .ensures)
 
 refused-requires-2 : tie.Need-refused-requires-2
 refused-requires-2 c κs = search needs
 
-returns-3 : tie.Need-returns-3
-returns-3 c =
+returns-4 : tie.Need-returns-4
+returns-4 c =
     let start = c .before .before .before .before .before .before in
     let a = start .args in
     refused-all (a .number) (a .sender) (a .book .now) (a .table .now) (a .c) OtherSender _
@@ -75,9 +91,13 @@ withdraw-found-spec =
     slice-read-kind
     refused-requires
     returns
-    rework-requires
+    rework-few-requires
     same-length
     same-length-2
     returns-2
+    rework-many-requires
+    same-length-3
+    same-length-4
+    returns-3
     refused-requires-2
-    returns-3)
+    returns-4)

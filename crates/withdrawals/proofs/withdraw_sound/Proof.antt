@@ -7,8 +7,9 @@ use Rattle.book.specs.Entries.{plan-wide, entry-wide}
 use Rattle.book.proofs.SoundLaws.{sound-facts, used-within}
 use Rattle.book.proofs.HeldLaws.{missing-message}
 use Rattle.calls.specs.declared.Answer.the-variants.{NoMessage}
-use Rattle.withdrawals.specs.Steps.{Stands}
-use Rattle.withdrawals.proofs.AnswerLaws.{sound-parts, refused-all, not-there}
+use Rattle.reworks.specs.Steps.{Stands}
+use Rattle.reworks.proofs.RoomLaws.{sound-parts}
+use Rattle.withdrawals.proofs.AnswerLaws.{refused-all, not-there}
 use Rattle.withdrawals.proofs.StandsLaws.{stands}
 use Rattle.withdrawals.proofs.withdraw_sound.Statement.{statement}
 use Rattle.withdrawals.proofs.withdraw_sound.Tie as tie

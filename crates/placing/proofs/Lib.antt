@@ -1,0 +1,4 @@
+pub mod WriteLaws
+pub mod SortLaws
+pub mod StageLaws
+pub mod Determined
