@@ -1,7 +1,7 @@
 -- The ranges of a key, a body and a row that stand from `at` on in a longer list, field by field. Assumes nothing.
 use mathlib.Core.Path.{_≡_, _∙_, refl, sym}
-use mathlib.Core.Bool.{_&&_, _||_}
-use mathlib.Core.List.{List}
+use mathlib.Core.Bool.{Bool, _&&_, _||_}
+use mathlib.Core.List.{List, [], _∷_}
 use Prim.Native.Nat.{ℕ, _+_, _≤_}
 use native.Mathlib.Nat.{add-zero}
 use native.Mathlib.Omega.{arith}
@@ -13,8 +13,10 @@ use Rattle.lists.specs.BigEndian.{number}
 use Rattle.lists.proofs.PartLaws.{part-part, part-at}
 use Rattle.clock.specs.Date.{isDate}
 use Rattle.fields.specs.Stamps.{inStampRange}
-use Rattle.passage.specs.Layout.{text-wide, date-wide, journey-wide, order-wide, stamp-wide, time-wide, owner-at, date-at, line-at, journey-at, fortify-at, stop-at, order-at, key-wide, destination-at, stamp-at, status-at, arrival-at, departure-at, stop-type-at, show-cancelled-at, flexible-at, monitored-at, body-wide, heard-at, row-wide, kept, keyOf, bodyOf}
+use Rattle.passage.specs.Layout.{text-wide, date-wide, journey-wide, order-wide, stamp-wide, time-wide, owner-at, date-at, line-at, journey-at, fortify-at, stop-at, order-at, key-wide, destination-at, stamp-at, status-at, arrival-at, departure-at, stop-type-at, show-cancelled-at, flexible-at, monitored-at, body-wide, heard-at, row-wide, kept, keyOf, ownerOf, dateOf, lineOf, journeyOf, fortifyOf, stopOf, orderOf, destinationOf, arrivalOf, departureOf, stopTypeOf, bodyOf}
 use Rattle.passage.specs.Ranges.{paddedText, keyInRange, timesInRange, commonInRange, isBit, updateInRange, planInRange, heardInRange, rowInRange}
+use Rattle.passage.specs.Roles.{textsPadded}
+use Rattle.passage.proofs.TestLaws.{all-pass, tests-equal}
 
 -- of n bytes from `at` on, the first 41 are the key and the first 66 the body, whatever stands behind them
 module _ (at n : ℕ) (s : List ℕ) where
@@ -62,7 +64,57 @@ pub common-of : (r : List ℕ) → commonInRange (bodyOf r) ≡ commonInRange r
 unfolding commonInRange
 common-of r = common-at 0 body-wide r (omega arith)
 
+-- the texts first, as one loop tests them
+texts-first :
+    (owner date line journey fortify stop order destination times : Bool)
+    → owner && date && line && journey && fortify && stop && order && destination && times
+    ≡ owner && line && stop && destination && date && journey && fortify && order && times
+texts-first owner date line journey fortify stop order destination times =
+    tests-equal _ _
+    (λ e. let p = all-pass owner (date ∷ line ∷ journey ∷ fortify ∷ stop ∷ order ∷ destination ∷ times ∷ []) e in rw (p 0, p 1, p 2, p 3, p 4, p 5, p 6, p 7, p 8))
+    (λ e. let p = all-pass owner (line ∷ stop ∷ destination ∷ date ∷ journey ∷ fortify ∷ order ∷ times ∷ []) e in rw (p 0, p 1, p 2, p 3, p 4, p 5, p 6, p 7, p 8))
+
+pub common-texts : (b : List ℕ) → commonInRange b ≡
+    (textsPadded b
+    && isDate (dateOf b)
+    && ltb (journeyOf b) 1000000
+    && ltb (fortifyOf b) 100
+    && ltb (orderOf b) 1000
+    && timesInRange (stopTypeOf b) (arrivalOf b) (departureOf b))
+unfolding commonInRange keyInRange textsPadded
+common-texts b =
+    rw (key-of b)
+    (texts-first
+    (paddedText (ownerOf b))
+    (isDate (dateOf b))
+    (paddedText (lineOf b))
+    (ltb (journeyOf b) 1000000)
+    (ltb (fortifyOf b) 100)
+    (paddedText (stopOf b))
+    (ltb (orderOf b) 1000)
+    (paddedText (destinationOf b))
+    (timesInRange (stopTypeOf b) (arrivalOf b) (departureOf b)))
+
 module _ (at : ℕ) (s : List ℕ) where
+  pub body-at : commonInRange (part at body-wide s) ≡
+      (textsPadded (part at body-wide s)
+      && isDate (number (part (at + date-at) date-wide s))
+      && ltb (number (part (at + journey-at) journey-wide s)) 1000000
+      && ltb (getD s (at + fortify-at) 0) 100
+      && ltb (number (part (at + order-at) order-wide s)) 1000
+      && timesInRange (getD s (at + stop-type-at) 0) (number (part (at + arrival-at) time-wide s)) (number (part (at + departure-at) time-wide s)))
+  body-at =
+      rw (
+        ← part-part date-at date-wide at body-wide s (omega arith),
+        ← part-part journey-at journey-wide at body-wide s (omega arith),
+        ← part-at at body-wide s fortify-at (omega arith),
+        ← part-part order-at order-wide at body-wide s (omega arith),
+        ← part-at at body-wide s stop-type-at (omega arith),
+        ← part-part arrival-at time-wide at body-wide s (omega arith),
+        ← part-part departure-at time-wide at body-wide s (omega arith),
+      )
+      (common-texts (part at body-wide s))
+
   pub update-at : updateInRange (part at body-wide s) ≡
       (commonInRange (part at body-wide s)
       && inStampRange (number (part (at + stamp-at) stamp-wide s))

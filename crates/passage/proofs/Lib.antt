@@ -1,5 +1,6 @@
 pub mod TestLaws
 pub mod PaddedLaws
+pub mod RoleLaws
 pub mod FieldLaws
 pub mod RangeLaws
 pub mod PlanLaws

@@ -1,91 +1,22 @@
--- Padded texts: tested by neighbouring bytes, and the same as the texts that fields keep. Assumes nothing.
-use mathlib.Core.Path.{_≡_, _∙_, refl, sym, ap}
-use mathlib.Core.Bool.{Bool, true, false, not, _&&_}
+-- Padded texts: the same as the texts that fields keep. Assumes nothing.
+use mathlib.Core.Path.{_≡_, _∙_, refl, ap}
+use mathlib.Core.Bool.{Bool, true, false}
 use mathlib.Core.List.{List, [], _∷_, _++_}
-use Prim.Native.Nat.{ℕ, zero, suc, _+_, _-_, _≤_, _<_}
-use native.Mathlib.Nat.{add-zero}
+use Prim.Native.Nat.{ℕ, zero, suc, _+_, _-_, _≤_}
 use native.Mathlib.Omega.{arith}
-use borrow.Author.Tests.{eq-eqb, ne-eqb, eqb-true}
+use borrow.Author.Tests.{eq-eqb, eqb-true}
 use lib.Dec.{eqb}
 use lib.ListN.{length, getD, replicate, length-append, length-replicate}
 use Rattle.lists.specs.Logic.{on, within}
-use Rattle.lists.specs.Part.{part}
 use Rattle.lists.proofs.LogicLaws.{both-true, within-true}
-use Rattle.lists.proofs.PartLaws.{length-part, part-at, part-step, part-done}
 use Rattle.fields.specs.Texts.{allText, padded, isText}
 use Rattle.fields.proofs.KeptLaws.{is-text, text-is, padded-length}
 use Rattle.passage.specs.Layout.{text-wide}
-use Rattle.passage.specs.Ranges.{allZero, textThenZeros, paddedText, mayFollow}
-use Rattle.passage.proofs.TestLaws.{and-assoc, and-last, all-pass}
-
--- each byte may follow the one before
-unfoldable pub follow : ℕ → List ℕ → Bool
-follow before [] = true
-follow before (x ∷ l) = mayFollow before x && follow x l
+use Rattle.passage.specs.Ranges.{allZero, textThenZeros, paddedText}
+use Rattle.passage.proofs.TestLaws.{all-pass}
 
 never-zero : (x : ℕ) → within 32 126 x ≡ true → x ≡ 0 → ⊥
 never-zero x h e = omega (arith, within-true 32 126 x h)
-
-follow-zero : (l : List ℕ) → follow 0 l ≡ allZero l
-unfolding follow
-follow-zero [] = refl
-follow-zero (x ∷ l) = go (eqb x 0) refl (follow-zero l)
-  where
-    go : (t : Bool) → eqb x 0 ≡ t → follow 0 l ≡ allZero l → follow 0 (x ∷ l) ≡ t && allZero l
-    go true e r = rw (e, eqb-true x 0 e) r
-    go false e r = rw e
-
-follow-text : (before : ℕ) (l : List ℕ) → (before ≡ 0 → ⊥) → follow before l ≡ textThenZeros l
-unfolding follow
-follow-text before [] h = refl
-follow-text before (x ∷ l) h = go (within 32 126 x) (eqb x 0) refl refl (follow-text x l)
-  where
-    go :
-        (t z : Bool) → within 32 126 x ≡ t → eqb x 0 ≡ z → ((x ≡ 0 → ⊥) → follow x l ≡ textThenZeros l)
-        → follow before (x ∷ l) ≡ on t (textThenZeros l) (z && allZero l)
-    go true z e f r = rw (ne-eqb x 0 (never-zero x e), ne-eqb before 0 h, e) (r (never-zero x e))
-    go false true e f r = rw (f, eqb-true x 0 f) (follow-zero l)
-    go false false e f r = rw (f, ne-eqb before 0 h, e)
-
--- ten bytes, tested one by one
-first-text : (x : ℕ) (l : List ℕ) → within 32 126 x && textThenZeros (x ∷ l) ≡ not (eqb x 0) && textThenZeros (x ∷ l)
-first-text x l = go (within 32 126 x) (eqb x 0) refl refl
-  where
-    go :
-        (t z : Bool) → within 32 126 x ≡ t → eqb x 0 ≡ z
-        → t && on t (textThenZeros l) (z && allZero l) ≡ not z && on t (textThenZeros l) (z && allZero l)
-    go true true e f = absurd (never-zero x e (eqb-true x 0 f))
-    go true false e f = refl
-    go false true e f = refl
-    go false false e f = refl
-
-pub padded-is : (l : List ℕ) → length l ≡ text-wide → not (eqb (getD l 0 0) 0) && follow 1 l ≡ paddedText l
-unfolding paddedText
-padded-is [] e = absurd (omega arith)
-padded-is (x ∷ l) e = rw (follow-text 1 (x ∷ l) (λ z. omega arith), e) (sym (first-text x l))
-
--- ---- a reader of a padded text: what is tested so far, and what is left
-
-module _ (s : List ℕ) (at : ℕ) (fits : at + text-wide ≤ length s) where
-  pub text-start : not (eqb (getD s at 0) 0) && follow 1 (part (at + 0) (text-wide - 0) s) ≡ paddedText (part at text-wide s)
-  text-start =
-      let e : getD (part at text-wide s) 0 0 ≡ getD s at 0 = part-at at text-wide s 0 (omega arith) ∙ rw add-zero in
-      rw (add-zero, ← e) (padded-is (part at text-wide s) (length-part at text-wide s fits))
-
-  pub text-turn :
-      (ok : Bool) (before i : ℕ) → i < text-wide
-      → let b = getD s (at + i) 0 in
-      ok && mayFollow before b && follow b (part (at + (i + 1)) (text-wide - (i + 1)) s) ≡ ok && follow before (part (at + i) (text-wide - i) s)
-  unfolding follow
-  text-turn ok before i h =
-      let k : at + i < length s = omega arith in
-      rw (part-step s at text-wide i k h) (and-assoc ok _ _)
-
-  pub text-end : (ok : Bool) (before i : ℕ) → text-wide ≤ i → ok && follow before (part (at + i) (text-wide - i) s) ≡ ok
-  unfolding follow
-  text-end ok before i h = rw (part-done s (at + i) text-wide i h) (and-last ok)
-
--- ---- a padded text is a text that fields keep, padded
 
 -- bytes of 32 to 126, then zero bytes
 record Split (l : List ℕ) : Type 0 where

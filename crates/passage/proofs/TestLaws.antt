@@ -1,5 +1,5 @@
 -- Tests joined by `&&` and `||`. Assumes nothing.
-use mathlib.Core.Path.{_≡_, refl}
+use mathlib.Core.Path.{_≡_, refl, sym}
 use mathlib.Core.Bool.{Bool, true, false, _&&_, _||_}
 use mathlib.Core.List.{List, [], _∷_}
 use Prim.Native.Nat.{ℕ, zero, suc}
@@ -14,6 +14,16 @@ and-assoc false b c = refl
 pub and-last : (a : Bool) → a && true ≡ a
 and-last true = refl
 and-last false = refl
+
+pub and-none : (a : Bool) → a && false ≡ false
+and-none true = refl
+and-none false = refl
+
+-- two tests are one where each passes with the other
+pub tests-equal : (a b : Bool) → (a ≡ true → b ≡ true) → (b ≡ true → a ≡ true) → a ≡ b
+tests-equal true b f g = sym (f refl)
+tests-equal false true f g = g refl
+tests-equal false false f g = refl
 
 pub or-assoc : (a b c : Bool) → a || b || c ≡ a || (b || c)
 or-assoc true b c = refl

@@ -1,5 +1,6 @@
 pub mod Layout
 pub mod Ranges
+pub mod Roles
 pub mod Facts
 pub mod Register
 pub mod Claims

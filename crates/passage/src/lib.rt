@@ -1,12 +1,13 @@
 // How a passage lies in bytes, the ranges of its fields, and the register of senders and owners.
 ghost use mathlib.Core.Path.{_≡_};
-ghost use Prim.Native.Nat.{_+_, _≤_};
-ghost use lib.ListN.{length};
+ghost use Prim.Native.Nat.{_+_, _≤_, _<_};
+ghost use lib.ListN.{length, getD};
 ghost use mathlib.Core.List.{_∷_};
 ghost use Rattle.lists.specs.Text.{same};
 ghost use Rattle.lists.specs.Part.{part};
-ghost use Rattle.passage.specs.Layout.{text-wide, key-wide, body-wide, row-wide};
-ghost use Rattle.passage.specs.Ranges.{mayFollow, paddedText, keyInRange, timesInRange, commonInRange, updateInRange, planInRange, heardInRange, rowInRange};
+ghost use Rattle.passage.specs.Layout.{text-wide, stamp-at, body-wide, row-wide};
+ghost use Rattle.passage.specs.Roles.{roleIn, roles, breaksText, textsPadded};
+ghost use Rattle.passage.specs.Ranges.{timesInRange, commonInRange, updateInRange, planInRange, heardInRange, rowInRange};
 ghost use Rattle.passage.specs.Register.{pair-wide, grants, registerSound};
 
 // Widths of fields.
@@ -74,45 +75,45 @@ pub const MISSING: u32 = 16777215;
 // An absent optional of an update: the held content stays.
 pub const KEPT: u8 = 255;
 
-// Whether `b` may stand in a padded text after the byte `before`.
-fn may_follow(before: u8, b: u8) -> bool
-    ensures { λ r. ⌜ r ≡ mayFollow before b ⌝ }
+// What the byte `i` is to the text from `from` on: 0 not in it, 1 its first byte, 2 one between, 3 its last.
+fn role_in(i: usize, from: usize) -> u8
+    requires { ⌜ (i < body-wide) × (from < body-wide) ⌝ }
+    ensures is { λ r. ⌜ r ≡ roleIn from i ⌝ }
+    ensures few { λ r. ⌜ r ≤ 3 ⌝ }
 {
-    (b == 0) | (before != 0) & ((32 <= b) & (b <= 126))
+    let inside = (from <= i) & (i < from + TEXT_WIDE);
+    inside as u8 + (inside & (i != from)) as u8 + (i + 1 == from + TEXT_WIDE) as u8
 }
 
-// Whether ten bytes from `at` on are a padded text.
-fn text_at(s: &[u8], at: usize) -> bool
-    requires { ⌜ at + text-wide ≤ length (now s) ⌝ }
-    ensures { λ r. ⌜ r ≡ paddedText (part at text-wide (now (s .entry))) ⌝ }
+// What the byte `i` of a body is to its text. Reckoned and not looked up: a constant table is laid out anew wherever it is read.
+fn role(i: usize) -> u8
+    requires { ⌜ i < stamp-at ⌝ }
+    ensures { λ r. ⌜ r ≡ getD roles i 0 ⌝ }
 {
-    let mut ok = s[at] != 0;
-    let mut before: u8 = 1;
+    role_in(i, OWNER_AT) + role_in(i, LINE_AT) + role_in(i, STOP_AT) + role_in(i, DESTINATION_AT)
+}
+
+// Whether the byte `b` breaks its text: what is not of 32 to 126 is zero, never first, and has zero behind it.
+fn breaks(role: u8, b: u8, next: u8) -> bool
+    ensures { λ r. ⌜ r ≡ breaksText role b next ⌝ }
+{
+    !((32 <= b) & (b <= 126)) & ((role == 1) | (role != 0) & (b != 0) | (role == 2) & (next != 0))
+}
+
+// Whether the four texts of the body from `at` on are padded texts. No branch in the loop, and a count that fits a byte: it becomes vector instructions.
+fn texts_at(s: &[u8], at: usize) -> bool
+    requires { ⌜ at + body-wide ≤ length (now s) ⌝ }
+    ensures { λ r. ⌜ r ≡ textsPadded (part at body-wide (now (s .entry))) ⌝ }
+{
+    let mut bad: u8 = 0;
     let mut i = 0;
-    while i < TEXT_WIDE {
+    while i < STAMP_AT {
         let b = s[at + i];
-        ok = ok & may_follow(before, b);
-        before = b;
+        let next = s[at + i + 1];
+        bad += breaks(role(i), b, next) as u8;
         i += 1;
     }
-    ok
-}
-
-// Whether a key from `at` on is in range.
-fn key_at(s: &[u8], at: usize) -> bool
-    requires { ⌜ at + key-wide ≤ length (now s) ⌝ }
-    ensures { λ r. ⌜ r ≡ keyInRange (part at key-wide (now (s .entry))) ⌝ }
-{
-    let date = lists::get_number(s, at + DATE_AT, DATE_WIDE);
-    let journey = lists::get_number(s, at + JOURNEY_AT, JOURNEY_WIDE);
-    let order = lists::get_number(s, at + ORDER_AT, ORDER_WIDE);
-    text_at(s, at + OWNER_AT)
-        & clock::is_date(date)
-        & text_at(s, at + LINE_AT)
-        & (journey < 1000000)
-        & (s[at + FORTIFY_AT] < 100)
-        & text_at(s, at + STOP_AT)
-        & (order < 1000)
+    bad == 0
 }
 
 // Whether stop type and times are in range: an arrival may be missing at FIRST, a departure at LAST.
@@ -129,10 +130,16 @@ fn common_at(s: &[u8], at: usize) -> bool
     requires { ⌜ at + body-wide ≤ length (now s) ⌝ }
     ensures { λ r. ⌜ r ≡ commonInRange (part at body-wide (now (s .entry))) ⌝ }
 {
+    let date = lists::get_number(s, at + DATE_AT, DATE_WIDE);
+    let journey = lists::get_number(s, at + JOURNEY_AT, JOURNEY_WIDE);
+    let order = lists::get_number(s, at + ORDER_AT, ORDER_WIDE);
     let arrival = lists::get_number(s, at + ARRIVAL_AT, TIME_WIDE);
     let departure = lists::get_number(s, at + DEPARTURE_AT, TIME_WIDE);
-    key_at(s, at)
-        & text_at(s, at + DESTINATION_AT)
+    texts_at(s, at)
+        & clock::is_date(date)
+        & (journey < 1000000)
+        & (s[at + FORTIFY_AT] < 100)
+        & (order < 1000)
         & times_in_range(s[at + STOP_TYPE_AT], arrival, departure)
 }
 

@@ -1,8 +1,6 @@
 use mathlib.Core.Path.{sym}
-use native.Mathlib.Omega.{arith}
 use borrow.Author.Needs.{needs}
-use Rattle.passage.specs.Layout.{body-wide}
-use Rattle.passage.proofs.FieldLaws.{common-at}
+use Rattle.passage.proofs.FieldLaws.{body-at}
 use Rattle.passage.proofs.common_at.Statement.{statement}
 use Rattle.passage.proofs.common_at.Tie as tie
 
@@ -18,14 +16,35 @@ add-get-number-2 c = search needs
 get-number-requires-2 : tie.Need-get-number-requires-2
 get-number-requires-2 c κs = search needs
 
-key-at-requires : tie.Need-key-at-requires
-key-at-requires c κs = search needs
+add-get-number-3 : tie.Need-add-get-number-3
+add-get-number-3 c = search needs
 
-add-text-at : tie.Need-add-text-at
-add-text-at c = search needs
+get-number-requires-3 : tie.Need-get-number-requires-3
+get-number-requires-3 c κs = search needs
 
-text-at-requires : tie.Need-text-at-requires
-text-at-requires c κs = search needs
+add-get-number-4 : tie.Need-add-get-number-4
+add-get-number-4 c = search needs
+
+get-number-requires-4 : tie.Need-get-number-requires-4
+get-number-requires-4 c κs = search needs
+
+add-get-number-5 : tie.Need-add-get-number-5
+add-get-number-5 c = search needs
+
+get-number-requires-5 : tie.Need-get-number-requires-5
+get-number-requires-5 c κs = search needs
+
+texts-at-requires : tie.Need-texts-at-requires
+texts-at-requires c κs = search needs
+
+is-date-requires : tie.Need-is-date-requires
+is-date-requires c κs = search needs
+
+add-result : tie.Need-add-result
+add-result c = search needs
+
+shared-slice-read-result : tie.Need-shared-slice-read-result
+shared-slice-read-result c = search needs
 
 add-times-in-range : tie.Need-add-times-in-range
 add-times-in-range c = search needs
@@ -38,15 +57,20 @@ times-in-range-requires c κs = search needs
 
 returns : tie.Need-returns
 returns c =
-    let a = c .before .before .before .before .before .before .before .args in
+    let k = c .before .before .before in
+    let g = k .before .before in
+    let a = g .before .before .before .before .before .before .args in
     rw (
       c .times-in-range .ensures,
-      c .before .before .text-at .ensures,
-      c .before .before .before .key-at .ensures,
-      c .before .before .before .before .get-number2 .ensures,
-      c .before .before .before .before .before .get-number .ensures,
+      k .is-date .ensures,
+      k .before .texts-at .ensures,
+      g .get-number5 .ensures,
+      g .before .get-number4 .ensures,
+      g .before .before .get-number3 .ensures,
+      g .before .before .before .get-number2 .ensures,
+      g .before .before .before .before .get-number .ensures,
     )
-    (sym (common-at (a .at) body-wide (a .s .now) (omega arith)))
+    (sym (body-at (a .at) (a .s .now)))
 
 pub common-at-spec : {M : Type 1} → statement M
 common-at-spec =
@@ -56,9 +80,16 @@ common-at-spec =
     get-number-requires
     add-get-number-2
     get-number-requires-2
-    key-at-requires
-    add-text-at
-    text-at-requires
+    add-get-number-3
+    get-number-requires-3
+    add-get-number-4
+    get-number-requires-4
+    add-get-number-5
+    get-number-requires-5
+    texts-at-requires
+    is-date-requires
+    add-result
+    shared-slice-read-result
     add-times-in-range
     shared-slice-read-times-in-range
     times-in-range-requires
