@@ -65,18 +65,7 @@ fn plan_fits(b: &[u8], i: usize) -> bool
         return passage::plan_in_range(b, 1);
     }
     let p = i * PLAN_WIDE + 1;
-    let o = keys::compare_key(b, p - PLAN_WIDE, b, p);
-    match o {
-        Order::Less => {
-            return passage::plan_in_range(b, p);
-        }
-        Order::Same => {
-            return false;
-        }
-        Order::More => {
-            return false;
-        }
-    }
+    keys::is_below(b, p - PLAN_WIDE, b, p) & passage::plan_in_range(b, p)
 }
 
 // Whether the first n plan entries are in range, by key strictly rising.

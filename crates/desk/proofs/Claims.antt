@@ -13,7 +13,8 @@ use Rattle.calls.specs.Open.{openOutcome}
 use Rattle.calls.proofs.RefusalLaws.{acceptance-is-zero, refusals-give-back, numbers-listed}
 use Rattle.board.specs.declared.Answer.{Answer as Board}
 use Rattle.board.specs.declared.Answer.the-variants.{Listed, Unsound, OutOfRange}
-use Rattle.board.specs.Rules.{numbers as boardNumbers, asksInRange, byAnswer, boardAnswer, boardPlaces}
+use Rattle.shows.specs.Ask.{asksInRange}
+use Rattle.board.specs.Rules.{numbers as boardNumbers, byAnswer, boardAnswer, boardPlaces}
 use Rattle.table.specs.Rules.{tableSound}
 use Rattle.desk.specs.Answered.{counted, numberOf, answered, boardNumber, boardAnswered}
 use Rattle.desk.specs.Claims.{SixNumbers, GivesBack, OpenGivesBack, MessageGivesBack, WithdrawGivesBack, BoardGivesBack, NumbersListed, BoardNumbersListed, All}

@@ -1,12 +1,13 @@
 -- Keys compared a word at a time. Assumes nothing.
-use mathlib.Core.Path.{_≡_, refl, sym, _∙_}
-use mathlib.Core.Bool.{Bool, true, false}
+use mathlib.Core.Path.{_≡_, refl, sym, ap, _∙_}
+use mathlib.Core.Bool.{Bool, true, false, _&&_, _||_}
 use mathlib.Core.List.{List, [], _∷_, _++_}
 use Prim.Native.Nat.{ℕ, _+_, _-_, _^_, _≤_, _<_}
 use native.Mathlib.Nat.{add-zero, lt-of-lt-of-le, pow-le-pow-right}
+use mathlib.Core.Logic.{_⊎_, inl, inr}
 use native.Mathlib.Omega.{arith}
-use borrow.Author.Tests.{lt-ltb}
-use lib.Dec.{ltb}
+use borrow.Author.Tests.{lt-ltb, le-ltb, eq-eqb, ne-eqb}
+use lib.Dec.{eqb, ltb}
 use lib.ListN.{length, getD}
 use Rattle.lists.specs.Logic.{on}
 use Rattle.lists.specs.Each.{Bytes}
@@ -18,7 +19,8 @@ use Rattle.lists.proofs.BigEndianLaws.{number-below, number-same, precedes-numb
 use Rattle.keys.specs.declared.Order.{Order}
 use Rattle.keys.specs.declared.Order.the-variants.{Less, Same, More}
 use Rattle.keys.specs.Keys.{cmp, byByte}
-use Rattle.keys.proofs.KeyLaws.{byByte-eq, flipped}
+use Rattle.keys.specs.Sorted.{isLess}
+use Rattle.keys.proofs.KeyLaws.{tri, byByte-eq, flipped}
 
 -- up to seven bytes leave room for one more in 64 bits
 pub word-fits : (at i n : ℕ) (s : List ℕ) → n ≡ number (part at i s) → Bytes s → at + i ≤ length s → i ≤ 7 → n < 256 ^ 7
@@ -52,6 +54,11 @@ module _ (l m u v : List ℕ) (e : length l ≡ length m) (h : Bytes l) (k : Byt
 
   front-same : number l ≡ number m → cmp (l ++ u) (m ++ v) ≡ cmp u v
   front-same n = rw (number-same l m e h k n) (equal-front m u v)
+
+joined : (u e l s r : Bool) → u || e && l || e && s && r ≡ u || e && (l || s && r)
+joined true e l s r = refl
+joined false true l s r = refl
+joined false false l s r = refl
 
 -- ---- a turn of the loop: x and y are the words at i of two parts of n bytes
 
@@ -95,6 +102,19 @@ module _ (a b : List ℕ) (p q n i w : ℕ) (ha : p + n ≤ length a) (hb : q + 
       let e : number (front a p) ≡ number (front b q) = omega arith in
       rw (split a p, split b q) (front-same (front a p) (front b q) (rest a p) (rest b q) wide in-a in-b e)
 
+  -- whether the first is below, without a branch
+  word-decides : isLess (cmp (part (p + i) (n - i) a) (part (q + i) (n - i) b)) ≡ ltb x y || eqb x y && isLess (cmp (rest a p) (rest b q))
+  word-decides = go (tri x y)
+    where
+      go : (x < y) ⊎ ((x ≡ y) ⊎ (y < x)) → isLess (cmp (part (p + i) (n - i) a) (part (q + i) (n - i) b)) ≡ ltb x y || eqb x y && isLess (cmp (rest a p) (rest b q))
+      go (inl h) = ap isLess (word-less h) ∙ rw (lt-ltb x y h)
+      go (inr (inl h)) = ap isLess (word-same (omega arith) (omega arith)) ∙ rw (le-ltb x y (omega arith), eq-eqb x y h)
+      go (inr (inr h)) = ap isLess (word-more h) ∙ rw (le-ltb x y (omega arith), ne-eqb x y (λ e. omega arith))
+
+  pub below-turn : (below equal : Bool)
+      → below || equal && ltb x y || equal && eqb x y && isLess (cmp (rest a p) (rest b q)) ≡ below || equal && isLess (cmp (part (p + i) (n - i) a) (part (q + i) (n - i) b))
+  below-turn below equal = rw word-decides (joined below equal (ltb x y) (eqb x y) (isLess (cmp (rest a p) (rest b q))))
+
 -- ---- the last byte
 
 pub last-byte : (a b : List ℕ) (p q n i j : ℕ) → p + n ≤ length a → q + n ≤ length b → i ≡ j → j + 1 ≡ n
@@ -102,3 +122,15 @@ pub last-byte : (a b : List ℕ) (p q n i j : ℕ) → p + n ≤ length a → q 
 unfolding cmp
 last-byte a b p q n i j h k e f =
     rw (e, part-step a p n j (omega arith) (omega arith), part-step b q n j (omega arith) (omega arith), part-done a (p + (j + 1)) n (j + 1) (omega arith), part-done b (q + (j + 1)) n (j + 1) (omega arith))
+
+last-less : (x y : ℕ) → isLess (byByte x y Same) ≡ ltb x y
+last-less x y = go (ltb x y) (ltb y x)
+  where
+    go : (s t : Bool) → isLess (on s Less (on t More Same)) ≡ s
+    go true t = refl
+    go false true = refl
+    go false false = refl
+
+pub last-below : (a b : List ℕ) (p q n i j : ℕ) → p + n ≤ length a → q + n ≤ length b → i ≡ j → j + 1 ≡ n
+    → isLess (cmp (part (p + i) (n - i) a) (part (q + i) (n - i) b)) ≡ ltb (getD a (p + j) 0) (getD b (q + j) 0)
+last-below a b p q n i j h k e f = ap isLess (last-byte a b p q n i j h k e f) ∙ last-less (getD a (p + j) 0) (getD b (q + j) 0)

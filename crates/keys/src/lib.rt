@@ -7,6 +7,7 @@ ghost use Rattle.lists.specs.BigEndian.{number};
 ghost use Rattle.passage.specs.Layout.{key-wide};
 ghost use Rattle.keys.specs.Keys.{cmp, byByte};
 ghost use Rattle.keys.specs.declared.Order.the-variants.{Same};
+ghost use Rattle.keys.specs.Sorted.{isLess};
 
 pub enum Order {
     Less,
@@ -71,4 +72,22 @@ pub fn compare_key(a: &[u8], p: usize, b: &[u8], q: usize) -> Order
         i += 1;
     }
     compare_last(a[p + LAST], b[q + LAST])
+}
+
+// Whether the key at p of a is below the key at q of b. No branch: keys that stand side by side differ at any place.
+pub fn is_below(a: &[u8], p: usize, b: &[u8], q: usize) -> bool
+    requires { ⌜ (p + key-wide ≤ length (now a)) × (q + key-wide ≤ length (now b)) ⌝ }
+    ensures { λ r. ⌜ r ≡ isLess (cmp (part p key-wide (now (a .entry))) (part q key-wide (now (b .entry)))) ⌝ }
+{
+    let mut below = false;
+    let mut equal = true;
+    let mut word = 0;
+    while word < WORDS {
+        let x = word_at(a, p + word * 8);
+        let y = word_at(b, q + word * 8);
+        below = below | (equal & (x < y));
+        equal = equal & (x == y);
+        word += 1;
+    }
+    below | (equal & (a[p + LAST] < b[q + LAST]))
 }

@@ -1,6 +1,6 @@
 -- The ranges of fields: what a sound key, update, plan entry and row hold. Assumes nothing.
 use Prim.Native.Nat.{ℕ}
-use mathlib.Core.Bool.{Bool, true, not, _&&_, _||_}
+use mathlib.Core.Bool.{Bool, true, _&&_, _||_}
 use mathlib.Core.List.{List, [], _∷_}
 use lib.Dec.{eqb, leb, ltb}
 use lib.ListN.{length, getD}
@@ -22,10 +22,6 @@ textThenZeros (x ∷ l) = on (within 32 126 x) (textThenZeros l) (allZero (x ∷
 -- a padded text: ten bytes, the first of 32 to 126, more such bytes, then only zero bytes
 unfoldable pub paddedText : List ℕ → Bool
 paddedText l = eqb (length l) text-wide && within 32 126 (getD l 0 0) && textThenZeros l
-
--- the byte x may stand in a padded text behind the byte `before`
-abbrev pub mayFollow : ℕ → ℕ → Bool
-mayFollow before x = eqb x 0 || not (eqb before 0) && within 32 126 x
 
 -- a key's fields, each in its range
 unfoldable pub keyInRange : List ℕ → Bool

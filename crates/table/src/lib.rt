@@ -135,12 +135,7 @@ fn in_order(t: &[u8], a: usize) -> bool
     requires { ⌜ a + row-wide + row-wide ≤ length (now t) ⌝ }
     ensures { λ r. ⌜ r ≡ isLess (cmp (part a key-wide (now (t .entry))) (part (a + row-wide) key-wide (now (t .entry)))) ⌝ }
 {
-    let o = keys::compare_key(t, a, t, a + passage::ROW_WIDE);
-    match o {
-        keys::Order::Less => true,
-        keys::Order::Same => false,
-        keys::Order::More => false,
-    }
+    keys::is_below(t, a, t, a + passage::ROW_WIDE)
 }
 
 // Whether the keys of the first n rows rise.

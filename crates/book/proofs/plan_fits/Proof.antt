@@ -1,6 +1,6 @@
 use mathlib.Core.Path.{sym, _∙_}
-use Rattle.book.proofs.PlanLaws.{fits-first, fits-next}
 use borrow.Author.Needs.{needs}
+use Rattle.book.proofs.PlanLaws.{fits-first, fits-next}
 use Rattle.book.proofs.plan_fits.Statement.{statement}
 use Rattle.book.proofs.plan_fits.Tie as tie
 
@@ -18,41 +18,19 @@ mul-p c = search needs
 add-p : tie.Need-add-p
 add-p c = search needs
 
-sub-compare-key : tie.Need-sub-compare-key
-sub-compare-key c = search needs
+sub-is-below : tie.Need-sub-is-below
+sub-is-below c = search needs
 
-compare-key-requires : tie.Need-compare-key-requires
-compare-key-requires c κs = search needs
-
-enum-told : tie.Need-enum-told
-enum-told c = search needs
+is-below-requires : tie.Need-is-below-requires
+is-below-requires c κs = search needs
 
 plan-in-range-requires-2 : tie.Need-plan-in-range-requires-2
 plan-in-range-requires-2 c κs = search needs
 
 returns-2 : tie.Need-returns-2
 returns-2 c =
-    let d = c .before .before .before in
-    let a = d .before .before .before .args in
-    c .plan-in-range2 .ensures ∙ sym (fits-next (a .i) (a .b .now) (d .before .if1 .left) ∙ rw (sym (d .compare-key .ensures) ∙ c .before .enum-told .given .1))
-
-enum-told-2 : tie.Need-enum-told-2
-enum-told-2 c = search needs
-
-returns-3 : tie.Need-returns-3
-returns-3 c =
-    let d = c .before .before in
-    let a = d .before .before .before .args in
-    sym (fits-next (a .i) (a .b .now) (d .before .if1 .left) ∙ rw (sym (d .compare-key .ensures) ∙ c .enum-told2 .given .1))
-
-enum-told-3 : tie.Need-enum-told-3
-enum-told-3 c = search needs
-
-returns-4 : tie.Need-returns-4
-returns-4 c =
-    let d = c .before .before in
-    let a = d .before .before .before .args in
-    sym (fits-next (a .i) (a .b .now) (d .before .if1 .left) ∙ rw (sym (d .compare-key .ensures) ∙ c .enum-told3 .given .1))
+    let a = c .before .before .before .before .args in
+    rw (c .plan-in-range2 .ensures, c .before .is-below .ensures) (sym (fits-next (a .i) (a .b .now) (c .before .before .if1 .left)))
 
 pub plan-fits-spec : {M : Type 1} → statement M
 plan-fits-spec =
@@ -62,12 +40,7 @@ plan-fits-spec =
     returns
     mul-p
     add-p
-    sub-compare-key
-    compare-key-requires
-    enum-told
+    sub-is-below
+    is-below-requires
     plan-in-range-requires-2
-    returns-2
-    enum-told-2
-    returns-3
-    enum-told-3
-    returns-4)
+    returns-2)
