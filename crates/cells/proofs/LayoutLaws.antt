@@ -21,9 +21,9 @@ use Rattle.cells.specs.Tables.{Column, must, messageColumns, planningCol
 use Rattle.cells.specs.Layout.{wanted, columnAt, kindAt, optionalAt, widthIn, widths, total, offset, room, blankCell, blankRow}
 use Rattle.cells.proofs.PartLaws.{begins, begins-next, begins-within, begins-apart, parts-flat, Fit, length-flat, flat-part}
 
--- ---- the rules as lists, as the code's arrays have them
+-- ---- the rules as lists
 
-abbrev kindOf : Column → ℕ
+abbrev pub kindOf : Column → ℕ
 kindOf c = c .kind
 
 pub kind-listed : (t : Table) (j : ℕ) → getD (map kindOf (columnsIn t)) j 0 ≡ kindAt t j
@@ -31,7 +31,7 @@ unfolding kindAt columnAt
 kind-listed t j = List·getD-map kindOf (columnsIn t) j (must "" text)
 
 -- 1 for a column that may be absent, else 0
-abbrev flagOf : Column → ℕ
+abbrev pub flagOf : Column → ℕ
 flagOf c = on (isOptional c) 1 0
 
 flagged : (b : Bool) → eqb (on b 1 0) 1 ≡ b
@@ -168,10 +168,6 @@ module _ (t : Table) (j : ℕ) (h : j < wanted t) where
   offset-apart k l m =
       let n : k < length (widths t) = rw length-widths m in
       rw (← (width-at t j h)) (begins-apart (widths t) j k l n)
-
--- an offset is a byte
-pub offset-byte : (t : Table) (j : ℕ) → j < wanted t → getD (places 0 (widths t)) j 0 < 256
-offset-byte t j h = let e = offset-listed t j h in let w = offset-within t j h in let r = row-room t in omega arith
 
 -- a row whose parts are the cells
 pub row-flat :

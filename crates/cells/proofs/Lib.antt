@@ -2,6 +2,7 @@ pub mod CellLaws
 pub mod WriteLaws
 pub mod PartLaws
 pub mod LayoutLaws
+pub mod DigitLaws
 pub mod RowLaws
 pub mod RangeLaws
 pub mod Claims

@@ -1,3 +1,4 @@
+pub mod Digit
 pub mod Cell
 pub mod Tables
 pub mod Layout

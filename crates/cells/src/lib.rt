@@ -2,7 +2,7 @@
 use fields::Number;
 use fields::Time;
 ghost use mathlib.Core.Path.{_≡_};
-ghost use Prim.Native.Nat.{_+_, _≤_, _<_};
+ghost use Prim.Native.Nat.{_+_, _*_, _≤_, _<_};
 ghost use lib.ListN.{length};
 ghost use Rattle.lists.specs.Text.{same};
 ghost use Rattle.lists.specs.Part.{over};
@@ -11,6 +11,7 @@ ghost use Rattle.fields.specs.Texts as Texts;
 ghost use Rattle.cells.specs.Cell.{null, width, cell, some, numberCell, textCell, timeAt};
 ghost use Rattle.cells.specs.Tables.{rowWidth};
 ghost use Rattle.cells.specs.Layout.{wanted, kindAt, optionalAt, offset, blankRow};
+ghost use Rattle.cells.specs.Digit.{digitOf};
 
 // The tables that are wanted: of a message, of the planning, of the calendar.
 pub enum Table {
@@ -41,12 +42,21 @@ pub fn wanted(t: Table) -> usize
     }
 }
 
-// The columns' kinds.
-const MESSAGE_KINDS: [u8; 16] = [0, 1, 0, 2, 3, 0, 4, 0, 5, 6, 7, 8, 9, 10, 11, 10];
+// Hex digit j of a number, the last being digit 0.
+fn digit(packed: u64, j: usize) -> u8
+    requires { ⌜ j < 16 ⌝ }
+    ensures is { λ r. ⌜ r ≡ digitOf packed j ⌝ }
+    ensures few { λ r. ⌜ r ≤ 15 ⌝ }
+{
+    ((packed >> (4 * j)) % 16) as u8
+}
 
-const PLANNING_KINDS: [u8; 12] = [0, 0, 2, 3, 0, 4, 0, 0, 7, 8, 9, 11];
+// The columns' kinds, a hex digit each, the first column's last: a constant table would be laid out anew wherever it is read.
+const MESSAGE_KINDS: u64 = 0xaba9876504032010;
 
-const CALENDAR_KINDS: [u8; 3] = [0, 0, 1];
+const PLANNING_KINDS: u64 = 0xb98700403200;
+
+const CALENDAR_KINDS: u64 = 0x100;
 
 // The kind of column j.
 pub fn kind_of(t: Table, j: usize) -> u8
@@ -54,35 +64,32 @@ pub fn kind_of(t: Table, j: usize) -> u8
     ensures { λ r. ⌜ r ≡ kindAt t j ⌝ }
 {
     match t {
-        Table::Message => MESSAGE_KINDS[j],
-        Table::Planning => PLANNING_KINDS[j],
-        Table::Calendar => CALENDAR_KINDS[j],
+        Table::Message => digit(MESSAGE_KINDS, j),
+        Table::Planning => digit(PLANNING_KINDS, j),
+        Table::Calendar => digit(CALENDAR_KINDS, j),
     }
 }
 
-// Where the columns' cells begin in a row. In bytes: a constant table is laid out anew where it is read.
-const MESSAGE_AT: [u8; 16] = [
-    0,
-    10,
-    14,
-    24,
-    28,
-    29,
-    39,
-    41,
-    51,
-    55,
-    56,
-    59,
-    62,
-    63,
-    64,
-    65,
-];
+// Where the columns' cells begin in a row: two hex digits each, all the first ones and all the second ones.
+const MESSAGE_HIGH: u64 = 0x4433333322111000;
 
-const PLANNING_AT: [u8; 12] = [0, 10, 20, 24, 25, 35, 37, 47, 57, 60, 63, 64];
+const MESSAGE_LOW: u64 = 0x10feb87397dc8ea0;
 
-const CALENDAR_AT: [u8; 3] = [0, 10, 20];
+const PLANNING_HIGH: u64 = 0x433322211100;
+
+const PLANNING_LOW: u64 = 0x0fc9f53984a0;
+
+const CALENDAR_HIGH: u64 = 0x100;
+
+const CALENDAR_LOW: u64 = 0x4a0;
+
+// The number of two hex digits at place j.
+fn two_digits(high: u64, low: u64, j: usize) -> usize
+    requires { ⌜ j < 16 ⌝ }
+    ensures { λ r. ⌜ r ≡ digitOf high j * 16 + digitOf low j ⌝ }
+{
+    digit(high, j) as usize * 16 + digit(low, j) as usize
+}
 
 // Where the cell of column j begins in a row.
 pub fn offset_of(t: Table, j: usize) -> usize
@@ -90,18 +97,18 @@ pub fn offset_of(t: Table, j: usize) -> usize
     ensures { λ r. ⌜ r ≡ offset t j ⌝ }
 {
     match t {
-        Table::Message => MESSAGE_AT[j] as usize,
-        Table::Planning => PLANNING_AT[j] as usize,
-        Table::Calendar => CALENDAR_AT[j] as usize,
+        Table::Message => two_digits(MESSAGE_HIGH, MESSAGE_LOW, j),
+        Table::Planning => two_digits(PLANNING_HIGH, PLANNING_LOW, j),
+        Table::Calendar => two_digits(CALENDAR_HIGH, CALENDAR_LOW, j),
     }
 }
 
 // Which columns may be absent: 1.
-const MESSAGE_OPTIONAL: [u8; 16] = [0, 0, 0, 0, 0, 0, 0, 0, 0, 0, 0, 0, 0, 1, 1, 1];
+const MESSAGE_OPTIONAL: u64 = 0x1110000000000000;
 
-const PLANNING_OPTIONAL: [u8; 12] = [0, 0, 0, 0, 0, 0, 0, 0, 0, 0, 0, 1];
+const PLANNING_OPTIONAL: u64 = 0x100000000000;
 
-const CALENDAR_OPTIONAL: [u8; 3] = [0, 0, 0];
+const CALENDAR_OPTIONAL: u64 = 0x000;
 
 // Whether column j may be absent or hold `\0`.
 pub fn is_optional(t: Table, j: usize) -> bool
@@ -109,9 +116,9 @@ pub fn is_optional(t: Table, j: usize) -> bool
     ensures { λ r. ⌜ r ≡ optionalAt t j ⌝ }
 {
     match t {
-        Table::Message => MESSAGE_OPTIONAL[j] == 1,
-        Table::Planning => PLANNING_OPTIONAL[j] == 1,
-        Table::Calendar => CALENDAR_OPTIONAL[j] == 1,
+        Table::Message => digit(MESSAGE_OPTIONAL, j) == 1,
+        Table::Planning => digit(PLANNING_OPTIONAL, j) == 1,
+        Table::Calendar => digit(CALENDAR_OPTIONAL, j) == 1,
     }
 }
 
