@@ -1,5 +1,5 @@
 pub mod Rules
 pub mod First
-pub mod Pass
+pub mod Places
 pub mod Claims
 pub mod Cases
