@@ -16,7 +16,7 @@ use Rattle.board.specs.declared.Answer.the-variants.{Listed, Unsound, OutOfRang
 use Rattle.shows.specs.Ask.{asksInRange}
 use Rattle.board.specs.Rules.{numbers as boardNumbers, byAnswer, boardAnswer, boardPlaces}
 use Rattle.table.specs.Rules.{tableSound}
-use Rattle.desk.specs.Answered.{counted, numberOf, answered, boardNumber, boardAnswered}
+use Rattle.answers.specs.Answered.{counted, numberOf, answered, boardNumber, boardAnswered}
 use Rattle.desk.specs.Claims.{SixNumbers, GivesBack, OpenGivesBack, MessageGivesBack, WithdrawGivesBack, BoardGivesBack, NumbersListed, BoardNumbersListed, All}
 use Rattle.desk.proofs.DossierLaws.{dossier-named}
 

@@ -22,7 +22,7 @@ use Rattle.calls.specs.Claims.{among}
 use Rattle.calls.specs.Open.{passagesOf, roomToOpen, openAnswer, openOutcome}
 use Rattle.calls.specs.Message.{messageSound, messageBodies, numberFor, roomFor, messageAnswer, messageOutcome}
 use Rattle.calls.specs.Withdraw.{withdrawSound, unlessBarred, withdrawAnswer, withdrawOutcome}
-use Rattle.desk.specs.Answered.{counted, numberOf, answered}
+use Rattle.answers.specs.Answered.{counted, numberOf, answered}
 use Rattle.desk.specs.Claims.{DossierNamed}
 
 -- ---- open: 1 or 2, exactly with 2 to 5

@@ -1,3 +1,1 @@
-pub mod Answered
-pub mod Cases
 pub mod Claims

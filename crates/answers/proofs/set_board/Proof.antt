@@ -1,9 +1,9 @@
--- `desk::set_board` meets its contract: each arm writes the numbers of its case. Assumes nothing.
+-- `answers::set_board` meets its contract: each arm writes the numbers of its case. Assumes nothing.
 use borrow.Author.Needs.{needs}
 use Rattle.board.specs.declared.Answer.the-variants.{Listed, Unsound, OutOfRange}
-use Rattle.desk.proofs.AnswerLaws.{board-written}
-use Rattle.desk.proofs.set_board.Statement.{statement}
-use Rattle.desk.proofs.set_board.Tie as tie
+use Rattle.answers.proofs.AnswerLaws.{board-written}
+use Rattle.answers.proofs.set_board.Statement.{statement}
+use Rattle.answers.proofs.set_board.Tie as tie
 
 enum-known-a : tie.Need-enum-known-a
 enum-known-a c = search needs

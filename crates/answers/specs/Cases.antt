@@ -3,7 +3,7 @@ use mathlib.Core.Path.{_≡_, refl}
 use mathlib.Core.List.{[], _∷_}
 use Rattle.calls.specs.declared.Answer.the-variants.{Accepted, Field, Owner}
 use Rattle.board.specs.declared.Answer.the-variants.{Listed, OutOfRange}
-use Rattle.desk.specs.Answered.{counted, numberOf, answered, boardNumber, boardAnswered}
+use Rattle.answers.specs.Answered.{counted, numberOf, answered, boardNumber, boardAnswered}
 
 -- message 7 is taken: 402 bytes of the book are used now, and 5 rows of the table
 message-taken : answered (record { answer = Accepted 7; counts = counted 402 5 }) ≡ 0 ∷ 7 ∷ 0 ∷ 0 ∷ 402 ∷ 5 ∷ []

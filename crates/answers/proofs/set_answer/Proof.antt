@@ -1,9 +1,9 @@
--- `desk::set_answer` meets its contract: each arm writes the numbers of its case. Assumes nothing.
+-- `answers::set_answer` meets its contract: each arm writes the numbers of its case. Assumes nothing.
 use borrow.Author.Needs.{needs}
 use Rattle.calls.specs.declared.Answer.the-variants.{Accepted, Unsound, TooLong, Syntax, Form, Field, Owner, BookShort, TableShort, KeyTwice, NoMessage, AlreadyWithdrawn, OtherSender}
-use Rattle.desk.proofs.AnswerLaws.{written}
-use Rattle.desk.proofs.set_answer.Statement.{statement}
-use Rattle.desk.proofs.set_answer.Tie as tie
+use Rattle.answers.proofs.AnswerLaws.{written}
+use Rattle.answers.proofs.set_answer.Statement.{statement}
+use Rattle.answers.proofs.set_answer.Tie as tie
 
 enum-known-a : tie.Need-enum-known-a
 enum-known-a c = search needs
