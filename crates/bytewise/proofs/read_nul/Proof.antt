@@ -1,7 +1,7 @@
 use borrow.Author.Tests.{ne-eqb}
 use Rattle.syntax.specs.Machine.{nul}
-use Rattle.syntax.proofs.read_nul.Statement.{statement}
-use Rattle.syntax.proofs.read_nul.Tie as tie
+use Rattle.bytewise.proofs.read_nul.Statement.{statement}
+use Rattle.bytewise.proofs.read_nul.Tie as tie
 
 returns : tie.Need-returns
 unfolding nul

@@ -1,8 +1,8 @@
 use borrow.Author.Tests.{ne-eqb}
 use mathlib.Core.Logic.{⊎-elim, inl, inr}
 use Rattle.syntax.specs.Machine.{escape}
-use Rattle.syntax.proofs.read_escape.Statement.{statement}
-use Rattle.syntax.proofs.read_escape.Tie as tie
+use Rattle.bytewise.proofs.read_escape.Statement.{statement}
+use Rattle.bytewise.proofs.read_escape.Tie as tie
 
 returns : tie.Need-returns
 unfolding escape

@@ -1,7 +1,7 @@
 use Rattle.syntax.specs.Machine.{step}
 use borrow.Author.Needs.{needs}
-use Rattle.syntax.proofs.next_state.Statement.{statement}
-use Rattle.syntax.proofs.next_state.Tie as tie
+use Rattle.bytewise.proofs.next_state.Statement.{statement}
+use Rattle.bytewise.proofs.next_state.Tie as tie
 
 enum-known-s : tie.Need-enum-known-s
 enum-known-s c = search needs

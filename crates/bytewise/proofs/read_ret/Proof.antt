@@ -1,7 +1,7 @@
 use borrow.Author.Tests.{ne-eqb}
 use Rattle.syntax.specs.Machine.{ret}
-use Rattle.syntax.proofs.read_ret.Statement.{statement}
-use Rattle.syntax.proofs.read_ret.Tie as tie
+use Rattle.bytewise.proofs.read_ret.Statement.{statement}
+use Rattle.bytewise.proofs.read_ret.Tie as tie
 
 returns : tie.Need-returns
 unfolding ret

@@ -1,9 +1,9 @@
 use Prim.Native.Nat.{_-_}
 use mathlib.Core.Path.{_∙_}
 use borrow.Author.Needs.{needs}
 use Rattle.syntax.specs.Machine.{opened}
-use Rattle.syntax.proofs.read_open.Statement.{statement}
-use Rattle.syntax.proofs.read_open.Tie as tie
+use Rattle.bytewise.proofs.read_open.Statement.{statement}
+use Rattle.bytewise.proofs.read_open.Tie as tie
 
 enum-told : tie.Need-enum-told
 enum-told c = search needs

@@ -1,8 +1,8 @@
 use borrow.Author.Tests.{ne-eqb}
 use Rattle.syntax.specs.Machine.{marked}
 use borrow.Author.Needs.{needs}
-use Rattle.syntax.proofs.read_mark.Statement.{statement}
-use Rattle.syntax.proofs.read_mark.Tie as tie
+use Rattle.bytewise.proofs.read_mark.Statement.{statement}
+use Rattle.bytewise.proofs.read_mark.Tie as tie
 
 enum-told : tie.Need-enum-told
 enum-told c = search needs

@@ -1,6 +1,6 @@
 use borrow.Author.Tests.{eq-eqb, ne-eqb}
-use Rattle.syntax.proofs.read_slash.Statement.{statement}
-use Rattle.syntax.proofs.read_slash.Tie as tie
+use Rattle.bytewise.proofs.read_slash.Statement.{statement}
+use Rattle.bytewise.proofs.read_slash.Tie as tie
 
 returns : tie.Need-returns
 returns c = rw (eq-eqb _ _ (c .if1 .taken))

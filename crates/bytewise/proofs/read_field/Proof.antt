@@ -1,7 +1,7 @@
 use borrow.Author.Tests.{eq-eqb, ne-eqb, lt-ltb, le-ltb}
 use Rattle.syntax.specs.Machine.{field}
-use Rattle.syntax.proofs.read_field.Statement.{statement}
-use Rattle.syntax.proofs.read_field.Tie as tie
+use Rattle.bytewise.proofs.read_field.Statement.{statement}
+use Rattle.bytewise.proofs.read_field.Tie as tie
 
 returns : tie.Need-returns
 unfolding field

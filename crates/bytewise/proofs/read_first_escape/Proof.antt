@@ -1,8 +1,8 @@
 use borrow.Author.Tests.{ne-eqb}
 use Rattle.syntax.specs.Machine.{firstEscape}
 use borrow.Author.Needs.{needs}
-use Rattle.syntax.proofs.read_first_escape.Statement.{statement}
-use Rattle.syntax.proofs.read_first_escape.Tie as tie
+use Rattle.bytewise.proofs.read_first_escape.Statement.{statement}
+use Rattle.bytewise.proofs.read_first_escape.Tie as tie
 
 returns : tie.Need-returns
 unfolding firstEscape

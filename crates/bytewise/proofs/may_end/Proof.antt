@@ -1,9 +1,9 @@
 use Prim.Native.Nat.{_-_}
 use mathlib.Core.Path.{_∙_}
 use borrow.Author.Needs.{needs}
 use Rattle.syntax.specs.Machine.{accepting}
-use Rattle.syntax.proofs.may_end.Statement.{statement}
-use Rattle.syntax.proofs.may_end.Tie as tie
+use Rattle.bytewise.proofs.may_end.Statement.{statement}
+use Rattle.bytewise.proofs.may_end.Tie as tie
 
 enum-known-s : tie.Need-enum-known-s
 enum-known-s c = search needs
