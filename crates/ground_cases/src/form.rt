@@ -10,7 +10,7 @@ fn stepwise(d: &[u8]) -> Verdict {
     let mut s = State::Open(Kind::Nothing);
     let mut i: usize = 0;
     while i < d.len() {
-        match syntax::next_state(s, d[i]) {
+        match bytewise::next_state(s, d[i]) {
             Next::To(t) => {
                 s = t;
             }
@@ -20,7 +20,7 @@ fn stepwise(d: &[u8]) -> Verdict {
         }
         i += 1;
     }
-    if syntax::may_end(s) {
+    if bytewise::may_end(s) {
         return Verdict::Fine;
     }
     Verdict::FaultAt(i)
