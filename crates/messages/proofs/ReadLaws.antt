@@ -19,8 +19,8 @@ use Rattle.calls.specs.declared.Counts.{Counts}
 use Rattle.calls.specs.declared.Outcome.{Outcome}
 use Rattle.calls.specs.Answers.{isAccepted, unlessRefused}
 use Rattle.calls.specs.Message.{messageSound, messageBodies, roomFor, messageAnswer, messageOutcome, messageBook, messageTable}
-use Rattle.messages.specs.Steps.{takenOutcome, takenBook, takenTable}
-use Rattle.messages.proofs.TakeLaws.{outcome-is}
+use Rattle.posting.specs.Steps.{takenOutcome, takenBook, takenTable}
+use Rattle.posting.proofs.TakeLaws.{outcome-is}
 
 -- the rows of an accepted dossier, as they are staged
 pub staged-bodies : (register : List ℕ) (sender : ℕ) (d staging : List ℕ) (n : ℕ) → readingOf Tables.Message register sender d ≡ Rows n → n ≤ 2427 → length staging ≡ 160182

@@ -10,10 +10,10 @@ use Rattle.table.proofs.SoundLaws.{sound-fits, sound-sorted}
 use Rattle.book.proofs.SoundLaws.{room-within}
 use Rattle.calls.specs.declared.Answer.the-variants.{Accepted}
 use Rattle.calls.specs.Message.{tableTaking}
-use Rattle.messages.proofs.SoundLaws.{used-fits}
-use Rattle.messages.proofs.WriteLaws.{rows-fit, tail-back, counts-are}
-use Rattle.messages.proofs.write_rows.Statement.{statement}
-use Rattle.messages.proofs.write_rows.Tie as tie
+use Rattle.posting.proofs.SoundLaws.{used-fits}
+use Rattle.posting.proofs.WriteLaws.{rows-fit, tail-back, counts-are}
+use Rattle.posting.proofs.write_rows.Statement.{statement}
+use Rattle.posting.proofs.write_rows.Tie as tie
 
 next-number-requires : tie.Need-next-number-requires
 next-number-requires c κs = search needs

@@ -15,16 +15,16 @@ use Rattle.table.proofs.SoundLaws.{room-most, sound-within, sound-fits, sound-s
 use Rattle.book.specs.Entries.{entry-wide}
 use Rattle.book.specs.Rules.{bookRoom}
 use Rattle.calls.specs.Message.{rowsTaken}
-use Rattle.messages.proofs.SoundLaws.{used-fits}
-use Rattle.messages.proofs.TakeLaws.{rowless, book-short, table-short, fits}
+use Rattle.posting.proofs.SoundLaws.{used-fits}
+use Rattle.posting.proofs.TakeLaws.{rowless, book-short, table-short, fits}
 use borrow.Author.Needs.{needs}
-use Rattle.messages.proofs.take_rows.Statement.{statement}
-use Rattle.messages.proofs.take_rows.Tie as tie
-use Rattle.messages.proofs.take_rows.Reads as reads
-use Rattle.messages.proofs.take_rows.Lts as lts
+use Rattle.posting.proofs.take_rows.Statement.{statement}
+use Rattle.posting.proofs.take_rows.Tie as tie
+use Rattle.posting.proofs.take_rows.Reads as reads
+use Rattle.posting.proofs.take_rows.Lts as lts
 use Rattle.book.proofs.book_room.Reads as book-room-reads
 use Rattle.calls.proofs.refused.Reads as refused-reads
-use Rattle.messages.proofs.write_rows.Reads as write-rows-reads
+use Rattle.posting.proofs.write_rows.Reads as write-rows-reads
 use Rattle.table.proofs.rows_room.Reads as rows-room-reads
 use Rattle.taking.proofs.fits_after.Reads as fits-after-reads
 

@@ -26,7 +26,7 @@ use Rattle.calls.specs.declared.Counts.{Counts}
 use Rattle.calls.specs.declared.Outcome.{Outcome}
 use Rattle.calls.specs.Answers.{isAccepted}
 use Rattle.calls.specs.Message.{numberFor, rowsTaken, roomFor, countsTaking, bookTaking, tableTaking}
-use Rattle.messages.specs.Steps.{takenOutcome, takenBook, takenTable}
+use Rattle.posting.specs.Steps.{takenOutcome, takenBook, takenTable}
 
 -- an outcome by its answer and counts
 pub outcome-is : (r : Outcome) (a : Answer) (c : Counts) → (r .answer ≡ a) × (r .counts ≡ c) → r ≡ record { answer = a; counts = c }

@@ -1,0 +1,4 @@
+pub mod SoundLaws
+pub mod WriteLaws
+pub mod TakeLaws
+pub mod Determined
