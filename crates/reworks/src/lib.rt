@@ -181,6 +181,26 @@ pub fn rework_few(
     rework_in(number, at, m, book, table, c, &mut order, &mut slots)
 }
 
+// With room for all entries that a book can have. It comes as arrays of known size: so no proof has to count one through.
+fn rework_all(
+    number: u32,
+    at: usize,
+    m: usize,
+    book: &mut [u8],
+    table: &mut [u8],
+    c: Counts,
+    order: &mut [u32; MOST],
+    slots: &mut [u8; MOST_SLOTS],
+) -> Outcome
+    requires { ⌜ withdrawSound (now book) (now table) c ≡ true ⌝ }
+    requires { ⌜ Stands number (c .used) (now book) at m ⌝ }
+    ensures outcome { λ r. ⌜ r ≡ roomOutcome number (now (book .entry)) (now (table .entry)) c ⌝ }
+    ensures entries { λ _. ⌜ now (book .exit) ≡ roomBook number (now (book .entry)) (now (table .entry)) c ⌝ }
+    ensures rows { λ _. ⌜ now (table .exit) ≡ roomTable number (now (book .entry)) (now (table .entry)) c ⌝ }
+{
+    rework_in(number, at, m, book, table, c, order, slots)
+}
+
 // The same for any number of entries, with room for all that a book can have.
 pub fn rework_many(
     number: u32,
@@ -198,5 +218,5 @@ pub fn rework_many(
 {
     let mut order = [0u32; MOST];
     let mut slots = [0u8; MOST_SLOTS];
-    rework_in(number, at, m, book, table, c, &mut order, &mut slots)
+    rework_all(number, at, m, book, table, c, &mut order, &mut slots)
 }
