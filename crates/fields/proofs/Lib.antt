@@ -1,10 +1,7 @@
 pub mod DigitLaws
 pub mod TripleLaws
 pub mod StampLaws
-pub mod NameLaws
-pub mod ReadingLaws
 pub mod WrittenLaws
 pub mod RangeLaws
-pub mod KeptLaws
 pub mod Claims
 pub mod Determined

@@ -1,18 +1,14 @@
 -- The paper's cases that fields and dates decide, by computation. Assumes nothing.
 use mathlib.Core.Path.{_≡_, refl}
-use mathlib.Core.Bool.{true}
-use Rattle.lists.specs.Text.{bytes, same}
+use Rattle.lists.specs.Text.{bytes}
 use Rattle.clock.specs.Date.{daysIn, isDate}
 use Rattle.clock.specs.Moment.{monthStart, dayCount, momentOf}
-use Rattle.turbo.specs.Escape.{escaped, decode}
 use Rattle.fields.specs.declared.Number.the-variants.{Is, Wrong}
 use Rattle.fields.specs.declared.Time.the-variants as Times
 use Rattle.fields.specs.Digits.{number, triple}
 use Rattle.fields.specs.Times.{clock, time}
 use Rattle.fields.specs.Dates.{date}
 use Rattle.fields.specs.Stamps.{offset, stampSeconds, stamp}
-use Rattle.fields.specs.Names.{bit, status, stopType, flexible}
-use Rattle.fields.specs.Texts.{padded, text}
 
 -- P1: 31:59:59 is 115,199; 32:00:00 is refused
 pub P1 : (time (bytes "31:59:59") ≡ Times.Is (record { 0 = 115199 })) × (time (bytes "32:00:00") ≡ Times.Wrong)
@@ -29,16 +25,6 @@ pub P3 : stamp (bytes "2016-03-01T15:15:30+01:00") ≡ Is 1456841730
 unfolding stamp stampSeconds monthStart dayCount offset clock date isDate daysIn triple number
 P3 = refl
 
--- P4, its first half: an escaped bar and an escaped backslash
-pub P4-decoded : decode (bytes "a\\pb\\i") ≡ bytes "a|b\\"
-unfolding decode escaped
-P4-decoded = refl
-
--- the same field kept as a text
-pub P4-kept : text (bytes "a\\pb\\i") ≡ record { ok = true; bytes = padded (bytes "a|b\\") }
-unfolding text decode escaped
-P4-kept = refl
-
 -- 25:20:00 on 2017-01-01 is 01:20:00 on 2017-01-02
 pub next-day : momentOf 20170101 (record { 0 = 91200 }) ≡ momentOf 20170102 (record { 0 = 4800 })
 unfolding dayCount monthStart daysIn
@@ -50,33 +36,10 @@ pub next-day-times :
 unfolding time clock triple number
 next-day-times = (refl, refl)
 
--- each status in its order; PLAN is refused
-pub statuses-read :
-    (status (bytes "PLANNED") ≡ Is 0)
-    × (status (bytes "CANCEL") ≡ Is 1)
-    × (status (bytes "UNKNOWN") ≡ Is 2)
-    × (status (bytes "DRIVING") ≡ Is 3)
-    × (status (bytes "ARRIVED") ≡ Is 4)
-    × (status (bytes "PASSED") ≡ Is 5)
-    × (status (bytes "PLAN") ≡ Wrong)
-unfolding status same
-statuses-read = (refl, refl, refl, refl, refl, refl, refl)
-
--- each stop type, and each word of ShowFlexibleTrip
-pub words-read :
-    (stopType (bytes "FIRST") ≡ Is 0)
-    × (stopType (bytes "INTERMEDIATE") ≡ Is 1)
-    × (stopType (bytes "LAST") ≡ Is 2)
-    × (flexible (bytes "TRUE") ≡ Is 1)
-    × (flexible (bytes "FALSE") ≡ Is 2)
-    × (flexible (bytes "REALTIME") ≡ Is 3)
-unfolding stopType flexible same
-words-read = (refl, refl, refl, refl, refl, refl)
-
 -- leading zeros count as digits and not in the value
-pub zeros-read : (number 6 (bytes "007") ≡ Is 7) × (number 6 (bytes "0000001") ≡ Wrong) × (bit (bytes "00") ≡ Wrong)
-unfolding number bit same
-zeros-read = (refl, refl, refl)
+pub zeros-read : (number 6 (bytes "007") ≡ Is 7) × (number 6 (bytes "0000001") ≡ Wrong)
+unfolding number
+zeros-read = (refl, refl)
 
 -- an offset up to 14:00 and no further; west of UTC is later there
 pub offsets-read :

@@ -1,16 +1,13 @@
-// What a dossier field's bytes mean, by the field's type. A reader is lent the field, a part of the line, and copies nothing but a text.
+// What a dossier field's bytes mean where they are digits: numbers, dates, times, stamps. A reader is lent the field, a part of the line, and copies nothing.
 use clock::OperatingSeconds;
 ghost use mathlib.Core.Path.{_≡_};
-ghost use mathlib.Core.Bool.{true, false};
-ghost use mathlib.Core.List.{[]};
+ghost use mathlib.Core.Bool.{true};
 ghost use Prim.Native.Nat.{_≤_, _<_};
 ghost use Rattle.clock.specs.Date.{isDate};
 ghost use Rattle.fields.specs.Digits.{number, tripleOf, triple};
 ghost use Rattle.fields.specs.Times.{clock, time};
 ghost use Rattle.fields.specs.Dates.{date};
 ghost use Rattle.fields.specs.Stamps.{offset, stampSeconds, stampShape, stamp, inStampRange};
-ghost use Rattle.fields.specs.Names.{bit, status, stopType, flexible};
-ghost use Rattle.fields.specs.Texts.{keptStep, stepOf, textGiven, text};
 
 // What a field of a number type holds.
 pub enum Number {
@@ -28,19 +25,6 @@ pub enum Time {
 enum Triple {
     Three(u32, u32, u32),
     Other,
-}
-
-// A text that is kept, padded with zero bytes; all zero where it is not ok.
-pub struct Text {
-    pub ok: bool,
-    pub bytes: [u8; 10],
-}
-
-// What one more byte of a text does: it begins an escape, gives a byte, or is refused.
-enum Step {
-    Mark,
-    Byte(u8),
-    Bad,
 }
 
 // N#: 1 to `most` digits.
@@ -229,148 +213,4 @@ pub fn in_stamp_range(n: u32) -> bool
         return false;
     }
     n <= 4102495199
-}
-
-// B: 0 or 1.
-pub fn read_bit(f: &[u8]) -> Number
-    ensures { λ r. ⌜ r ≡ bit (now (f .entry)) ⌝ }
-{
-    if lists::same_bytes(f, b"0") {
-        return Number::Is(0);
-    }
-    if lists::same_bytes(f, b"1") {
-        return Number::Is(1);
-    }
-    Number::Wrong
-}
-
-// A status, coded 0 to 5.
-pub fn read_status(f: &[u8]) -> Number
-    ensures { λ r. ⌜ r ≡ status (now (f .entry)) ⌝ }
-{
-    if lists::same_bytes(f, b"PLANNED") {
-        return Number::Is(0);
-    }
-    if lists::same_bytes(f, b"CANCEL") {
-        return Number::Is(1);
-    }
-    if lists::same_bytes(f, b"UNKNOWN") {
-        return Number::Is(2);
-    }
-    if lists::same_bytes(f, b"DRIVING") {
-        return Number::Is(3);
-    }
-    if lists::same_bytes(f, b"ARRIVED") {
-        return Number::Is(4);
-    }
-    if lists::same_bytes(f, b"PASSED") {
-        return Number::Is(5);
-    }
-    Number::Wrong
-}
-
-// A JourneyStopType, coded 0 to 2.
-pub fn read_stop_type(f: &[u8]) -> Number
-    ensures { λ r. ⌜ r ≡ stopType (now (f .entry)) ⌝ }
-{
-    if lists::same_bytes(f, b"FIRST") {
-        return Number::Is(0);
-    }
-    if lists::same_bytes(f, b"INTERMEDIATE") {
-        return Number::Is(1);
-    }
-    if lists::same_bytes(f, b"LAST") {
-        return Number::Is(2);
-    }
-    Number::Wrong
-}
-
-// A ShowFlexibleTrip, coded 1 to 3.
-pub fn read_flexible(f: &[u8]) -> Number
-    ensures { λ r. ⌜ r ≡ flexible (now (f .entry)) ⌝ }
-{
-    if lists::same_bytes(f, b"TRUE") {
-        return Number::Is(1);
-    }
-    if lists::same_bytes(f, b"FALSE") {
-        return Number::Is(2);
-    }
-    if lists::same_bytes(f, b"REALTIME") {
-        return Number::Is(3);
-    }
-    Number::Wrong
-}
-
-fn kept_step(b: u8) -> Step
-    ensures { λ r. ⌜ r ≡ keptStep b ⌝ }
-{
-    if b < 32 {
-        return Step::Bad;
-    }
-    if 126 < b {
-        return Step::Bad;
-    }
-    Step::Byte(b)
-}
-
-// The step of byte `b`; `after` says that it stands after a backslash.
-fn step_at(after: bool, b: u8) -> Step
-    ensures { λ r. ⌜ r ≡ stepOf after b ⌝ }
-{
-    if after {
-        return kept_step(turbo::escaped(b));
-    }
-    if b == 92 {
-        return Step::Mark;
-    }
-    kept_step(b)
-}
-
-fn refused() -> Text
-    ensures { λ r. ⌜ r ≡ textGiven false [] ⌝ }
-{
-    Text {
-        ok: false,
-        bytes: [0u8; 10],
-    }
-}
-
-// A text that is kept: 1 to 10 bytes, each 32 to 126, after decoding.
-pub fn read_text(f: &[u8]) -> Text
-    ensures { λ r. ⌜ r ≡ text (now (f .entry)) ⌝ }
-{
-    let mut out = [0u8; 10];
-    let mut n: usize = 0;
-    let mut after = false;
-    let mut i: usize = 0;
-    while i < f.len() {
-        let b = f[i];
-        i += 1;
-        match step_at(after, b) {
-            Step::Mark => {
-                after = true;
-            }
-            Step::Byte(v) => {
-                if n == 10 {
-                    return refused();
-                }
-                out[n] = v;
-                n += 1;
-                after = false;
-            }
-            Step::Bad => {
-                return refused();
-            }
-        }
-    }
-    if after {
-        return refused();
-    }
-    if n == 0 {
-        return refused();
-    }
-    Text {
-        ok: true,
-        bytes: out,
-    }
 }

@@ -1,6 +1,6 @@
 use Rattle.lists.proofs.LogicLaws.{in-range, below-range, above-range}
-use Rattle.fields.proofs.kept_step.Statement.{statement}
-use Rattle.fields.proofs.kept_step.Tie as tie
+use Rattle.texts.proofs.kept_step.Statement.{statement}
+use Rattle.texts.proofs.kept_step.Tie as tie
 
 returns : tie.Need-returns
 returns c = rw (below-range 32 126 _ (c .if1 .taken))

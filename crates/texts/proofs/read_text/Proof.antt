@@ -3,9 +3,9 @@ use Prim.Native.Nat.{_-_}
 use borrow.Author.Needs.{needs}
 use lib.ListN.{length}
 use denote.Ref.{now}
-use Rattle.fields.proofs.ReadingLaws.{Reading, begin, move-mark, move-byte, end-long, end-bad, end-open, end-none, end-is}
-use Rattle.fields.proofs.read_text.Statement.{statement}
-use Rattle.fields.proofs.read_text.Tie as tie
+use Rattle.texts.proofs.ReadingLaws.{Reading, begin, move-mark, move-byte, end-long, end-bad, end-open, end-none, end-is}
+use Rattle.texts.proofs.read_text.Statement.{statement}
+use Rattle.texts.proofs.read_text.Tie as tie
 
 abbrev Inv-loop : tie.InvT-loop
 Inv-loop f out₀ n₀ after₀ i₀ out n after i = Reading f out n after i

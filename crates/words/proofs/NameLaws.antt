@@ -9,9 +9,9 @@ use lib.ListN.{length, getD}
 use Rattle.lists.specs.Logic.{on}
 use Rattle.lists.specs.Text.{bytes, same}
 use Rattle.lists.proofs.TextLaws.{same-equal}
 use Rattle.fields.specs.declared.Number.the-variants.{Is}
-use Rattle.fields.specs.Names.{nameFrom}
+use Rattle.words.specs.Names.{nameFrom}
 use Rattle.fields.proofs.DigitLaws.{never, same-is}
 
 module _ (k : ℕ) (w : String) (ws : List String) (f : List ℕ) where
   -- the field is the first word

@@ -10,7 +10,7 @@ use lib.ListN.{length, replicate, length-append, length-replicate}
 use Rattle.lists.specs.Logic.{on, within}
 use Rattle.lists.proofs.LogicLaws.{both-true, within-true, in-range}
 use Rattle.turbo.specs.Escape.{escaped, decodeAfter, decode}
-use Rattle.fields.specs.Texts.{allText, padded, textGiven, isText, text, escape}
+use Rattle.texts.specs.Texts.{allText, padded, textGiven, isText, text, escape}
 
 -- what is written with escapes stands for itself
 escape-decoded : (t : List ℕ) → decodeAfter false (escape t) ≡ t

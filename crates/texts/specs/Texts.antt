@@ -6,9 +6,9 @@ use lib.ListN.{length, replicate}
 use lib.Dec.{eqb}
 use Rattle.lists.specs.Logic.{on, both, within}
 use Rattle.turbo.specs.Escape.{escaped, decode}
-use Rattle.fields.specs.declared.Text.{Text}
-use Rattle.fields.specs.declared.Step.{Step}
-use Rattle.fields.specs.declared.Step.the-variants.{Mark, Byte, Bad}
+use Rattle.texts.specs.declared.Text.{Text}
+use Rattle.texts.specs.declared.Step.{Step}
+use Rattle.texts.specs.declared.Step.the-variants.{Mark, Byte, Bad}
 
 -- every byte is 32 to 126
 abbrev pub allText : List ℕ → Bool

@@ -8,11 +8,11 @@ use native.Mathlib.Numerals.{add-one}
 use lib.Dec.{eqb}
 use lib.ListN.{length, getD, drop, set, replicate, length-append}
 use lib.Seq.{drop-cons, drop-length, append-snoc, set-at}
-use Rattle.fields.specs.declared.Step.{Step}
-use Rattle.fields.specs.declared.Step.the-variants.{Mark, Byte, Bad}
+use Rattle.texts.specs.declared.Step.{Step}
+use Rattle.texts.specs.declared.Step.the-variants.{Mark, Byte, Bad}
 use Rattle.lists.specs.Logic.{on, within}
 use Rattle.turbo.specs.Escape.{escaped, decodeAfter, decode}
-use Rattle.fields.specs.Texts.{allText, padded, textGiven, text, keptStep, stepOf}
+use Rattle.texts.specs.Texts.{allText, padded, textGiven, text, keptStep, stepOf}
 use Rattle.lists.proofs.LogicLaws.{both-false, both-true, in-range, above-range}
 
 -- what a step tells of l, the bytes that the field stands for from here on, where rest is left of the field

@@ -1,0 +1,4 @@
+pub mod ReadingLaws
+pub mod KeptLaws
+pub mod Claims
+pub mod Determined

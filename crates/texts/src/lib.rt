@@ -1,0 +1,92 @@
+// Texts that are kept of a dossier's fields, decoded and padded. A reader is lent the field and gives a copy.
+ghost use mathlib.Core.Path.{_≡_};
+ghost use mathlib.Core.Bool.{false};
+ghost use mathlib.Core.List.{[]};
+ghost use Rattle.texts.specs.Texts.{keptStep, stepOf, textGiven, text};
+
+// A text that is kept, padded with zero bytes; all zero where it is not ok.
+pub struct Text {
+    pub ok: bool,
+    pub bytes: [u8; 10],
+}
+
+// What one more byte of a text does: it begins an escape, gives a byte, or is refused.
+enum Step {
+    Mark,
+    Byte(u8),
+    Bad,
+}
+
+fn kept_step(b: u8) -> Step
+    ensures { λ r. ⌜ r ≡ keptStep b ⌝ }
+{
+    if b < 32 {
+        return Step::Bad;
+    }
+    if 126 < b {
+        return Step::Bad;
+    }
+    Step::Byte(b)
+}
+
+// The step of byte `b`; `after` says that it stands after a backslash.
+fn step_at(after: bool, b: u8) -> Step
+    ensures { λ r. ⌜ r ≡ stepOf after b ⌝ }
+{
+    if after {
+        return kept_step(turbo::escaped(b));
+    }
+    if b == 92 {
+        return Step::Mark;
+    }
+    kept_step(b)
+}
+
+fn refused() -> Text
+    ensures { λ r. ⌜ r ≡ textGiven false [] ⌝ }
+{
+    Text {
+        ok: false,
+        bytes: [0u8; 10],
+    }
+}
+
+// A text that is kept: 1 to 10 bytes, each 32 to 126, after decoding.
+pub fn read_text(f: &[u8]) -> Text
+    ensures { λ r. ⌜ r ≡ text (now (f .entry)) ⌝ }
+{
+    let mut out = [0u8; 10];
+    let mut n: usize = 0;
+    let mut after = false;
+    let mut i: usize = 0;
+    while i < f.len() {
+        let b = f[i];
+        i += 1;
+        match step_at(after, b) {
+            Step::Mark => {
+                after = true;
+            }
+            Step::Byte(v) => {
+                if n == 10 {
+                    return refused();
+                }
+                out[n] = v;
+                n += 1;
+                after = false;
+            }
+            Step::Bad => {
+                return refused();
+            }
+        }
+    }
+    if after {
+        return refused();
+    }
+    if n == 0 {
+        return refused();
+    }
+    Text {
+        ok: true,
+        bytes: out,
+    }
+}
