@@ -9,7 +9,7 @@ use Rattle.lists.specs.Part.{over}
 use Rattle.clock.specs.Moment.{momentOf}
 use Rattle.clock.specs.declared.ClockSeconds.{ClockSeconds}
 use Rattle.clock.proofs.MonthLaws.{day-below}
-use Rattle.fields.specs.Texts.{padded}
+use Rattle.texts.specs.Texts.{padded}
 use Rattle.table.specs.Rules.{rows, tableSound}
 use Rattle.board.specs.declared.Answer.{Answer}
 use Rattle.board.specs.declared.Answer.the-variants.{Listed, Unsound, OutOfRange}

@@ -16,7 +16,7 @@ use Rattle.lists.proofs.LogicLaws.{both-true, within-true, in-range}
 use Rattle.lists.proofs.TextLaws.{same-equal, same-refl}
 use Rattle.lists.proofs.OverLaws.{getD-after}
 use Rattle.lists.proofs.RowLaws.{row-at, length-rowsOf}
-use Rattle.fields.specs.Texts.{padded}
+use Rattle.texts.specs.Texts.{padded}
 use Rattle.passage.specs.Layout.{ownerOf, stopOf, statusOf, stopTypeOf, showCancelledOf, flexibleOf, monitoredOf, row-wide}
 use Rattle.table.specs.Rules.{rows}
 use Rattle.shows.specs.Show.{departs, momentAt, atStop, cancelShown, flexibleShown, mayShow, shows}

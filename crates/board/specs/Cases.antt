@@ -8,7 +8,7 @@ use Rattle.lists.specs.Part.{part}
 use Rattle.lists.specs.Text.{bytes, same}
 use Rattle.clock.specs.Date.{daysIn}
 use Rattle.clock.specs.Moment.{monthStart, dayCount}
-use Rattle.fields.specs.Texts.{padded}
+use Rattle.texts.specs.Texts.{padded}
 use Rattle.shows.specs.Show.{departs, momentAt, atStop, mayShow, shows}
 use Rattle.board.specs.Rules.{placeIn, listFrom, listed}
 

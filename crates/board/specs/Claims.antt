@@ -8,7 +8,7 @@ use lib.Dec.{eqb}
 use lib.ListN.{length, getD}
 use Rattle.lists.specs.Logic.{on}
 use Rattle.lists.specs.Part.{part}
-use Rattle.fields.specs.Texts.{padded}
+use Rattle.texts.specs.Texts.{padded}
 use Rattle.passage.specs.Layout.{keyOf, ownerOf, stopOf, statusOf, stopTypeOf, showCancelledOf, flexibleOf, monitoredOf, row-wide}
 use Rattle.keys.specs.declared.Order.the-variants.{Less}
 use Rattle.keys.specs.Keys.{cmp}

@@ -23,10 +23,10 @@ use Rattle.fields.specs.Digits as Digits
 use Rattle.fields.specs.Dates as Dates
 use Rattle.fields.specs.Times.{time}
 use Rattle.fields.specs.Stamps as Stamps
-use Rattle.fields.specs.Names as Names
-use Rattle.fields.specs.Texts.{allText}
-use Rattle.fields.specs.Texts as Texts
-use Rattle.fields.proofs.KeptLaws.{text-is, ok-is, kept-bytes, text-length}
+use Rattle.words.specs.Names as Names
+use Rattle.texts.specs.Texts.{allText}
+use Rattle.texts.specs.Texts as Texts
+use Rattle.texts.proofs.KeptLaws.{text-is, ok-is, kept-bytes, text-length}
 use Rattle.cells.specs.Cell.{text, date, journey, fortify, order, stamp, status, arrival, departure, stopType, bit, flexible, width, null, numberCell, timeCell, textCell, missing, timeAt, cell, some}
 
 -- ---- something is kept, or nothing

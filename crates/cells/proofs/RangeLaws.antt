@@ -23,12 +23,16 @@ use Rattle.fields.specs.Digits as Digits
 use Rattle.fields.specs.Times.{time}
 use Rattle.fields.specs.Stamps.{inStampRange}
 use Rattle.fields.specs.Stamps as Stamps
-use Rattle.fields.specs.Names as Names
-use Rattle.fields.specs.Texts.{padded, isText}
-use Rattle.fields.specs.Texts as Texts
-use Rattle.fields.specs.Claims.{NumbersOnly, TimesOnly, DatesOnly, StampsGiven, Words, WordsWithin, NoContentOutside}
+use Rattle.words.specs.Names as Names
+use Rattle.texts.specs.Texts.{padded, isText}
+use Rattle.texts.specs.Texts as Texts
+use Rattle.fields.specs.Claims.{NumbersOnly, TimesOnly, DatesOnly, StampsGiven, NoContentOutside}
 use Rattle.fields.proofs.Claims as Fields
-use Rattle.fields.proofs.KeptLaws.{ok-is, kept-bytes}
+use Rattle.texts.proofs.Claims as TextClaims
+use Rattle.words.specs.Claims as WordClaims
+use Rattle.words.specs.Claims.{Words, WordsWithin}
+use Rattle.words.proofs.Claims as WordsTold
+use Rattle.texts.proofs.KeptLaws.{ok-is, kept-bytes}
 use Rattle.cells.specs.Cell.{arrival, departure, null, numberCell, timeCell, textCell, missing, timeAt, cell, some}
 use Rattle.cells.specs.Claims.{TextsInRange, DatesInRange, NumbersInRange, StampsInRange, WordsInRange, TimeOrMissing, TimesInRange, MissingExactly, NullKeepsNothing, StopTypesCoded}
 use Rattle.cells.proofs.CellLaws.{by-kind}
@@ -42,16 +46,16 @@ numbers-only : NumbersOnly
 numbers-only = Fields.claims .1
 
 times-only : TimesOnly
-times-only = Fields.claims .7
+times-only = Fields.claims .3
 
 dates-only : DatesOnly
-dates-only = Fields.claims .9
+dates-only = Fields.claims .5
 
 stamps-given : StampsGiven
-stamps-given = Fields.claims .11
+stamps-given = Fields.claims .7
 
 words : Words
-words = Fields.claims .13
+words = WordsTold.claims .0
 
 -- ---- numbers
 
@@ -159,10 +163,13 @@ missing-exactly stop = (missing-there (bytes "FIRST") stop, missing-there (bytes
 -- ---- fields without content, and stop types
 
 outside : NoContentOutside
-outside = Fields.claims .15
+outside = Fields.claims .10
+
+no-word : WordClaims.NoContentOutside
+no-word = WordsTold.claims .2
 
 text-none : textCell (Texts.text null) ≡ []
-text-none = rw (outside .8)
+text-none = rw (TextClaims.claims .4 .1)
 
 pub null-keeps-nothing : NullKeepsNothing
 null-keeps-nothing k stop =
@@ -173,12 +180,12 @@ null-keeps-nothing k stop =
     (λ a d. ap (numberCell 1) (outside .0 2))
     (λ a d. ap (numberCell 2) (outside .0 3))
     (λ a d. ap (numberCell 4) (outside .3))
-    (λ a d. ap (numberCell 1) (outside .5))
+    (λ a d. ap (numberCell 1) (no-word .1))
     (λ a d. absurd (a refl))
     (λ a d. absurd (d refl))
-    (λ a d. ap (numberCell 1) (outside .6))
-    (λ a d. ap (numberCell 1) (outside .4))
-    (λ a d. ap (numberCell 1) (outside .7))
+    (λ a d. ap (numberCell 1) (no-word .2))
+    (λ a d. ap (numberCell 1) (no-word .0))
+    (λ a d. ap (numberCell 1) (no-word .3))
     (λ a d. refl)
 
 pub stop-types-coded : StopTypesCoded

@@ -10,7 +10,7 @@ use Rattle.lists.specs.Part.{over}
 use Rattle.lists.specs.BigEndian.{spelled}
 use Rattle.lists.proofs.OverLaws.{over-nil}
 use Rattle.lists.proofs.BigEndianLaws.{length-spelled}
-use Rattle.fields.specs.declared.Text.{Text}
+use Rattle.texts.specs.declared.Text.{Text}
 use Rattle.fields.specs.Times.{time}
 use Rattle.cells.specs.Cell.{width, null, timeCell, textCell, missing, timeAt, cell, some}
 use Rattle.cells.proofs.CellLaws.{some-long}

@@ -8,7 +8,7 @@ use Rattle.turbo.specs.Escape.{escaped, decode}
 use Rattle.fields.specs.Digits.{number, triple}
 use Rattle.fields.specs.Times.{clock, time}
 use Rattle.fields.specs.Dates as Dates
-use Rattle.fields.specs.Texts as Texts
+use Rattle.texts.specs.Texts as Texts
 use Rattle.cells.specs.declared.Table.the-variants.{Message, Planning, Calendar}
 use Rattle.cells.specs.Cell.{text, date, fortify, arrival, departure, width, null, missing, cell}
 use Rattle.cells.specs.Tables.{messageColumns, planningColumns, calendarColumns, columnsIn, rowWidth}

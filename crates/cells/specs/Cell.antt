@@ -10,13 +10,13 @@ use Rattle.fields.specs.declared.Number.{Number}
 use Rattle.fields.specs.declared.Number.the-variants as Numbers
 use Rattle.fields.specs.declared.Time.{Time}
 use Rattle.fields.specs.declared.Time.the-variants as Times
-use Rattle.fields.specs.declared.Text.{Text}
+use Rattle.texts.specs.declared.Text.{Text}
 use Rattle.fields.specs.Digits as Digits
 use Rattle.fields.specs.Dates as Dates
 use Rattle.fields.specs.Times as Clock
 use Rattle.fields.specs.Stamps as Stamps
-use Rattle.fields.specs.Names as Names
-use Rattle.fields.specs.Texts as Texts
+use Rattle.words.specs.Names as Names
+use Rattle.texts.specs.Texts as Texts
 
 -- ---- the kinds of wanted columns
 

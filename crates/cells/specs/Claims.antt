@@ -13,7 +13,7 @@ use Rattle.lists.specs.BigEndian.{number}
 use Rattle.clock.specs.Date.{isDate}
 use Rattle.turbo.specs.Escape.{decode}
 use Rattle.fields.specs.Stamps.{inStampRange}
-use Rattle.fields.specs.Texts.{padded, isText}
+use Rattle.texts.specs.Texts.{padded, isText}
 use Rattle.cells.specs.declared.Table.{Table}
 use Rattle.cells.specs.Cell.{text, date, journey, fortify, order, stamp, status, arrival, departure, stopType, bit, flexible, width, null, cell, some}
 use Rattle.cells.specs.Tables.{rowWidth}

@@ -7,7 +7,7 @@ ghost use lib.ListN.{length};
 ghost use Rattle.lists.specs.Text.{same};
 ghost use Rattle.lists.specs.Part.{over};
 ghost use Rattle.turbo.specs.Split.{fieldAt};
-ghost use Rattle.fields.specs.Texts as Texts;
+ghost use Rattle.texts.specs.Texts as Texts;
 ghost use Rattle.cells.specs.Cell.{null, width, cell, some, numberCell, textCell, timeAt};
 ghost use Rattle.cells.specs.Tables.{rowWidth};
 ghost use Rattle.cells.specs.Layout.{wanted, kindAt, optionalAt, offset, blankRow};
@@ -167,7 +167,7 @@ fn write_text(f: &[u8], row: &mut [u8], at: usize) -> bool
     ensures some { λ r. ⌜ r ≡ some (textCell (Texts.text (now (f .entry)))) ⌝ }
     ensures written { λ r. ⌜ now (row .exit) ≡ over at (textCell (Texts.text (now (f .entry)))) (now (row .entry)) ⌝ }
 {
-    let t = fields::read_text(f);
+    let t = texts::read_text(f);
     if t.ok {
         let kept = t.bytes;
         lists::copy_to(row, at, &kept);
@@ -212,11 +212,11 @@ pub fn write_cell(kind: u8, line: &[u8], stop: usize, f: &[u8], row: &mut [u8], 
         3 => write_number(fields::read_number(f, 2), 1, row, at),
         4 => write_number(fields::read_number(f, 3), 2, row, at),
         5 => write_number(fields::read_stamp(f), 4, row, at),
-        6 => write_number(fields::read_status(f), 1, row, at),
+        6 => write_number(words::read_status(f), 1, row, at),
         7 => write_time(b"FIRST", line, stop, f, row, at),
         8 => write_time(b"LAST", line, stop, f, row, at),
-        9 => write_number(fields::read_stop_type(f), 1, row, at),
-        10 => write_number(fields::read_bit(f), 1, row, at),
-        _ => write_number(fields::read_flexible(f), 1, row, at),
+        9 => write_number(words::read_stop_type(f), 1, row, at),
+        10 => write_number(words::read_bit(f), 1, row, at),
+        _ => write_number(words::read_flexible(f), 1, row, at),
     }
 }

@@ -15,7 +15,7 @@ pub fn time(v: &[u8]) {
 
 // The ten bytes that are kept. A refused text is all zero.
 pub fn text(v: &[u8]) {
-    let t = fields::read_text(v);
+    let t = texts::read_text(v);
     if !t.ok {
         say::words(b" Wrong");
     }

@@ -9,8 +9,8 @@ use lib.Dec.{eqb}
 use lib.ListN.{length, getD, replicate, length-append, length-replicate}
 use Rattle.lists.specs.Logic.{on, within}
 use Rattle.lists.proofs.LogicLaws.{both-true, within-true}
-use Rattle.fields.specs.Texts.{allText, padded, isText}
-use Rattle.fields.proofs.KeptLaws.{is-text, text-is, padded-length}
+use Rattle.texts.specs.Texts.{allText, padded, isText}
+use Rattle.texts.proofs.KeptLaws.{is-text, text-is, padded-length}
 use Rattle.passage.specs.Layout.{text-wide}
 use Rattle.passage.specs.Ranges.{allZero, textThenZeros, paddedText}
 use Rattle.passage.proofs.TestLaws.{all-pass}

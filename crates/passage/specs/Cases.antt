@@ -8,7 +8,7 @@ use Rattle.lists.specs.Part.{part}
 use Rattle.lists.specs.Rows.{rowsOf}
 use Rattle.lists.specs.BigEndian.{number, spelled}
 use Rattle.clock.specs.Date.{daysIn, isDate}
-use Rattle.fields.specs.Texts.{padded}
+use Rattle.texts.specs.Texts.{padded}
 use Rattle.passage.specs.Layout.{owner-at, date-at, line-at, journey-at, fortify-at, stop-at, order-at, key-wide, destination-at, stamp-at, status-at, arrival-at, departure-at, stop-type-at, show-cancelled-at, flexible-at, monitored-at, body-wide, heard-at, row-wide, missing, kept, keyOf, dateOf, journeyOf, departureOf, flexibleOf}
 use Rattle.passage.specs.Ranges.{paddedText, keyInRange, timesInRange, commonInRange, updateInRange, planInRange, heardInRange, rowInRange}
 use Rattle.passage.specs.Register.{among, grants, registerSound}

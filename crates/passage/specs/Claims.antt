@@ -6,7 +6,7 @@ use mathlib.Core.Logic.{_↔_}
 use Prim.Native.Nat.{ℕ, _*_, _/_, _<_}
 use lib.ListN.{length}
 use Rattle.lists.specs.Part.{part}
-use Rattle.fields.specs.Texts.{padded, isText}
+use Rattle.texts.specs.Texts.{padded, isText}
 use Rattle.passage.specs.Layout.{text-wide, body-wide, keyOf}
 use Rattle.passage.specs.Ranges.{paddedText, keyInRange, updateInRange, planInRange, rowInRange}
 use Rattle.passage.specs.Facts.{KeyFacts, UpdateFacts, PlanFacts, RowFacts}

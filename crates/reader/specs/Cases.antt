@@ -18,8 +18,8 @@ use Rattle.fields.specs.Digits.{number, triple}
 use Rattle.fields.specs.Times.{clock, time}
 use Rattle.fields.specs.Dates.{date}
 use Rattle.fields.specs.Stamps.{offset, stampSeconds, stamp}
-use Rattle.fields.specs.Names.{bit, status, stopType, flexible}
-use Rattle.fields.specs.Texts.{text}
+use Rattle.words.specs.Names.{bit, status, stopType, flexible}
+use Rattle.texts.specs.Texts.{text}
 use Rattle.cells.specs.declared.Table.the-variants.{Message, Calendar}
 use Rattle.cells.specs.Cell.{cell}
 use Rattle.cells.specs.Tables.{messageColumns, calendarColumns, columnsIn, tableName, names, misses, rowOf, wrongColumn}

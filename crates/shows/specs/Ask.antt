@@ -5,7 +5,7 @@ use mathlib.Core.List.{List}
 use lib.Dec.{leb, ltb}
 use Rattle.lists.specs.Logic.{both}
 use Rattle.clock.specs.Date.{isDate}
-use Rattle.fields.specs.Texts.{isText}
+use Rattle.texts.specs.Texts.{isText}
 
 -- texts of 1 to 10 bytes from 32 to 126, a date, a second of the day, a horizon of at most a day
 unfoldable pub asksInRange : List ℕ → List ℕ → ℕ → ℕ → ℕ → Bool

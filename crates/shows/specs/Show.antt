@@ -6,7 +6,7 @@ use lib.Dec.{eqb}
 use Rattle.lists.specs.Logic.{both, either, within}
 use Rattle.lists.specs.Text.{same}
 use Rattle.clock.specs.Moment.{momentOf}
-use Rattle.fields.specs.Texts.{padded}
+use Rattle.texts.specs.Texts.{padded}
 use Rattle.passage.specs.Layout.{ownerOf, stopOf, dateOf, departureOf, statusOf, stopTypeOf, showCancelledOf, flexibleOf, monitoredOf}
 
 -- the moment at which a passage departs: its operating-day time, joined with the clock through its date

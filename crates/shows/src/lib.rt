@@ -6,7 +6,7 @@ ghost use Prim.Native.Nat.{_+_, _≤_};
 ghost use lib.ListN.{length};
 ghost use Rattle.lists.specs.Part.{part};
 ghost use Rattle.lists.specs.Text.{same};
-ghost use Rattle.fields.specs.Texts.{isText};
+ghost use Rattle.texts.specs.Texts.{isText};
 ghost use Rattle.passage.specs.Layout.{row-wide, ownerOf};
 ghost use Rattle.passage.specs.Ranges.{rowInRange};
 ghost use Rattle.shows.specs.Ask.{asksInRange};

@@ -7,7 +7,7 @@ use Rattle.turbo.specs.Split.{fieldAt}
 use Rattle.fields.specs.Digits as Digits
 use Rattle.fields.specs.Dates as Dates
 use Rattle.fields.specs.Stamps as Stamps
-use Rattle.fields.specs.Names as Names
+use Rattle.words.specs.Names as Names
 use Rattle.cells.specs.Cell.{width, numberCell, timeAt, cell}
 use Rattle.cells.proofs.WriteLaws.{Kept, kept-as, wide-as, kind-as, last-kind}
 use Rattle.cells.proofs.write_cell.Statement.{statement}

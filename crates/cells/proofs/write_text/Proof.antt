@@ -3,8 +3,8 @@ use native.Mathlib.Omega.{arith}
 use borrow.Author.Needs.{needs}
 use denote.Ref.{now}
 use lib.ListN.{length}
-use Rattle.fields.specs.declared.Text.{Text}
-use Rattle.fields.proofs.KeptLaws.{text-length}
+use Rattle.texts.specs.declared.Text.{Text}
+use Rattle.texts.proofs.KeptLaws.{text-length}
 use Rattle.cells.specs.Cell.{textCell}
 use Rattle.cells.proofs.WriteLaws.{kept-none, kept-long, text-kept, text-refused}
 use Rattle.cells.proofs.write_text.Statement.{statement}
