@@ -1,7 +1,7 @@
 -- Updates, one after another: whether they are in range and in order, and where those of one number stand. Assumes nothing.
 use mathlib.Core.Path.{_≡_, refl, sym, _∙_}
 use mathlib.Core.Bool.{Bool, true, false}
-use mathlib.Core.List.{List, [], _∷_}
+use mathlib.Core.List.{List, [], _∷_, map}
 use Prim.Native.Nat.{ℕ, suc, _+_, _*_, _≤_, _<_}
 use borrow.Author.Tests.{eq-eqb, ne-eqb}
 use lib.Dec.{eqb, leb}
@@ -10,9 +10,12 @@ use Rattle.lists.specs.Logic.{both, either, within}
 use Rattle.lists.specs.Part.{part}
 use Rattle.lists.specs.Rows.{rowsOf}
 use Rattle.lists.specs.BigEndian.{number}
+use Rattle.lists.proofs.LogicLaws.{both-true}
 use Rattle.passage.specs.Layout.{body-wide}
-use Rattle.passage.specs.Ranges.{updateInRange}
-use Rattle.book.specs.Entries.{number-at, number-wide, sender-at, body-at, entry-wide, kindOf, numberOf, senderOf}
+use Rattle.passage.specs.Ranges.{allCommon, updateInRange}
+use Rattle.passage.proofs.TestLaws.{not-then}
+use Rattle.passage.proofs.RangeLaws.{update-facts, facts-common}
+use Rattle.book.specs.Entries.{number-at, number-wide, sender-at, body-at, entry-wide, kindOf, numberOf, senderOf, bodyOf}
 use Rattle.book.specs.Rules.{entryInRange, mayFollow, chained, noEntry, firstOf, runOf}
 use Rattle.book.specs.Steps.{followsAs, chainedAs}
 use Rattle.book.proofs.TestLaws.{both-assoc}
@@ -37,6 +40,20 @@ chained-as : (before : List ℕ) (es : List (List ℕ)) → chained before es �
 unfolding chained chainedAs mayFollow followsAs
 chained-as before [] = refl
 chained-as before (e ∷ es) = rw (chained-as e es) (sym (both-assoc (entryInRange e) _ _))
+
+-- what is in range has what is common in range
+chain-common : (before : List ℕ) (es : List (List ℕ)) → chained before es ≡ true → allCommon (map bodyOf es) ≡ true
+unfolding chained entryInRange allCommon
+chain-common before [] e = refl
+chain-common before (x ∷ es) e =
+    let p = both-true (entryInRange x) (both (mayFollow before x) (chained x es)) e in
+    let q = both-true (within 2 3 (kindOf x)) (both (leb 1 (senderOf x)) (updateInRange (bodyOf x))) (p .0) in
+    let u = both-true (leb 1 (senderOf x)) (updateInRange (bodyOf x)) (q .1) .1 in
+    let r = both-true (mayFollow before x) (chained x es) (p .1) .1 in
+    rw (facts-common (bodyOf x) (update-facts (bodyOf x) u .common)) (chain-common x es r)
+
+pub chain-none : (es : List (List ℕ)) → allCommon (map bodyOf es) ≡ false → chained noEntry es ≡ false
+chain-none es e = not-then (chained noEntry es) (allCommon (map bodyOf es)) (chain-common noEntry es) e
 
 module _ (b : List ℕ) (at m : ℕ) where
   pub chain-start : chainedAs 0 0 0 (rest b at m 0) ≡ chained noEntry (rowsOf entry-wide m (drop at b))

@@ -1,25 +1,17 @@
--- What a turn of each loop decides: a plan entry by its place, an update by the number, sender and kind before it. Assumes nothing.
-use Prim.Native.Nat.{ℕ, zero, suc, _+_, _*_}
+-- A plan entry by its place, and what a turn of the loop over updates decides, by the number, sender and kind before. Assumes nothing.
+use Prim.Native.Nat.{ℕ, _+_, _*_}
 use mathlib.Core.Bool.{Bool, true}
 use mathlib.Core.List.{List, [], _∷_}
 use lib.Dec.{eqb}
 use Rattle.lists.specs.Logic.{both, either}
 use Rattle.lists.specs.Part.{part}
-use Rattle.passage.specs.Layout.{body-wide, keyOf}
-use Rattle.passage.specs.Ranges.{planInRange}
-use Rattle.keys.specs.Keys.{cmp}
-use Rattle.keys.specs.Sorted.{isLess}
+use Rattle.passage.specs.Layout.{body-wide}
 use Rattle.book.specs.Entries.{plan-wide, kindOf, numberOf, senderOf}
 use Rattle.book.specs.Rules.{entryInRange}
 
 -- the body of the plan entry at place i
 abbrev pub planBodyAt : ℕ → List ℕ → List ℕ
 planBodyAt i b = part (i * plan-wide + 1) body-wide b
-
--- the plan entry at place i is in range, and its key is above that of the entry before it
-unfoldable pub planFits : ℕ → List ℕ → Bool
-planFits zero b = planInRange (planBodyAt 0 b)
-planFits (suc i) b = both (isLess (cmp (keyOf (planBodyAt i b)) (keyOf (planBodyAt (suc i) b)))) (planInRange (planBodyAt (suc i) b))
 
 -- the entry e may stand behind one with number n, sender s and kind k
 unfoldable pub followsAs : ℕ → ℕ → ℕ → List ℕ → Bool

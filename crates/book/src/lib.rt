@@ -10,10 +10,11 @@ ghost use Rattle.lists.specs.Logic.{both};
 ghost use Rattle.lists.specs.Part.{part, over};
 ghost use Rattle.lists.specs.Rows.{rowsOf, flat};
 ghost use Rattle.passage.specs.Layout.{key-wide, body-wide, row-wide};
+ghost use Rattle.passage.specs.Ranges.{commonInRange, allCommon};
 ghost use Rattle.keys.specs.Sorted.{sortedRows, lookup, get};
-ghost use Rattle.book.specs.Entries.{plan-wide, entry-wide, entryOf, entriesOf, planCount, planBodyOf, updatesIn};
+ghost use Rattle.book.specs.Entries.{plan-wide, body-at, entry-wide, entryOf, entriesOf, planCount, planBodyOf, bodyOf, updatesIn};
 ghost use Rattle.book.specs.Rules.{allPlans, bookRoom, bookSound, chained, entryInRange, noEntry, nextNumber, marked, firstOf, runOf, planRows};
-ghost use Rattle.book.specs.Steps.{planFits, followsAs};
+ghost use Rattle.book.specs.Steps.{followsAs};
 ghost use Rattle.book.specs.Held.{heldAs, some};
 
 // A plan entry: kind 1, then a body.
@@ -56,26 +57,16 @@ pub fn count_plans(b: &[u8], used: usize) -> usize
     n
 }
 
-// Whether the plan entry at place i is in range, its key above that of the entry before.
-fn plan_fits(b: &[u8], i: usize) -> bool
-    requires { ⌜ i * plan-wide + plan-wide ≤ length (now b) ⌝ }
-    ensures { λ r. ⌜ r ≡ planFits i (now (b .entry)) ⌝ }
-{
-    if i == 0 {
-        return passage::plan_in_range(b, 1);
-    }
-    let p = i * PLAN_WIDE + 1;
-    keys::is_below(b, p - PLAN_WIDE, b, p) & passage::plan_in_range(b, p)
-}
-
-// Whether the first n plan entries are in range, by key strictly rising.
-fn plans_are_sound(b: &[u8], n: usize) -> bool
+// Whether each of the first n plan entries is in range, where what is common is.
+fn plans_in_range(b: &[u8], n: usize) -> bool
     requires { ⌜ n * plan-wide ≤ length (now b) ⌝ }
-    ensures { λ r. ⌜ r ≡ both (allPlans (map planBodyOf (rowsOf plan-wide n (now (b .entry))))) (sortedRows (map planBodyOf (rowsOf plan-wide n (now (b .entry))))) ⌝ }
+    requires { ⌜ allCommon (map planBodyOf (rowsOf plan-wide n (now b))) ≡ true ⌝ }
+    ensures { λ r. ⌜ r ≡ allPlans (map planBodyOf (rowsOf plan-wide n (now (b .entry)))) ⌝ }
 {
     let mut i = 0;
     while i < n {
-        if plan_fits(b, i) {
+        let good = passage::plan_in_range(b, i * PLAN_WIDE + 1);
+        if good {
             i += 1;
         } else {
             return false;
@@ -84,9 +75,28 @@ fn plans_are_sound(b: &[u8], n: usize) -> bool
     true
 }
 
-// Whether the update from p on is in range and may stand behind one with this number, sender and kind.
+// Whether the first n plan entries are in range, by key strictly rising.
+fn plans_are_sound(b: &[u8], n: usize) -> bool
+    requires { ⌜ n * plan-wide ≤ length (now b) ⌝ }
+    ensures { λ r. ⌜ r ≡ both (allPlans (map planBodyOf (rowsOf plan-wide n (now (b .entry))))) (sortedRows (map planBodyOf (rowsOf plan-wide n (now (b .entry))))) ⌝ }
+{
+    let common = passage::all_common(b, 0, PLAN_WIDE, 1, n);
+    if common {
+        let good = plans_in_range(b, n);
+        if good {
+            keys::keys_rise(b, PLAN_WIDE, 1, n)
+        } else {
+            false
+        }
+    } else {
+        false
+    }
+}
+
+// Whether the update from p on is in range, where what is common is, and may stand behind one with this number, sender and kind.
 fn entry_is_sound(b: &[u8], p: usize, number: u32, sender: u8, kind: u8) -> bool
     requires { ⌜ p + entry-wide ≤ length (now b) ⌝ }
+    requires { ⌜ commonInRange (part (p + body-at) body-wide (now b)) ≡ true ⌝ }
     ensures { λ r. ⌜ r ≡ both (entryInRange (part p entry-wide (now (b .entry)))) (followsAs number sender kind (part p entry-wide (now (b .entry)))) ⌝ }
 {
     let k = b[p];
@@ -96,9 +106,10 @@ fn entry_is_sound(b: &[u8], p: usize, number: u32, sender: u8, kind: u8) -> bool
     (((2 <= k) & (k <= 3)) & ((1 <= s) & passage::update_in_range(b, p + BODY_AT))) & follows
 }
 
-// Whether the m updates from `at` on are in range, each where it may follow the one before.
-fn updates_are_sound(b: &[u8], at: usize, m: usize) -> bool
+// Whether the m updates from `at` on are in range, where what is common is, each where it may follow the one before.
+fn updates_follow(b: &[u8], at: usize, m: usize) -> bool
     requires { ⌜ at + m * entry-wide ≤ length (now b) ⌝ }
+    requires { ⌜ allCommon (map bodyOf (rowsOf entry-wide m (drop at (now b)))) ≡ true ⌝ }
     ensures { λ r. ⌜ r ≡ chained noEntry (rowsOf entry-wide m (drop at (now (b .entry)))) ⌝ }
 {
     let mut number: u32 = 0;
@@ -117,6 +128,19 @@ fn updates_are_sound(b: &[u8], at: usize, m: usize) -> bool
         }
     }
     true
+}
+
+// Whether the m updates from `at` on are in range, each where it may follow the one before.
+fn updates_are_sound(b: &[u8], at: usize, m: usize) -> bool
+    requires { ⌜ at + m * entry-wide ≤ length (now b) ⌝ }
+    ensures { λ r. ⌜ r ≡ chained noEntry (rowsOf entry-wide m (drop at (now (b .entry)))) ⌝ }
+{
+    let common = passage::all_common(b, at, ENTRY_WIDE, BODY_AT, m);
+    if common {
+        updates_follow(b, at, m)
+    } else {
+        false
+    }
 }
 
 // Of the lent book, what may be used.

@@ -6,4 +6,5 @@ pub mod FindLaws
 pub mod EqualLaws
 pub mod CountLaws
 pub mod ReplayLaws
+pub mod RiseLaws
 pub mod Determined

@@ -2,8 +2,7 @@
 use mathlib.Core.Path.{_≡_, refl, sym, ap, _∙_}
 use mathlib.Core.Bool.{Bool, true, false, _&&_, _||_}
 use mathlib.Core.List.{List, [], _∷_, _++_}
-use Prim.Native.Nat.{ℕ, _+_, _-_, _^_, _≤_, _<_}
-use native.Mathlib.Nat.{add-zero, lt-of-lt-of-le, pow-le-pow-right}
+use Prim.Native.Nat.{ℕ, _+_, _*_, _-_, _≤_, _<_}
 use mathlib.Core.Logic.{_⊎_, inl, inr}
 use native.Mathlib.Omega.{arith}
 use borrow.Author.Tests.{lt-ltb, le-ltb, eq-eqb, ne-eqb}
@@ -15,19 +14,32 @@ use Rattle.lists.specs.Part.{part}
 use Rattle.lists.specs.BigEndian.{number, precedes}
 use Rattle.lists.proofs.EachLaws.{bytes-part}
 use Rattle.lists.proofs.PartLaws.{part-add, part-step, part-done, length-part}
-use Rattle.lists.proofs.BigEndianLaws.{number-below, number-same, precedes-number}
+use Rattle.lists.proofs.NumberTurnLaws.{read-start, read-turn}
+use Rattle.lists.proofs.BigEndianLaws.{number-same, precedes-number}
 use Rattle.keys.specs.declared.Order.{Order}
 use Rattle.keys.specs.declared.Order.the-variants.{Less, Same, More}
 use Rattle.keys.specs.Keys.{cmp, byByte}
 use Rattle.keys.specs.Sorted.{isLess}
 use Rattle.keys.proofs.KeyLaws.{tri, byByte-eq, flipped}
 
--- up to seven bytes leave room for one more in 64 bits
-pub word-fits : (at i n : ℕ) (s : List ℕ) → n ≡ number (part at i s) → Bytes s → at + i ≤ length s → i ≤ 7 → n < 256 ^ 7
-word-fits at i n s e b h k =
-    let l = length-part at i s h in
-    let f : number (part at i s) < 256 ^ i = rw l at (number-below (part at i s) (bytes-part at i s b)) in
-    rw e (lt-of-lt-of-le f (pow-le-pow-right {n = 256} (omega arith) k))
+-- a word by its bytes
+pub word-is :
+    (at : ℕ) (s : List ℕ) → at + 8 ≤ length s
+    → getD s at 0 * 72057594037927936 + getD s (at + 1) 0 * 281474976710656 + (getD s (at + 2) 0 * 1099511627776 + getD s (at + 3) 0 * 4294967296)
+    + (getD s (at + 4) 0 * 16777216 + getD s (at + 5) 0 * 65536 + (getD s (at + 6) 0 * 256 + getD s (at + 7) 0))
+    ≡ number (part at 8 s)
+word-is at s h =
+    let z : at + 0 ≡ at = omega arith in
+    let e0 : 0 ≡ number (part at 0 s) = read-start at s in
+    let e1 : number (part at 0 s) * 256 + getD s at 0 ≡ number (part at 1 s) = rw z at (read-turn at 0 (number (part at 0 s)) s refl (omega arith)) in
+    let e2 : number (part at 1 s) * 256 + getD s (at + 1) 0 ≡ number (part at 2 s) = read-turn at 1 (number (part at 1 s)) s refl (omega arith) in
+    let e3 : number (part at 2 s) * 256 + getD s (at + 2) 0 ≡ number (part at 3 s) = read-turn at 2 (number (part at 2 s)) s refl (omega arith) in
+    let e4 : number (part at 3 s) * 256 + getD s (at + 3) 0 ≡ number (part at 4 s) = read-turn at 3 (number (part at 3 s)) s refl (omega arith) in
+    let e5 : number (part at 4 s) * 256 + getD s (at + 4) 0 ≡ number (part at 5 s) = read-turn at 4 (number (part at 4 s)) s refl (omega arith) in
+    let e6 : number (part at 5 s) * 256 + getD s (at + 5) 0 ≡ number (part at 6 s) = read-turn at 5 (number (part at 5 s)) s refl (omega arith) in
+    let e7 : number (part at 6 s) * 256 + getD s (at + 6) 0 ≡ number (part at 7 s) = read-turn at 6 (number (part at 6 s)) s refl (omega arith) in
+    let e8 : number (part at 7 s) * 256 + getD s (at + 7) 0 ≡ number (part at 8 s) = read-turn at 7 (number (part at 7 s)) s refl (omega arith) in
+    omega arith
 
 -- ---- as many bytes in front decide, or else the rest
 

@@ -1,13 +1,15 @@
 // The order of keys, and rows sorted by key.
 ghost use mathlib.Core.Path.{_≡_};
-ghost use Prim.Native.Nat.{_+_, _≤_};
+ghost use mathlib.Core.List.{map};
+ghost use Prim.Native.Nat.{_+_, _*_, _-_, _≤_};
 ghost use lib.ListN.{length};
 ghost use Rattle.lists.specs.Part.{part};
+ghost use Rattle.lists.specs.Rows.{rowsOf};
 ghost use Rattle.lists.specs.BigEndian.{number};
 ghost use Rattle.passage.specs.Layout.{key-wide};
 ghost use Rattle.keys.specs.Keys.{cmp, byByte};
 ghost use Rattle.keys.specs.declared.Order.the-variants.{Same};
-ghost use Rattle.keys.specs.Sorted.{isLess};
+ghost use Rattle.keys.specs.Sorted.{isLess, sortedRows};
 
 pub enum Order {
     Less,
@@ -26,19 +28,18 @@ const WORDS: usize = passage::KEY_WIDE / 8;
 
 const LAST: usize = passage::KEY_WIDE - 1;
 
-// The number that the eight bytes from `at` on spell: between as many bytes, byte order is the order of the numbers.
+// The number that the eight bytes from `at` on spell: between as many bytes, byte order is the order of the numbers. In this shape the compiler makes one load of it.
 fn word_at(s: &[u8], at: usize) -> u64
     requires { ⌜ at + 8 ≤ length (now s) ⌝ }
     ensures { λ r. ⌜ r ≡ number (part at 8 (now (s .entry))) ⌝ }
 {
-    let mut n: u64 = 0;
-    let mut k = 0;
-    while k < 8 {
-        let b = s[at + k] as u64;
-        n = n * 256 + b;
-        k += 1;
-    }
-    n
+    let high = s[at] as u64 * 72057594037927936
+        + s[at + 1] as u64 * 281474976710656
+        + (s[at + 2] as u64 * 1099511627776 + s[at + 3] as u64 * 4294967296);
+    let low = s[at + 4] as u64 * 16777216
+        + s[at + 5] as u64 * 65536
+        + (s[at + 6] as u64 * 256 + s[at + 7] as u64);
+    high + low
 }
 
 // The last bytes of two keys.
@@ -75,7 +76,7 @@ pub fn compare_key(a: &[u8], p: usize, b: &[u8], q: usize) -> Order
 }
 
 // Whether the key at p of a is below the key at q of b. No branch: keys that stand side by side differ at any place.
-pub fn is_below(a: &[u8], p: usize, b: &[u8], q: usize) -> bool
+fn is_below(a: &[u8], p: usize, b: &[u8], q: usize) -> bool
     requires { ⌜ (p + key-wide ≤ length (now a)) × (q + key-wide ≤ length (now b)) ⌝ }
     ensures { λ r. ⌜ r ≡ isLess (cmp (part p key-wide (now (a .entry))) (part q key-wide (now (b .entry)))) ⌝ }
 {
@@ -90,4 +91,22 @@ pub fn is_below(a: &[u8], p: usize, b: &[u8], q: usize) -> bool
         word += 1;
     }
     below | (equal & (a[p + LAST] < b[q + LAST]))
+}
+
+// Whether the keys rise strictly that stand from `off` on in each of n rows of w bytes.
+pub fn keys_rise(s: &[u8], w: usize, off: usize, n: usize) -> bool
+    requires { ⌜ (n * w ≤ length (now s)) × (off + key-wide ≤ w) ⌝ }
+    ensures { λ r. ⌜ r ≡ sortedRows (map (part off (w - off)) (rowsOf w n (now (s .entry)))) ⌝ }
+{
+    let mut p = off;
+    let mut i = 0;
+    while i + 1 < n {
+        if is_below(s, p, s, p + w) {
+            p += w;
+            i += 1;
+        } else {
+            return false;
+        }
+    }
+    true
 }

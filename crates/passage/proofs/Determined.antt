@@ -1,6 +1,8 @@
 -- The promise of each public function allows one answer, which follows from what was passed. None is lent bytes to write. Assumes nothing.
 use mathlib.Core.Path.{sym, _∙_}
 use Rattle.lists.proofs.Promise.{Determined}
+use Rattle.passage.proofs.all_common.Kinds as all-common
+use Rattle.passage.proofs.all_common.Reads as all-common-reads
 use Rattle.passage.proofs.update_in_range.Kinds as update-in-range
 use Rattle.passage.proofs.update_in_range.Reads as update-in-range-reads
 use Rattle.passage.proofs.plan_in_range.Kinds as plan-in-range
@@ -11,6 +13,9 @@ use Rattle.passage.proofs.registered.Kinds as registered
 use Rattle.passage.proofs.registered.Reads as registered-reads
 use Rattle.passage.proofs.register_is_sound.Kinds as register-is-sound
 use Rattle.passage.proofs.register_is_sound.Reads as register-is-sound-reads
+
+pub all-common-determined : Determined 1 all-common.ps all-common.r all-common-reads.Post (λ κs x s. x)
+all-common-determined κs a x y s t p q = p ∙ sym q
 
 pub update-in-range-determined : Determined 1 update-in-range.ps update-in-range.r update-in-range-reads.Post (λ κs x s. x)
 update-in-range-determined κs a x y s t p q = p ∙ sym q

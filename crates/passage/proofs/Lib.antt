@@ -6,4 +6,6 @@ pub mod RangeLaws
 pub mod PlanLaws
 pub mod RegisterLaws
 pub mod Claims
+pub mod StepLaws
+pub mod CommonLaws
 pub mod Determined

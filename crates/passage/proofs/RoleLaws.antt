@@ -2,7 +2,7 @@
 use mathlib.Core.Path.{_≡_, _∙_, refl, sym}
 use mathlib.Core.Bool.{Bool, true, false, not, _&&_, _||_}
 use mathlib.Core.List.{List, [], _∷_, _++_}
-use Prim.Native.Nat.{ℕ, zero, suc, _+_, _≤_, _<_}
+use Prim.Native.Nat.{ℕ, zero, suc, _+_, _-_, _≤_, _<_}
 use native.Mathlib.Nat.{add-zero}
 use native.Mathlib.Numerals.{add-one}
 use native.Mathlib.Omega.{arith}
@@ -18,7 +18,7 @@ use Rattle.lists.proofs.PartLaws.{part-part}
 use Rattle.clock.proofs.BelowLaws.{below-at}
 use Rattle.passage.specs.Layout.{text-wide, date-wide, journey-wide, order-wide, owner-at, line-at, stop-at, destination-at, stamp-at, body-wide}
 use Rattle.passage.specs.Ranges.{allZero, textThenZeros, paddedText}
-use Rattle.passage.specs.Roles.{roleIn, textRoles, roles, breaksText, textsPadded}
+use Rattle.passage.specs.Roles.{roleIn, textRoles, roles-wide, roles, breaksText, textsPadded}
 use Rattle.passage.proofs.TestLaws.{and-assoc, and-last, and-none}
 
 -- no byte breaks its text: the roles, and the bytes from the first role's byte on
@@ -95,9 +95,9 @@ role-most from i =
 abbrev reckoned : ℕ → ℕ
 reckoned i = roleIn owner-at i + roleIn line-at i + roleIn stop-at i + roleIn destination-at i
 
-pub role-listed : (i : ℕ) → i < stamp-at → reckoned i ≡ getD roles i 0
+pub role-listed : (i : ℕ) → i < roles-wide → reckoned i ≡ getD roles i 0
 unfolding roleIn
-role-listed i h = eqb→eq (reckoned i) (getD roles i 0) (below-at (λ k. eqb (reckoned k) (getD roles k 0)) stamp-at tt i h)
+role-listed i h = eqb→eq (reckoned i) (getD roles i 0) (below-at (λ k. eqb (reckoned k) (getD roles k 0)) roles-wide tt i h)
 
 -- a text, and what stands behind g bytes of no text
 text-then :
@@ -116,11 +116,19 @@ text-then s at g next ms h e =
       e,
     )
 
-module _ (s : List ℕ) (at : ℕ) (fits : at + body-wide ≤ length s) where
-  last-text : clean (textRoles 8) (drop (at + destination-at) s) ≡ paddedText (part (at + destination-at) text-wide s)
-  unfolding part
-  last-text = clean-padded (drop (at + destination-at) s) (rw length-drop (omega arith))
+-- a text, and g bytes of no text behind it
+text-last : (s : List ℕ) (at g : ℕ) → at + text-wide ≤ length s → clean (textRoles 8 ++ replicate g 0) (drop at s) ≡ paddedText (part at text-wide s)
+unfolding part
+text-last s at g h =
+    rw (
+      clean-append (textRoles 8) (replicate g 0) (drop at s),
+      clean-padded (drop at s) (rw length-drop (omega arith)),
+      drop-drop text-wide at s,
+      clean-none g (drop (at + text-wide) s),
+    )
+    (and-last (paddedText (take text-wide (drop at s))))
 
+module _ (s : List ℕ) (at : ℕ) (fits : at + body-wide ≤ length s) where
   pub texts-start : clean roles (drop (at + owner-at) s) ≡ textsPadded (part at body-wide s)
   unfolding textsPadded
   texts-start =
@@ -132,8 +140,8 @@ module _ (s : List ℕ) (at : ℕ) (fits : at + body-wide ≤ length s) where
         part-part destination-at text-wide at body-wide s (omega arith),
         text-then s (at + owner-at) date-wide (at + line-at) _ (omega arith) (omega arith),
         text-then s (at + line-at) (journey-wide + 1) (at + stop-at) _ (omega arith) (omega arith),
-        text-then s (at + stop-at) order-wide (at + destination-at) (textRoles 8) (omega arith) (omega arith),
-        last-text,
+        text-then s (at + stop-at) order-wide (at + destination-at) (textRoles 8 ++ replicate (roles-wide - stamp-at) 0) (omega arith) (omega arith),
+        text-last s (at + destination-at) (roles-wide - stamp-at) (omega arith),
         and-assoc (text owner-at && text line-at),
         and-assoc (text owner-at),
       )

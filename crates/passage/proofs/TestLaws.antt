@@ -1,5 +1,5 @@
 -- Tests joined by `&&` and `||`. Assumes nothing.
-use mathlib.Core.Path.{_≡_, refl, sym}
+use mathlib.Core.Path.{_≡_, refl, sym, _∙_}
 use mathlib.Core.Bool.{Bool, true, false, _&&_, _||_}
 use mathlib.Core.List.{List, [], _∷_}
 use Prim.Native.Nat.{ℕ, zero, suc}
@@ -24,6 +24,11 @@ pub tests-equal : (a b : Bool) → (a ≡ true → b ≡ true) → (b ≡ true �
 tests-equal true b f g = sym (f refl)
 tests-equal false true f g = g refl
 tests-equal false false f g = refl
+
+-- a test does not pass where what follows from it does not
+pub not-then : (a b : Bool) → (a ≡ true → b ≡ true) → b ≡ false → a ≡ false
+not-then true b f e = sym (f refl) ∙ e
+not-then false b f e = refl
 
 pub or-assoc : (a b c : Bool) → a || b || c ≡ a || (b || c)
 or-assoc true b c = refl

@@ -1,19 +1,23 @@
 -- The four texts of a body, and what a byte may be in its text. Assumes nothing.
-use Prim.Native.Nat.{ℕ, _+_}
+use Prim.Native.Nat.{ℕ, _+_, _-_}
 use mathlib.Core.Bool.{Bool, not, _&&_, _||_}
 use mathlib.Core.List.{List, [], _∷_, _++_}
 use lib.Dec.{eqb, leb, ltb}
 use lib.ListN.{replicate}
 use mir.Val.{boolByte}
 use Rattle.lists.specs.Logic.{within}
-use Rattle.passage.specs.Layout.{text-wide, date-wide, journey-wide, order-wide, ownerOf, lineOf, stopOf, destinationOf}
+use Rattle.passage.specs.Layout.{text-wide, date-wide, journey-wide, order-wide, stamp-at, ownerOf, lineOf, stopOf, destinationOf}
 use Rattle.passage.specs.Ranges.{paddedText}
 
 -- the roles of a text's n + 2 bytes: 1 the first, 2 one between, 3 the last
 abbrev pub textRoles : ℕ → List ℕ
 textRoles n = 1 ∷ replicate n 2 ++ 3 ∷ []
 
--- the roles of a body's bytes up to the end of its last text: 0 is in no text
+-- the texts are tested over so many bytes of a body
+abbrev pub roles-wide : ℕ
+roles-wide = 64
+
+-- the roles of these bytes: 0 is in no text
 abbrev pub roles : List ℕ
 roles =
     textRoles 8
@@ -23,6 +27,7 @@ roles =
     ++ textRoles 8
     ++ replicate order-wide 0
     ++ textRoles 8
+    ++ replicate (roles-wide - stamp-at) 0
 
 -- the role of byte i in a text from `from` on
 unfoldable pub roleIn : ℕ → ℕ → ℕ

@@ -1,13 +1,17 @@
 // How a passage lies in bytes, the ranges of its fields, and the register of senders and owners.
 ghost use mathlib.Core.Path.{_≡_};
-ghost use Prim.Native.Nat.{_+_, _≤_, _<_};
-ghost use lib.ListN.{length, getD};
-ghost use mathlib.Core.List.{_∷_};
+ghost use mathlib.Core.Bool.{true};
+ghost use mathlib.Core.List.{_∷_, map};
+ghost use Prim.Native.Nat.{_+_, _*_, _≤_, _<_};
+ghost use lib.ListN.{length, getD, drop};
 ghost use Rattle.lists.specs.Text.{same};
 ghost use Rattle.lists.specs.Part.{part};
-ghost use Rattle.passage.specs.Layout.{text-wide, stamp-at, body-wide, row-wide};
-ghost use Rattle.passage.specs.Roles.{roleIn, roles, breaksText, textsPadded};
-ghost use Rattle.passage.specs.Ranges.{timesInRange, commonInRange, updateInRange, planInRange, heardInRange, rowInRange};
+ghost use Rattle.lists.specs.Rows.{rowsOf};
+ghost use Rattle.lists.specs.BigEndian.{number};
+ghost use Rattle.clock.specs.Date.{isDate};
+ghost use Rattle.passage.specs.Layout.{text-wide, date-at, date-wide, body-wide, row-wide};
+ghost use Rattle.passage.specs.Roles.{roleIn, roles-wide, roles, breaksText, textsPadded};
+ghost use Rattle.passage.specs.Ranges.{timesInRange, commonInRange, allCommon, updateInRange, planInRange, heardInRange, rowInRange};
 ghost use Rattle.passage.specs.Register.{pair-wide, grants, registerSound};
 
 // Widths of fields.
@@ -75,6 +79,9 @@ pub const MISSING: u32 = 16777215;
 // An absent optional of an update: the held content stays.
 pub const KEPT: u8 = 255;
 
+// The texts are tested over so many bytes: four whole vectors, and none left over.
+const ROLES_WIDE: usize = 64;
+
 // What the byte `i` is to the text from `from` on: 0 not in it, 1 its first byte, 2 one between, 3 its last.
 fn role_in(i: usize, from: usize) -> u8
     requires { ⌜ (i < body-wide) × (from < body-wide) ⌝ }
@@ -87,7 +94,7 @@ fn role_in(i: usize, from: usize) -> u8
 
 // What the byte `i` of a body is to its text. Reckoned and not looked up: a constant table is laid out anew wherever it is read.
 fn role(i: usize) -> u8
-    requires { ⌜ i < stamp-at ⌝ }
+    requires { ⌜ i < roles-wide ⌝ }
     ensures { λ r. ⌜ r ≡ getD roles i 0 ⌝ }
 {
     role_in(i, OWNER_AT) + role_in(i, LINE_AT) + role_in(i, STOP_AT) + role_in(i, DESTINATION_AT)
@@ -107,7 +114,7 @@ fn texts_at(s: &[u8], at: usize) -> bool
 {
     let mut bad: u8 = 0;
     let mut i = 0;
-    while i < STAMP_AT {
+    while i < ROLES_WIDE {
         let b = s[at + i];
         let next = s[at + i + 1];
         bad += breaks(role(i), b, next) as u8;
@@ -125,49 +132,83 @@ fn times_in_range(stop: u8, arrival: u32, departure: u32) -> bool
         & ((departure < 115200) | (stop == 2) & (departure == MISSING))
 }
 
+// Whether `date` is one, beside a date that is known to be one: rows side by side mostly have one date.
+fn is_date_beside(date: u32, known: u32) -> bool
+    requires { ⌜ isDate known ≡ true ⌝ }
+    ensures { λ r. ⌜ r ≡ isDate date ⌝ }
+{
+    if date == known {
+        return true;
+    }
+    clock::is_date(date)
+}
+
 // Whether what update, plan entry and row have in common is in range, from `at` on.
-fn common_at(s: &[u8], at: usize) -> bool
+fn common_at(s: &[u8], at: usize, date: u32, known: u32) -> bool
     requires { ⌜ at + body-wide ≤ length (now s) ⌝ }
+    requires { ⌜ (date ≡ number (part (at + date-at) date-wide (now s))) × (isDate known ≡ true) ⌝ }
     ensures { λ r. ⌜ r ≡ commonInRange (part at body-wide (now (s .entry))) ⌝ }
 {
-    let date = lists::get_number(s, at + DATE_AT, DATE_WIDE);
     let journey = lists::get_number(s, at + JOURNEY_AT, JOURNEY_WIDE);
     let order = lists::get_number(s, at + ORDER_AT, ORDER_WIDE);
     let arrival = lists::get_number(s, at + ARRIVAL_AT, TIME_WIDE);
     let departure = lists::get_number(s, at + DEPARTURE_AT, TIME_WIDE);
     texts_at(s, at)
-        & clock::is_date(date)
+        & is_date_beside(date, known)
         & (journey < 1000000)
         & (s[at + FORTIFY_AT] < 100)
         & (order < 1000)
         & times_in_range(s[at + STOP_TYPE_AT], arrival, departure)
 }
 
-// Whether an update's body stands from `at` on, every field in its range.
+// Whether what update, plan entry and row have in common is in range in each of n rows of w bytes, in the body from `off` on. One loop for all three, so that the
+// compiler keeps what the texts are tested against in registers.
+pub fn all_common(s: &[u8], at: usize, w: usize, off: usize, n: usize) -> bool
+    requires { ⌜ (at + n * w ≤ length (now s)) × (off + body-wide ≤ w) ⌝ }
+    ensures { λ r. ⌜ r ≡ allCommon (map (part off body-wide) (rowsOf w n (drop at (now (s .entry))))) ⌝ }
+{
+    let mut known: u32 = 20000101;
+    let mut p = at;
+    let mut i = 0;
+    while i < n {
+        let q = p + off;
+        let date = lists::get_number(s, q + DATE_AT, DATE_WIDE);
+        if common_at(s, q, date, known) {
+            known = date;
+            p += w;
+            i += 1;
+        } else {
+            return false;
+        }
+    }
+    true
+}
+
+// Whether an update's body stands from `at` on, every field in its range, where what is common is.
 pub fn update_in_range(s: &[u8], at: usize) -> bool
     requires { ⌜ at + body-wide ≤ length (now s) ⌝ }
+    requires { ⌜ commonInRange (part at body-wide (now s)) ≡ true ⌝ }
     ensures { λ r. ⌜ r ≡ updateInRange (part at body-wide (now (s .entry))) ⌝ }
 {
     let stamp = lists::get_number(s, at + STAMP_AT, STAMP_WIDE);
     let show = s[at + SHOW_CANCELLED_AT];
     let flexible = s[at + FLEXIBLE_AT];
     let monitored = s[at + MONITORED_AT];
-    common_at(s, at)
-        & fields::in_stamp_range(stamp)
+    fields::in_stamp_range(stamp)
         & (s[at + STATUS_AT] <= 5)
         & ((show <= 1) | (show == KEPT))
         & ((1 <= flexible) & (flexible <= 3) | (flexible == KEPT))
         & ((monitored <= 1) | (monitored == KEPT))
 }
 
-// Whether a plan entry's body stands from `at` on, every field in its range.
+// Whether a plan entry's body stands from `at` on, every field in its range, where what is common is.
 pub fn plan_in_range(s: &[u8], at: usize) -> bool
     requires { ⌜ at + body-wide ≤ length (now s) ⌝ }
+    requires { ⌜ commonInRange (part at body-wide (now s)) ≡ true ⌝ }
     ensures { λ r. ⌜ r ≡ planInRange (part at body-wide (now (s .entry))) ⌝ }
 {
     let stamp = lists::get_number(s, at + STAMP_AT, STAMP_WIDE);
-    common_at(s, at)
-        & (stamp == 0)
+    (stamp == 0)
         & (s[at + STATUS_AT] == 0)
         & (s[at + SHOW_CANCELLED_AT] == 1)
         & (s[at + FLEXIBLE_AT] <= 3)
@@ -181,14 +222,14 @@ fn heard_in_range(heard: u8, stamp: u32) -> bool
     (heard == 0) & (stamp == 0) | (heard == 1) & fields::in_stamp_range(stamp)
 }
 
-// Whether a row stands from `at` on, every field in its range.
+// Whether a row stands from `at` on, every field in its range, where what is common is.
 pub fn row_in_range(s: &[u8], at: usize) -> bool
     requires { ⌜ at + row-wide ≤ length (now s) ⌝ }
+    requires { ⌜ commonInRange (part at body-wide (now s)) ≡ true ⌝ }
     ensures { λ r. ⌜ r ≡ rowInRange (part at row-wide (now (s .entry))) ⌝ }
 {
     let stamp = lists::get_number(s, at + STAMP_AT, STAMP_WIDE);
-    common_at(s, at)
-        & heard_in_range(s[at + HEARD_AT], stamp)
+    heard_in_range(s[at + HEARD_AT], stamp)
         & (s[at + STATUS_AT] <= 5)
         & (s[at + SHOW_CANCELLED_AT] <= 1)
         & (s[at + FLEXIBLE_AT] <= 3)

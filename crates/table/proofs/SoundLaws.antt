@@ -1,8 +1,8 @@
 -- Soundness of a table: what its loops pass, and what follows from it. Assumes nothing.
 use mathlib.Core.Path.{_≡_, refl, sym, _∙_}
 use mathlib.Core.Bool.{Bool, true, false}
-use mathlib.Core.List.{List, [], _∷_}
-use Prim.Native.Nat.{ℕ, zero, suc, _+_, _*_, _-_, _/_, _≤_, _<_}
+use mathlib.Core.List.{List, [], _∷_, map}
+use Prim.Native.Nat.{ℕ, _+_, _*_, _-_, _/_, _≤_, _<_}
 use native.Mathlib.Nat.{mul-le-mul-right, le-trans}
 use native.Mathlib.Omega.{arith}
 use borrow.Author.Tests.{le-leb, lt-leb, leb-true, leb-false}
@@ -13,15 +13,18 @@ use Rattle.lists.specs.Each.{Each}
 use Rattle.lists.specs.Part.{part}
 use Rattle.lists.specs.Rows.{rowsOf, Wide, store}
 use Rattle.lists.proofs.LogicLaws.{both-true}
+use Rattle.lists.proofs.PartLaws.{part-part}
 use Rattle.lists.proofs.RowLaws.{rowsOf-step, rowsOf-start}
 use Rattle.lists.proofs.StoreLaws.{rowsOf-store, length-store}
-use Rattle.passage.specs.Layout.{key-wide, row-wide}
-use Rattle.passage.specs.Ranges.{rowInRange}
-use Rattle.keys.specs.Keys.{cmp}
-use Rattle.keys.specs.Sorted.{isLess, risesFrom, sortedRows, put, remove}
+use Rattle.passage.specs.Layout.{key-wide, row-wide, bodyOf}
+use Rattle.passage.specs.Ranges.{commonInRange, allCommon, rowInRange}
+use Rattle.passage.proofs.TestLaws.{not-then}
+use Rattle.passage.proofs.FieldLaws.{common-of}
+use Rattle.passage.proofs.RangeLaws.{row-facts, facts-common}
+use Rattle.keys.specs.Sorted.{sortedRows, put, remove}
 use Rattle.keys.proofs.CountLaws.{each-put, each-remove}
+use Rattle.keys.proofs.RiseLaws.{sorted-keys}
 use Rattle.table.specs.Rules.{most-rows, room, rows, allInRange, tableSound}
-use Rattle.table.proofs.RowKeyLaws.{key-part}
 
 -- ---- room
 
@@ -80,23 +83,6 @@ module _ (n : ℕ) (t : List ℕ) where
   unfolding allInRange rowsOf
   range-end i h = let e : n - i ≡ 0 = omega arith in rw e
 
-  pub sorted-step : (i : ℕ) → i + 1 < n
-      → sortedRows (rest i) ≡ both (isLess (cmp (part (i * row-wide) key-wide t) (part (i * row-wide + row-wide) key-wide t))) (sortedRows (rest (i + 1)))
-  unfolding sortedRows risesFrom
-  sorted-step i h =
-      let a : i < n = omega arith in
-      let e : (i + 1) * row-wide ≡ i * row-wide + row-wide = omega arith in
-      rw (rowsOf-step row-wide n i t a, rowsOf-step row-wide n (i + 1) t h, key-part (i * row-wide) t, key-part ((i + 1) * row-wide) t, e)
-
-few-sorted : (m : ℕ) (t : List ℕ) → m ≤ 1 → sortedRows (rowsOf row-wide m t) ≡ true
-unfolding sortedRows risesFrom rowsOf
-few-sorted zero t h = refl
-few-sorted (suc zero) t h = refl
-few-sorted (suc (suc m)) t h = absurd (omega arith)
-
-pub sorted-end : (n : ℕ) (t : List ℕ) (i : ℕ) → n ≤ i + 1 → sortedRows (rest n t i) ≡ true
-sorted-end n t i h = few-sorted (n - i) (drop (i * row-wide) t) (omega arith)
-
 -- ---- each row is in its range
 
 abbrev pub InRange : List (List ℕ) → Type 0
@@ -111,6 +97,22 @@ pub each-range : (rs : List (List ℕ)) → InRange rs → allInRange rs ≡ tru
 unfolding allInRange
 each-range [] h = refl
 each-range (r ∷ rs) h = rw (h .0) (each-range rs (h .1))
+
+-- what is in its range has what is common in range
+row-common : (r : List ℕ) → rowInRange r ≡ true → commonInRange (bodyOf r) ≡ true
+row-common r e = common-of r ∙ facts-common r (row-facts r e .common)
+
+range-common : (rs : List (List ℕ)) → allInRange rs ≡ true → allCommon (map bodyOf rs) ≡ true
+unfolding allInRange allCommon
+range-common [] e = refl
+range-common (r ∷ rs) e = let b = both-true (rowInRange r) (allInRange rs) e in rw (row-common r (b .0)) (range-common rs (b .1))
+
+pub range-none : (rs : List (List ℕ)) → allCommon (map bodyOf rs) ≡ false → allInRange rs ≡ false
+range-none rs e = not-then (allInRange rs) (allCommon (map bodyOf rs)) (range-common rs) e
+
+-- whole rows rise as their keys do
+pub rows-rise : (rs : List (List ℕ)) → sortedRows (map (part 0 row-wide) rs) ≡ sortedRows rs
+rows-rise rs = sorted-keys (part 0 row-wide) (λ r. part-part 0 key-wide 0 row-wide r (omega arith)) rs
 
 pub range-put : (r : List ℕ) (rs : List (List ℕ)) → rowInRange r ≡ true → allInRange rs ≡ true → allInRange (put r rs) ≡ true
 range-put r rs p h = each-range (put r rs) (each-put (λ (x : List ℕ). rowInRange x ≡ true) r rs p (range-each rs h))

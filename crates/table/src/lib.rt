@@ -1,13 +1,14 @@
 // The table: rows of passages, sorted by key, in lent bytes.
 ghost use mathlib.Core.Path.{_≡_};
 ghost use mathlib.Core.Bool.{true};
+ghost use mathlib.Core.List.{map};
 ghost use Prim.Native.Nat.{_+_, _*_, _<_, _≤_};
 ghost use lib.ListN.{length, set};
 ghost use Rattle.lists.specs.Part.{part};
 ghost use Rattle.lists.specs.Rows.{insertAt, removeAt, store};
-ghost use Rattle.passage.specs.Layout.{keyOf, key-wide, row-wide};
-ghost use Rattle.keys.specs.Keys.{cmp};
-ghost use Rattle.keys.specs.Sorted.{isLess, sortedRows, lookup, put, remove};
+ghost use Rattle.passage.specs.Layout.{key-wide, row-wide, bodyOf};
+ghost use Rattle.passage.specs.Ranges.{allCommon};
+ghost use Rattle.keys.specs.Sorted.{sortedRows, lookup, put, remove};
 ghost use Rattle.table.specs.Rules.{rows, room, allInRange, tableSound};
 
 // The most rows that a table has.
@@ -113,39 +114,15 @@ pub fn remove_key(t: &mut [u8], n: usize, k: &[u8], q: usize) -> usize
     }
 }
 
-// Whether each of the first n rows is in its range.
+// Whether each of the first n rows is in its range, where what is common is.
 fn all_in_range(t: &[u8], n: usize) -> bool
     requires { ⌜ n * row-wide ≤ length (now t) ⌝ }
+    requires { ⌜ allCommon (map bodyOf (rows n (now t))) ≡ true ⌝ }
     ensures { λ r. ⌜ r ≡ allInRange (rows n (now (t .entry))) ⌝ }
 {
     let mut i = 0;
     while i < n {
         let good = passage::row_in_range(t, i * passage::ROW_WIDE);
-        if good {
-            i += 1;
-        } else {
-            return false;
-        }
-    }
-    true
-}
-
-// Whether the key of the row at a is below that of the row behind it.
-fn in_order(t: &[u8], a: usize) -> bool
-    requires { ⌜ a + row-wide + row-wide ≤ length (now t) ⌝ }
-    ensures { λ r. ⌜ r ≡ isLess (cmp (part a key-wide (now (t .entry))) (part (a + row-wide) key-wide (now (t .entry)))) ⌝ }
-{
-    keys::is_below(t, a, t, a + passage::ROW_WIDE)
-}
-
-// Whether the keys of the first n rows rise.
-fn is_sorted(t: &[u8], n: usize) -> bool
-    requires { ⌜ n * row-wide ≤ length (now t) ⌝ }
-    ensures { λ r. ⌜ r ≡ sortedRows (rows n (now (t .entry))) ⌝ }
-{
-    let mut i = 0;
-    while i + 1 < n {
-        let good = in_order(t, i * passage::ROW_WIDE);
         if good {
             i += 1;
         } else {
@@ -163,6 +140,15 @@ pub fn table_is_sound(t: &[u8], n: usize) -> bool
     if most < n {
         return false;
     }
-    let good = all_in_range(t, n);
-    if good { is_sorted(t, n) } else { false }
+    let common = passage::all_common(t, 0, passage::ROW_WIDE, 0, n);
+    if common {
+        let good = all_in_range(t, n);
+        if good {
+            keys::keys_rise(t, passage::ROW_WIDE, 0, n)
+        } else {
+            false
+        }
+    } else {
+        false
+    }
 }

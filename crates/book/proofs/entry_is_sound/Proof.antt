@@ -30,7 +30,7 @@ add-update-in-range : tie.Need-add-update-in-range
 add-update-in-range c = search needs
 
 update-in-range-requires : tie.Need-update-in-range-requires
-update-in-range-requires c κs = search needs
+update-in-range-requires c κs = (search needs, c .before .before .before .before .pre .1)
 
 returns : tie.Need-returns
 returns c =

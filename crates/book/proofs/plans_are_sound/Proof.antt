@@ -1,64 +1,37 @@
-use mathlib.Core.Path.{_≡_, sym, _∙_}
-use mathlib.Core.List.{map}
-use Prim.Native.Nat.{_-_, _≤_}
-use Rattle.lists.specs.Logic.{both}
-use Rattle.lists.specs.Rows.{rowsOf}
-use Rattle.keys.specs.Sorted.{sortedRows}
-use Rattle.book.specs.Entries.{plan-wide, planBodyOf}
-use Rattle.book.specs.Rules.{allPlans}
-use Rattle.book.proofs.PlanLaws.{soundFrom, sound-start, sound-turn, sound-end}
-use borrow.Author.Needs.{needs}
+use mathlib.Core.Path.{sym, _∙_}
+use native.Mathlib.Omega.{arith}
+use Rattle.book.proofs.FindLaws.{bodies}
+use Rattle.book.proofs.PlanLaws.{plans-none}
 use Rattle.book.proofs.plans_are_sound.Statement.{statement}
 use Rattle.book.proofs.plans_are_sound.Tie as tie
 
-abbrev Inv-loop : tie.InvT-loop
-Inv-loop b n i₀ i =
-    (i ≤ n)
-    × (soundFrom b n i ≡ both (allPlans (map planBodyOf (rowsOf plan-wide n b))) (sortedRows (map planBodyOf (rowsOf plan-wide n b))))
+all-common-requires : tie.Need-all-common-requires
+all-common-requires c κs = (omega arith, omega arith)
 
-abbrev μ-loop : tie.MeasureT-loop
-μ-loop b n i₀ i = n - i
+plans-in-range-requires : tie.Need-plans-in-range-requires
+plans-in-range-requires c κs = (omega arith, sym (c .before .all-common .ensures) ∙ c .if1 .taken)
 
-loop-holds : tie.Need-loop-holds Inv-loop μ-loop
-loop-holds c = (search needs, sound-start _ _)
+keys-rise-requires : tie.Need-keys-rise-requires
+keys-rise-requires c κs = (omega arith, omega arith)
 
-plan-fits-requires : tie.Need-plan-fits-requires Inv-loop μ-loop
-plan-fits-requires c κs = search needs
+returns : tie.Need-returns
+returns c = c .keys-rise .ensures ∙ sym (rw (sym (c .before .before .plans-in-range .ensures) ∙ c .before .if2 .taken))
 
-add-i : tie.Need-add-i Inv-loop μ-loop
-add-i c = search needs
+returns-2 : tie.Need-returns-2
+returns-2 c = sym (rw (sym (c .before .plans-in-range .ensures) ∙ c .if2 .left))
 
-loop-less : tie.Need-loop-less Inv-loop μ-loop
-loop-less c = search needs
-
-loop-again : tie.Need-loop-again Inv-loop μ-loop
-loop-again c =
-    let l = c .before .before .before in
-    let a = l .before .before .args in
-    (search needs, sym (sound-turn (a .b .now) (a .n) (l .loop .i) (search needs) ∙ rw (sym (c .before .plan-fits .ensures) ∙ c .if1 .taken)) ∙ l .loop .inv .1)
-
-returns : tie.Need-returns Inv-loop μ-loop
-returns c =
-    let l = c .before .before .before in
-    let a = l .before .before .args in
-    sym (sound-turn (a .b .now) (a .n) (l .loop .i) (search needs) ∙ rw (sym (c .before .plan-fits .ensures) ∙ c .if1 .left)) ∙ l .loop .inv .1
-
-returns-2 : tie.Need-returns-2 Inv-loop μ-loop
-returns-2 c =
-    let l = c .before in
-    let a = l .before .before .args in
-    sym (sound-end (a .b .now) (a .n) (l .loop .i) (search needs)) ∙ l .loop .inv .1
+returns-3 : tie.Need-returns-3
+returns-3 c =
+    let a = c .before .before .before .args in
+    sym (rw (plans-none (bodies (a .n) (a .b .now)) (sym (c .before .all-common .ensures) ∙ c .if1 .left)))
 
 pub plans-are-sound-spec : {M : Type 1} → statement M
 plans-are-sound-spec =
     tie.close
     (tie.spec
-    Inv-loop
-    μ-loop
-    loop-holds
-    plan-fits-requires
-    add-i
-    loop-less
-    loop-again
+    all-common-requires
+    plans-in-range-requires
+    keys-rise-requires
     returns
-    returns-2)
+    returns-2
+    returns-3)

@@ -1,93 +1,31 @@
-use mathlib.Core.Path.{_≡_, sym, _∙_}
-use Prim.Native.Nat.{_-_, _≤_}
+use mathlib.Core.Path.{sym, _∙_}
+use native.Mathlib.Omega.{arith}
 use lib.ListN.{drop}
 use Rattle.lists.specs.Rows.{rowsOf}
 use Rattle.book.specs.Entries.{entry-wide}
-use Rattle.book.specs.Rules.{chained, noEntry}
-use Rattle.book.specs.Steps.{chainedAs}
-use Rattle.book.proofs.PlaceLaws.{rest}
-use Rattle.book.proofs.ChainLaws.{chain-start, chain-turn, chain-broken, chain-end}
-use borrow.Author.Needs.{needs}
+use Rattle.book.proofs.ChainLaws.{chain-none}
 use Rattle.book.proofs.updates_are_sound.Statement.{statement}
 use Rattle.book.proofs.updates_are_sound.Tie as tie
 
-abbrev Inv-loop : tie.InvT-loop
-Inv-loop b at m number₀ sender₀ kind₀ i₀ number sender kind i = (i ≤ m) × (chainedAs number sender kind (rest b at m i) ≡ chained noEntry (rowsOf entry-wide m (drop at b)))
+all-common-requires : tie.Need-all-common-requires
+all-common-requires c κs = (omega arith, omega arith)
 
-abbrev μ-loop : tie.MeasureT-loop
-μ-loop b at m number₀ sender₀ kind₀ i₀ number sender kind i = m - i
+updates-follow-requires : tie.Need-updates-follow-requires
+updates-follow-requires c κs = (omega arith, sym (c .before .all-common .ensures) ∙ c .if1 .taken)
 
-loop-holds : tie.Need-loop-holds Inv-loop μ-loop
-loop-holds c = let a = c .before .args in (search needs, chain-start (a .b .now) (a .at) (a .m))
+returns : tie.Need-returns
+returns c = c .updates-follow .ensures
 
-mul-p : tie.Need-mul-p Inv-loop μ-loop
-mul-p c = search needs
-
-add-p : tie.Need-add-p Inv-loop μ-loop
-add-p c = search needs
-
-entry-is-sound-requires : tie.Need-entry-is-sound-requires Inv-loop μ-loop
-entry-is-sound-requires c κs = search needs
-
-add-get-number : tie.Need-add-get-number Inv-loop μ-loop
-add-get-number c = search needs
-
-get-number-requires : tie.Need-get-number-requires Inv-loop μ-loop
-get-number-requires c κs = search needs
-
-add-sender : tie.Need-add-sender Inv-loop μ-loop
-add-sender c = search needs
-
-shared-slice-read-sender : tie.Need-shared-slice-read-sender Inv-loop μ-loop
-shared-slice-read-sender c = search needs
-
-shared-slice-read-kind : tie.Need-shared-slice-read-kind Inv-loop μ-loop
-shared-slice-read-kind c = search needs
-
-add-i : tie.Need-add-i Inv-loop μ-loop
-add-i c = search needs
-
-loop-less : tie.Need-loop-less Inv-loop μ-loop
-loop-less c = search needs
-
-loop-again : tie.Need-loop-again Inv-loop μ-loop
-loop-again c =
-    let d = c .before .before .before in
-    let l = d .before .before .before in
-    let a = l .before .before .args in
-    let t = chain-turn (a .b .now) (a .at) (a .m) (l .loop .i) (search needs) (l .loop .number) (l .loop .sender) (l .loop .kind) _ (d .before .entry-is-sound .ensures) (d .if1 .taken) in
-    (search needs, rw (c .before .before .get-number .ensures) (sym t ∙ l .loop .inv .1))
-
-returns : tie.Need-returns Inv-loop μ-loop
-returns c =
-    let l = c .before .before .before in
-    let a = l .before .before .args in
-    sym (chain-broken (a .b .now) (a .at) (a .m) (l .loop .i) (search needs) (l .loop .number) (l .loop .sender) (l .loop .kind) _ (c .before .entry-is-sound .ensures) (c .if1 .left))
-    ∙ l .loop .inv .1
-
-returns-2 : tie.Need-returns-2 Inv-loop μ-loop
+returns-2 : tie.Need-returns-2
 returns-2 c =
-    let l = c .before in
-    let a = l .before .before .args in
-    sym (chain-end (a .b .now) (a .at) (a .m) (l .loop .i) (l .loop .number) (l .loop .sender) (l .loop .kind) (search needs)) ∙ l .loop .inv .1
+    let a = c .before .before .before .args in
+    sym (chain-none (rowsOf entry-wide (a .m) (drop (a .at) (a .b .now))) (sym (c .before .all-common .ensures) ∙ c .if1 .left))
 
 pub updates-are-sound-spec : {M : Type 1} → statement M
 updates-are-sound-spec =
     tie.close
     (tie.spec
-    Inv-loop
-    μ-loop
-    loop-holds
-    mul-p
-    add-p
-    entry-is-sound-requires
-    add-get-number
-    get-number-requires
-    add-sender
-    shared-slice-read-sender
-    shared-slice-read-kind
-    add-i
-    loop-less
-    loop-again
+    all-common-requires
+    updates-follow-requires
     returns
     returns-2)

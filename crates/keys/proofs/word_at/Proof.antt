@@ -1,84 +1,165 @@
-use mathlib.Core.Path.{_≡_, ap, _∙_}
-use Prim.Native.Nat.{ℕ, _+_, _-_, _^_, _≤_, _<_}
+use Prim.Native.Nat.{_+_}
 use native.Mathlib.Omega.{arith}
 use borrow.Author.Needs.{needs}
-use lib.ListN.{getD}
-use Rattle.lists.specs.Part.{part}
-use Rattle.lists.specs.BigEndian.{number}
-use Rattle.lists.proofs.EachLaws.{bytes-known}
-use Rattle.lists.proofs.NumberTurnLaws.{read-start, read-turn}
-use Rattle.keys.proofs.WordLaws.{word-fits}
+use Rattle.keys.proofs.WordLaws.{word-is}
 use Rattle.keys.proofs.word_at.Statement.{statement}
 use Rattle.keys.proofs.word_at.Tie as tie
 
-abbrev Inv-loop : tie.InvT-loop
-Inv-loop s at n₀ k₀ n k = (k ≤ 8) × (n ≡ number (part at k s))
+shared-slice-read-high : tie.Need-shared-slice-read-high
+shared-slice-read-high c = search needs
 
-abbrev μ-loop : tie.MeasureT-loop
-μ-loop s at n₀ k₀ n k = 8 - k
+cast-high : tie.Need-cast-high
+cast-high c = omega (arith, c .shared-slice-known .given (c .before .args .at))
 
-loop-holds : tie.Need-loop-holds Inv-loop μ-loop
-loop-holds c = (search needs, read-start _ _)
+mul-high : tie.Need-mul-high
+mul-high c = omega (arith, c .shared-slice-known .given (c .before .args .at))
 
-add-b : tie.Need-add-b Inv-loop μ-loop
-add-b c = search needs
+add-high : tie.Need-add-high
+add-high c = search needs
 
-shared-slice-read-b : tie.Need-shared-slice-read-b Inv-loop μ-loop
-shared-slice-read-b c = search needs
+shared-slice-read-high-2 : tie.Need-shared-slice-read-high-2
+shared-slice-read-high-2 c = search needs
 
--- each element is a byte, the one that was read too
-byte : (c : tie.After-shared-slice-known Inv-loop μ-loop) (i : ℕ) → getD (c .before .before .before .args .s .now) i 0 < 256
-byte c i = omega (arith, c .shared-slice-known .given i)
+cast-high-2 : tie.Need-cast-high-2
+cast-high-2 c = omega (arith, c .shared-slice-known2 .given (c .before .before .args .at + 1))
 
-read : (c : tie.After-shared-slice-known Inv-loop μ-loop) → let d = c .before .before in getD (d .before .args .s .now) (d .before .args .at + d .loop .k) 0 < 256
-read c = let d = c .before .before in byte c (d .before .args .at + d .loop .k)
+mul-high-2 : tie.Need-mul-high-2
+mul-high-2 c = omega (arith, c .shared-slice-known2 .given (c .before .before .args .at + 1))
 
-cast-b : tie.Need-cast-b Inv-loop μ-loop
-cast-b c = omega (arith, read c)
+add-high-2 : tie.Need-add-high-2
+add-high-2 c = omega (arith, c .shared-slice-known2 .given (c .before .before .args .at), c .shared-slice-known2 .given (c .before .before .args .at + 1))
 
--- the number so far leaves room for one byte more
-room : (c : tie.After-shared-slice-known Inv-loop μ-loop) → c .before .before .loop .n < 256 ^ 7
-room c =
-    let d = c .before .before in
-    let a = d .before .args in
-    word-fits (a .at) (d .loop .k) (d .loop .n) (a .s .now) (d .loop .inv .1) (bytes-known (a .s .now) (byte c)) (omega arith) (omega arith)
+add-high-3 : tie.Need-add-high-3
+add-high-3 c = search needs
 
-mul-n : tie.Need-mul-n Inv-loop μ-loop
-mul-n c = omega (arith, room c, read c)
+shared-slice-read-high-3 : tie.Need-shared-slice-read-high-3
+shared-slice-read-high-3 c = search needs
 
-add-n : tie.Need-add-n Inv-loop μ-loop
-add-n c = omega (arith, room c, read c)
+cast-high-3 : tie.Need-cast-high-3
+cast-high-3 c = omega (arith, c .shared-slice-known3 .given (c .before .before .before .args .at + 2))
 
-add-k : tie.Need-add-k Inv-loop μ-loop
-add-k c = search needs
+mul-high-3 : tie.Need-mul-high-3
+mul-high-3 c = omega (arith, c .shared-slice-known3 .given (c .before .before .before .args .at + 2))
 
-loop-less : tie.Need-loop-less Inv-loop μ-loop
-loop-less c = search needs
+add-high-4 : tie.Need-add-high-4
+add-high-4 c = search needs
 
-loop-again : tie.Need-loop-again Inv-loop μ-loop
-loop-again c =
-    let d = c .before .before in
-    let a = d .before .args in
-    (omega arith, read-turn (a .at) (d .loop .k) (d .loop .n) (a .s .now) (d .loop .inv .1) (omega arith))
+shared-slice-read-high-4 : tie.Need-shared-slice-read-high-4
+shared-slice-read-high-4 c = search needs
 
-returns : tie.Need-returns Inv-loop μ-loop
+cast-high-4 : tie.Need-cast-high-4
+cast-high-4 c = omega (arith, c .shared-slice-known4 .given (c .before .before .before .before .args .at + 3))
+
+mul-high-4 : tie.Need-mul-high-4
+mul-high-4 c = omega (arith, c .shared-slice-known4 .given (c .before .before .before .before .args .at + 3))
+
+add-high-5 : tie.Need-add-high-5
+add-high-5 c = omega (arith, c .shared-slice-known4 .given (c .before .before .before .before .args .at + 2), c .shared-slice-known4 .given (c .before .before .before .before .args .at + 3))
+
+add-high-6 : tie.Need-add-high-6
+add-high-6 c = omega (arith, c .shared-slice-known4 .given (c .before .before .before .before .args .at), c .shared-slice-known4 .given (c .before .before .before .before .args .at + 1), c .shared-slice-known4 .given (c .before .before .before .before .args .at + 2), c .shared-slice-known4 .given (c .before .before .before .before .args .at + 3))
+
+add-low : tie.Need-add-low
+add-low c = search needs
+
+shared-slice-read-low : tie.Need-shared-slice-read-low
+shared-slice-read-low c = search needs
+
+cast-low : tie.Need-cast-low
+cast-low c = omega (arith, c .shared-slice-known5 .given (c .before .before .before .before .before .args .at + 4))
+
+mul-low : tie.Need-mul-low
+mul-low c = omega (arith, c .shared-slice-known5 .given (c .before .before .before .before .before .args .at + 4))
+
+add-low-2 : tie.Need-add-low-2
+add-low-2 c = search needs
+
+shared-slice-read-low-2 : tie.Need-shared-slice-read-low-2
+shared-slice-read-low-2 c = search needs
+
+cast-low-2 : tie.Need-cast-low-2
+cast-low-2 c = omega (arith, c .shared-slice-known6 .given (c .before .before .before .before .before .before .args .at + 5))
+
+mul-low-2 : tie.Need-mul-low-2
+mul-low-2 c = omega (arith, c .shared-slice-known6 .given (c .before .before .before .before .before .before .args .at + 5))
+
+add-low-3 : tie.Need-add-low-3
+add-low-3 c = omega (arith, c .shared-slice-known6 .given (c .before .before .before .before .before .before .args .at + 4), c .shared-slice-known6 .given (c .before .before .before .before .before .before .args .at + 5))
+
+add-low-4 : tie.Need-add-low-4
+add-low-4 c = search needs
+
+shared-slice-read-low-3 : tie.Need-shared-slice-read-low-3
+shared-slice-read-low-3 c = search needs
+
+cast-low-3 : tie.Need-cast-low-3
+cast-low-3 c = omega (arith, c .shared-slice-known7 .given (c .before .before .before .before .before .before .before .args .at + 6))
+
+mul-low-3 : tie.Need-mul-low-3
+mul-low-3 c = omega (arith, c .shared-slice-known7 .given (c .before .before .before .before .before .before .before .args .at + 6))
+
+add-low-5 : tie.Need-add-low-5
+add-low-5 c = search needs
+
+shared-slice-read-low-4 : tie.Need-shared-slice-read-low-4
+shared-slice-read-low-4 c = search needs
+
+cast-low-4 : tie.Need-cast-low-4
+cast-low-4 c = omega (arith, c .shared-slice-known8 .given (c .before .before .before .before .before .before .before .before .args .at + 7))
+
+add-low-6 : tie.Need-add-low-6
+add-low-6 c = omega (arith, c .shared-slice-known8 .given (c .before .before .before .before .before .before .before .before .args .at + 6), c .shared-slice-known8 .given (c .before .before .before .before .before .before .before .before .args .at + 7))
+
+add-low-7 : tie.Need-add-low-7
+add-low-7 c = omega (arith, c .shared-slice-known8 .given (c .before .before .before .before .before .before .before .before .args .at + 4), c .shared-slice-known8 .given (c .before .before .before .before .before .before .before .before .args .at + 5), c .shared-slice-known8 .given (c .before .before .before .before .before .before .before .before .args .at + 6), c .shared-slice-known8 .given (c .before .before .before .before .before .before .before .before .args .at + 7))
+
+add-result : tie.Need-add-result
+add-result c = omega (arith, c .shared-slice-known8 .given (c .before .before .before .before .before .before .before .before .args .at), c .shared-slice-known8 .given (c .before .before .before .before .before .before .before .before .args .at + 1), c .shared-slice-known8 .given (c .before .before .before .before .before .before .before .before .args .at + 2), c .shared-slice-known8 .given (c .before .before .before .before .before .before .before .before .args .at + 3), c .shared-slice-known8 .given (c .before .before .before .before .before .before .before .before .args .at + 4), c .shared-slice-known8 .given (c .before .before .before .before .before .before .before .before .args .at + 5), c .shared-slice-known8 .given (c .before .before .before .before .before .before .before .before .args .at + 6), c .shared-slice-known8 .given (c .before .before .before .before .before .before .before .before .args .at + 7))
+
+returns : tie.Need-returns
 returns c =
-    let s = c .before .before .args in
-    c .before .loop .inv .1 ∙ ap (λ (i : ℕ). number (part (s .at) i (s .s .now))) (omega arith)
+    let a = c .before .before .before .before .before .before .before .before .args in
+    word-is (a .at) (a .s .now) (search needs)
 
 pub word-at-spec : {M : Type 1} → statement M
 word-at-spec =
     tie.close
     (tie.spec
-    Inv-loop
-    μ-loop
-    loop-holds
-    add-b
-    shared-slice-read-b
-    cast-b
-    mul-n
-    add-n
-    add-k
-    loop-less
-    loop-again
+    shared-slice-read-high
+    cast-high
+    mul-high
+    add-high
+    shared-slice-read-high-2
+    cast-high-2
+    mul-high-2
+    add-high-2
+    add-high-3
+    shared-slice-read-high-3
+    cast-high-3
+    mul-high-3
+    add-high-4
+    shared-slice-read-high-4
+    cast-high-4
+    mul-high-4
+    add-high-5
+    add-high-6
+    add-low
+    shared-slice-read-low
+    cast-low
+    mul-low
+    add-low-2
+    shared-slice-read-low-2
+    cast-low-2
+    mul-low-2
+    add-low-3
+    add-low-4
+    shared-slice-read-low-3
+    cast-low-3
+    mul-low-3
+    add-low-5
+    shared-slice-read-low-4
+    cast-low-4
+    add-low-6
+    add-low-7
+    add-result
     returns)

@@ -28,17 +28,11 @@ add-get-number-4 c = search needs
 get-number-requires-4 : tie.Need-get-number-requires-4
 get-number-requires-4 c κs = search needs
 
-add-get-number-5 : tie.Need-add-get-number-5
-add-get-number-5 c = search needs
-
-get-number-requires-5 : tie.Need-get-number-requires-5
-get-number-requires-5 c κs = search needs
-
 texts-at-requires : tie.Need-texts-at-requires
 texts-at-requires c κs = search needs
 
-is-date-requires : tie.Need-is-date-requires
-is-date-requires c κs = search needs
+is-date-beside-requires : tie.Need-is-date-beside-requires
+is-date-beside-requires c κs = c .before .before .before .before .before .before .pre .1 .1
 
 add-result : tie.Need-add-result
 add-result c = search needs
@@ -59,18 +53,17 @@ returns : tie.Need-returns
 returns c =
     let k = c .before .before .before in
     let g = k .before .before in
-    let a = g .before .before .before .before .before .before .args in
+    let b = g .before .before .before .before .before in
     rw (
       c .times-in-range .ensures,
-      k .is-date .ensures,
+      k .is-date-beside .ensures,
       k .before .texts-at .ensures,
-      g .get-number5 .ensures,
-      g .before .get-number4 .ensures,
-      g .before .before .get-number3 .ensures,
-      g .before .before .before .get-number2 .ensures,
-      g .before .before .before .before .get-number .ensures,
+      g .get-number4 .ensures,
+      g .before .get-number3 .ensures,
+      g .before .before .get-number2 .ensures,
+      g .before .before .before .get-number .ensures,
     )
-    (sym (body-at (a .at) (a .s .now)))
+    (sym (rw (← (b .pre .1 .0)) at (body-at (b .args .at) (b .args .s .now))))
 
 pub common-at-spec : {M : Type 1} → statement M
 common-at-spec =
@@ -84,10 +77,8 @@ common-at-spec =
     get-number-requires-3
     add-get-number-4
     get-number-requires-4
-    add-get-number-5
-    get-number-requires-5
     texts-at-requires
-    is-date-requires
+    is-date-beside-requires
     add-result
     shared-slice-read-result
     add-times-in-range

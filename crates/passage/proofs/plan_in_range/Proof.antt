@@ -10,9 +10,6 @@ add-get-number c = search needs
 get-number-requires : tie.Need-get-number-requires
 get-number-requires c κs = search needs
 
-common-at-requires : tie.Need-common-at-requires
-common-at-requires c κs = search needs
-
 add-result : tie.Need-add-result
 add-result c = search needs
 
@@ -39,12 +36,9 @@ shared-slice-read-result-4 c = search needs
 
 returns : tie.Need-returns
 returns c =
-    let a = c .before .before .before .before .before .before .before .args in
-    rw (
-      c .before .before .before .before .common-at .ensures,
-      c .before .before .before .before .before .get-number .ensures,
-    )
-    (sym (plan-at (a .at) (a .s .now)))
+    let b = c .before .before .before .before .before .before in
+    rw (c .before .before .before .before .get-number .ensures)
+    (sym (rw (b .pre .1) at (plan-at (b .args .at) (b .args .s .now))))
 
 pub plan-in-range-spec : {M : Type 1} → statement M
 plan-in-range-spec =
@@ -52,7 +46,6 @@ plan-in-range-spec =
     (tie.spec
     add-get-number
     get-number-requires
-    common-at-requires
     add-result
     shared-slice-read-result
     add-result-2

@@ -10,9 +10,6 @@ add-get-number c = search needs
 get-number-requires : tie.Need-get-number-requires
 get-number-requires c κs = search needs
 
-common-at-requires : tie.Need-common-at-requires
-common-at-requires c κs = search needs
-
 add-heard-in-range : tie.Need-add-heard-in-range
 add-heard-in-range c = search needs
 
@@ -48,13 +45,12 @@ shared-slice-read-result-4 c = search needs
 
 returns : tie.Need-returns
 returns c =
-    let a = c .before .before .before .before .before .before .before .before .before .args in
+    let b = c .before .before .before .before .before .before .before .before in
     rw (
       c .before .before .before .before .heard-in-range .ensures,
-      c .before .before .before .before .before .before .common-at .ensures,
-      c .before .before .before .before .before .before .before .get-number .ensures,
+      c .before .before .before .before .before .before .get-number .ensures,
     )
-    (sym (row-at (a .at) (a .s .now)))
+    (sym (rw (b .pre .1) at (row-at (b .args .at) (b .args .s .now))))
 
 pub row-in-range-spec : {M : Type 1} → statement M
 row-in-range-spec =
@@ -62,7 +58,6 @@ row-in-range-spec =
     (tie.spec
     add-get-number
     get-number-requires
-    common-at-requires
     add-heard-in-range
     shared-slice-read-heard-in-range
     heard-in-range-requires

@@ -7,8 +7,8 @@ use lib.Dec.{eqb}
 use lib.ListN.{drop}
 use Rattle.lists.specs.Part.{part}
 use Rattle.lists.proofs.LogicLaws.{bool-most}
-use Rattle.passage.specs.Layout.{stamp-at, body-wide}
-use Rattle.passage.specs.Roles.{roles, textsPadded}
+use Rattle.passage.specs.Layout.{body-wide}
+use Rattle.passage.specs.Roles.{roles-wide, roles, textsPadded}
 use Rattle.passage.proofs.RoleLaws.{clean, texts-start, texts-turn, texts-end}
 use Rattle.passage.proofs.texts_at.Statement.{statement}
 use Rattle.passage.proofs.texts_at.Tie as tie
@@ -16,10 +16,10 @@ use Rattle.passage.proofs.texts_at.Tie as tie
 -- what is counted so far and what is left decide together
 abbrev Inv-loop : tie.InvT-loop
 Inv-loop s at bad₀ i₀ bad i =
-    (bad ≤ i) × (i ≤ stamp-at) × (eqb bad 0 && clean (drop i roles) (drop (at + i) s) ≡ textsPadded (part at body-wide s))
+    (bad ≤ i) × (i ≤ roles-wide) × (eqb bad 0 && clean (drop i roles) (drop (at + i) s) ≡ textsPadded (part at body-wide s))
 
 abbrev μ-loop : tie.MeasureT-loop
-μ-loop s at bad₀ i₀ bad i = stamp-at - i
+μ-loop s at bad₀ i₀ bad i = roles-wide - i
 
 loop-holds : tie.Need-loop-holds Inv-loop μ-loop
 loop-holds c = (omega arith, omega arith, texts-start _ _ (search needs))
@@ -70,7 +70,7 @@ loop-again c =
 returns : tie.Need-returns Inv-loop μ-loop
 returns c =
     let l = c .before .loop in
-    let e : l .i ≡ stamp-at = omega arith in
+    let e : l .i ≡ roles-wide = omega arith in
     sym (texts-end _ (l .bad)) ∙ (rw e at (l .inv .2))
 
 pub texts-at-spec : {M : Type 1} → statement M

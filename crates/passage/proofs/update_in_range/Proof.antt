@@ -28,9 +28,6 @@ add-monitored c = search needs
 shared-slice-read-monitored : tie.Need-shared-slice-read-monitored
 shared-slice-read-monitored c = search needs
 
-common-at-requires : tie.Need-common-at-requires
-common-at-requires c κs = search needs
-
 in-stamp-range-requires : tie.Need-in-stamp-range-requires
 in-stamp-range-requires c κs = search needs
 
@@ -42,13 +39,12 @@ shared-slice-read-result c = search needs
 
 returns : tie.Need-returns
 returns c =
-    let a = c .before .before .before .before .before .before .before .before .args in
+    let b = c .before .before .before .before .before .before .before in
     rw (
       c .before .in-stamp-range .ensures,
-      c .before .before .common-at .ensures,
-      c .before .before .before .before .before .before .get-number .ensures,
+      c .before .before .before .before .before .get-number .ensures,
     )
-    (sym (update-at (a .at) (a .s .now)))
+    (sym (rw (b .pre .1) at (update-at (b .args .at) (b .args .s .now))))
 
 pub update-in-range-spec : {M : Type 1} → statement M
 update-in-range-spec =
@@ -62,7 +58,6 @@ update-in-range-spec =
     shared-slice-read-flexible
     add-monitored
     shared-slice-read-monitored
-    common-at-requires
     in-stamp-range-requires
     add-result
     shared-slice-read-result

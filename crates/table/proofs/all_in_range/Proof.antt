@@ -1,27 +1,46 @@
 use Rattle.lists.specs.Logic.{both}
 use mathlib.Core.Path.{_≡_, sym, ap, _∙_}
-use Prim.Native.Nat.{_+_, _-_, _≤_}
+use mathlib.Core.Bool.{true}
+use Prim.Native.Nat.{_+_, _*_, _-_, _≤_}
 use native.Mathlib.Omega.{arith}
 use borrow.Author.Needs.{needs}
+use Rattle.lists.specs.Part.{part}
+use Rattle.passage.specs.Layout.{body-wide, row-wide}
+use Rattle.passage.specs.Ranges.{commonInRange, allCommon}
+use Rattle.passage.proofs.CommonLaws.{left, common-start, common-now}
 use Rattle.table.specs.Rules.{rows, allInRange}
 use Rattle.table.proofs.SoundLaws.{rest, rest-start, range-step, range-end}
 use Rattle.table.proofs.all_in_range.Statement.{statement}
 use Rattle.table.proofs.all_in_range.Tie as tie
 
 abbrev Inv-loop : tie.InvT-loop
-Inv-loop t n i₀ i = (i ≤ n) × (allInRange (rows n t) ≡ allInRange (rest n t i))
+Inv-loop t n i₀ i = (i ≤ n) × (allInRange (rows n t) ≡ allInRange (rest n t i)) × (allCommon (left row-wide 0 n 0 t i) ≡ true)
 
 abbrev μ-loop : tie.MeasureT-loop
 μ-loop t n i₀ i = n - i
 
 loop-holds : tie.Need-loop-holds Inv-loop μ-loop
-loop-holds c = (search needs, ap allInRange (rest-start (c .before .args .n) (c .before .args .t .now)))
+loop-holds c =
+    let s = c .before .args in
+    (search needs, ap allInRange (rest-start (s .n) (s .t .now)), sym (common-start row-wide 0 (s .n) 0 (s .t .now)) ∙ c .before .pre .1)
 
 mul-row-in-range : tie.Need-mul-row-in-range Inv-loop μ-loop
 mul-row-in-range c = search needs
 
+-- what is common is in range in the row, and in those behind it
+common : (c : tie.In-loop Inv-loop μ-loop) →
+    let s = c .before .before .before .args in
+    let i = c .before .loop .i in
+    (commonInRange (part (0 + i * row-wide + 0) body-wide (s .t .now)) ≡ true) × (allCommon (left row-wide 0 (s .n) 0 (s .t .now) (i + 1)) ≡ true)
+common c =
+    let s = c .before .before .before .args in
+    common-now row-wide 0 (s .n) 0 (s .t .now) (c .before .loop .i) (c .loop-test .taken) (omega arith) (c .before .loop .inv .2)
+
 row-in-range-requires : tie.Need-row-in-range-requires Inv-loop μ-loop
-row-in-range-requires c κs = search needs
+row-in-range-requires c κs =
+    let i = c .before .loop .i in
+    let e : 0 + i * row-wide + 0 ≡ i * row-wide = omega arith in
+    (search needs, rw e at (common c .0))
 
 add-i : tie.Need-add-i Inv-loop μ-loop
 add-i c = search needs
@@ -39,7 +58,7 @@ step c =
     c .before .before .loop .inv .1 ∙ range-step (s .n) (s .t .now) i (c .before .loop-test .taken) ∙ rw (← (c .row-in-range .ensures))
 
 loop-again : tie.Need-loop-again Inv-loop μ-loop
-loop-again c = (omega arith, step (c .before) ∙ rw (c .if1 .taken))
+loop-again c = (omega arith, step (c .before) ∙ rw (c .if1 .taken), common (c .before .before) .1)
 
 returns : tie.Need-returns Inv-loop μ-loop
 returns c = rw (step (c .before), c .if1 .left)

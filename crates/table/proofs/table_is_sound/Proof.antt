@@ -1,7 +1,8 @@
 use mathlib.Core.Path.{sym, _∙_}
 use Prim.Native.Nat.{_≤_}
-use Rattle.table.specs.Rules.{room}
-use Rattle.table.proofs.SoundLaws.{sound-over, sound-room, room-holds}
+use native.Mathlib.Omega.{arith}
+use Rattle.table.specs.Rules.{rows, room}
+use Rattle.table.proofs.SoundLaws.{sound-over, sound-room, room-holds, rows-rise, range-none}
 use borrow.Author.Needs.{needs}
 use Rattle.table.proofs.table_is_sound.Statement.{statement}
 use Rattle.table.proofs.table_is_sound.Tie as tie
@@ -16,23 +17,42 @@ returns c = sound-over (c .before .before .before .args .n) (c .before .before .
 within : (c : tie.Else1) → c .before .before .before .args .n ≤ room (c .before .before .before .args .t .now)
 within c = rw (← (c .before .rows-room .ensures)) (c .if1 .left)
 
-all-in-range-requires : tie.Need-all-in-range-requires
-all-in-range-requires c κs = room-holds (c .before .before .before .args .n) (c .before .before .before .args .t .now) (within c)
+all-common-requires : tie.Need-all-common-requires
+all-common-requires c κs =
+    let h = room-holds (c .before .before .before .args .n) (c .before .before .before .args .t .now) (within c) in
+    (omega arith, omega arith)
 
-is-sorted-requires : tie.Need-is-sorted-requires
-is-sorted-requires c κs = room-holds (c .before .before .before .before .before .args .n) (c .before .before .before .before .before .args .t .now) (within (c .before .before))
+all-in-range-requires : tie.Need-all-in-range-requires
+all-in-range-requires c κs =
+    let d = c .before .before in
+    let s = d .before .before .before .args in
+    (room-holds (s .n) (s .t .now) (within d), sym (c .before .all-common .ensures) ∙ c .if2 .taken)
+
+keys-rise-requires : tie.Need-keys-rise-requires
+keys-rise-requires c κs =
+    let d = c .before .before .before .before in
+    let s = d .before .before .before .args in
+    (room-holds (s .n) (s .t .now) (within d), omega arith)
 
 returns-2 : tie.Need-returns-2
 returns-2 c =
-    let d = c .before .before .before in
+    let d = c .before .before .before .before .before in
     let s = d .before .before .before .args in
-    sym (sym (sound-room (s .n) (s .t .now) (within d)) ∙ rw (← (c .before .before .all-in-range .ensures), c .before .if2 .taken) (sym (c .is-sorted .ensures)))
+    c .keys-rise .ensures
+    ∙ rows-rise (rows (s .n) (s .t .now))
+    ∙ sym (sym (sound-room (s .n) (s .t .now) (within d)) ∙ rw (sym (c .before .before .all-in-range .ensures) ∙ c .before .if3 .taken))
 
 returns-3 : tie.Need-returns-3
 returns-3 c =
+    let d = c .before .before .before .before in
+    let s = d .before .before .before .args in
+    sym (sym (sound-room (s .n) (s .t .now) (within d)) ∙ rw (sym (c .before .all-in-range .ensures) ∙ c .if3 .left))
+
+returns-4 : tie.Need-returns-4
+returns-4 c =
     let d = c .before .before in
     let s = d .before .before .before .args in
-    sym (sym (sound-room (s .n) (s .t .now) (within d)) ∙ rw (← (c .before .all-in-range .ensures), c .if2 .left))
+    sym (sym (sound-room (s .n) (s .t .now) (within d)) ∙ rw (range-none (rows (s .n) (s .t .now)) (sym (c .before .all-common .ensures) ∙ c .if2 .left)))
 
 pub table-is-sound-spec : {M : Type 1} → statement M
 table-is-sound-spec =
@@ -40,7 +60,9 @@ table-is-sound-spec =
     (tie.spec
     rows-room-requires
     returns
+    all-common-requires
     all-in-range-requires
-    is-sorted-requires
+    keys-rise-requires
     returns-2
-    returns-3)
+    returns-3
+    returns-4)
