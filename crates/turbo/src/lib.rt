@@ -20,19 +20,53 @@ pub fn escaped(b: u8) -> u8
     }
 }
 
+// Where the first x stands among eight bytes from i on, or 8. So short a loop is compiled without one.
+fn find_near(s: &[u8], i: usize, x: u8) -> usize
+    requires { ⌜ i + 8 ≤ length (now s) ⌝ }
+    ensures within { λ r. ⌜ r ≤ 8 ⌝ }
+    ensures left { λ r. ⌜ length (until x (drop i (now (s .entry)))) ≡ r + length (until x (drop (i + r) (now (s .entry)))) ⌝ }
+    ensures hit { λ r. ⌜ (r < 8 → length (until x (drop (i + r) (now (s .entry)))) ≡ 0) ⌝ }
+{
+    let mut j = 0;
+    while j < 8 {
+        if s[i + j] == x {
+            return j;
+        }
+        j += 1;
+    }
+    j
+}
+
+// Where the first x stands from i on, or the length.
+fn find_from(s: &[u8], i: usize, x: u8) -> usize
+    requires { ⌜ i ≤ length (now s) ⌝ }
+    ensures is { λ r. ⌜ r ≡ i + length (until x (drop i (now (s .entry)))) ⌝ }
+    ensures within { λ r. ⌜ r ≤ length (now (s .entry)) ⌝ }
+{
+    let mut k = i;
+    while k < s.len() {
+        if s[k] == x {
+            return k;
+        }
+        k += 1;
+    }
+    k
+}
+
 // Where the first x stands, or the length.
 pub fn find(s: &[u8], x: u8) -> usize
     ensures is { λ r. ⌜ r ≡ length (until x (now (s .entry))) ⌝ }
     ensures within { λ r. ⌜ r ≤ length (now (s .entry)) ⌝ }
 {
-    let mut i = 0;
-    while i < s.len() {
-        if s[i] == x {
-            return i;
+    let mut p = 0;
+    while 8 <= s.len() - p {
+        let k = find_near(s, p, x);
+        if k < 8 {
+            return p + k;
         }
-        i += 1;
+        p += 8;
     }
-    i
+    find_from(s, p, x)
 }
 
 // Whether one of sixteen bytes from i on is x. No branch in the loop, so that it compiles to a few vector instructions.
@@ -69,14 +103,8 @@ pub fn find_far(s: &[u8], x: u8) -> usize
     ensures is { λ r. ⌜ r ≡ length (until x (now (s .entry))) ⌝ }
     ensures within { λ r. ⌜ r ≤ length (now (s .entry)) ⌝ }
 {
-    let mut i = free_blocks(s, x);
-    while i < s.len() {
-        if s[i] == x {
-            return i;
-        }
-        i += 1;
-    }
-    i
+    let p = free_blocks(s, x);
+    find_from(s, p, x)
 }
 
 // The first line of what is left of a dossier, without its CR LF.
@@ -197,6 +225,21 @@ fn bars_in_block(line: &[u8], i: usize) -> u8
     bars
 }
 
+// The same of sixteen.
+fn bars_in_sixteen(line: &[u8], i: usize) -> u8
+    requires { ⌜ i + 16 ≤ length (now line) ⌝ }
+    ensures is { λ r. ⌜ length (fields (drop i (now (line .entry)))) ≡ r + length (fields (drop (i + 16) (now (line .entry)))) ⌝ }
+    ensures few { λ r. ⌜ r ≤ 16 ⌝ }
+{
+    let mut bars: u8 = 0;
+    let mut m = 0;
+    while m < 16 {
+        bars += (line[i + m] == 124) as u8;
+        m += 1;
+    }
+    bars
+}
+
 // What the count of a line's bars has come to: how many stand before a place.
 struct Bars {
     at: usize,
@@ -217,11 +260,26 @@ fn bars_in_blocks(line: &[u8]) -> Bars
     Bars { at: p, count: n }
 }
 
+// The bars behind those, in what are whole blocks of sixteen.
+fn bars_in_sixteens(line: &[u8], b: Bars) -> Bars
+    requires { ⌜ (b .at ≤ length (now line)) × (b .count ≤ b .at) ⌝ }
+    ensures within { λ r. ⌜ (r .at ≤ length (now (line .entry))) × (r .count ≤ r .at) ⌝ }
+    ensures is { λ r. ⌜ b .count + length (fields (drop (b .at) (now (line .entry)))) ≡ r .count + length (fields (drop (r .at) (now (line .entry)))) ⌝ }
+{
+    let mut n: usize = b.count;
+    let mut p: usize = b.at;
+    while 16 <= line.len() - p {
+        n += bars_in_sixteen(line, p) as usize;
+        p += 16;
+    }
+    Bars { at: p, count: n }
+}
+
 // How many fields a line has.
 pub fn count_fields(line: &[u8]) -> usize
     ensures { λ r. ⌜ r ≡ length (fields (now (line .entry))) ⌝ }
 {
-    let whole = bars_in_blocks(line);
+    let whole = bars_in_sixteens(line, bars_in_blocks(line));
     let mut n: usize = whole.count;
     let mut i: usize = whole.at;
     while i < line.len() {
