@@ -6,6 +6,8 @@ use Rattle.table.proofs.rows_room.Kinds as rows-room
 use Rattle.table.proofs.rows_room.Reads as rows-room-reads
 use Rattle.table.proofs.find.Kinds as find
 use Rattle.table.proofs.find.Reads as find-reads
+use Rattle.table.proofs.find_near.Kinds as find-near
+use Rattle.table.proofs.find_near.Reads as find-near-reads
 use Rattle.table.proofs.insert_row.Kinds as insert-row
 use Rattle.table.proofs.insert_row.Reads as insert-row-reads
 use Rattle.table.proofs.replace_row.Kinds as replace-row
@@ -24,6 +26,9 @@ rows-room-determined κs a x y s t p q = p ∙ sym q
 
 pub find-determined : OneResult 2 find.ps find.r find-reads.Post
 find-determined κs a x y s t p q = p ∙ sym q
+
+pub find-near-determined : OneResult 2 find-near.ps find-near.r find-near-reads.Post
+find-near-determined κs a x y s t p q = p ∙ sym q
 
 pub table-is-sound-determined : OneResult 1 table-is-sound.ps table-is-sound.r table-is-sound-reads.Post
 table-is-sound-determined κs a x y s t p q = p ∙ sym q
