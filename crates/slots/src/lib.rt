@@ -10,7 +10,7 @@ ghost use Rattle.lists.specs.Each.{Each};
 ghost use Rattle.lists.specs.Part.{part, over};
 ghost use Rattle.lists.specs.Rows.{rowsOf, flat, store};
 ghost use Rattle.passage.specs.Layout.{key-wide, body-wide, row-wide};
-ghost use Rattle.keys.specs.Sorted.{sortedRows, get};
+ghost use Rattle.keys.specs.Sorted.{sortedRows, get, put};
 ghost use Rattle.update.specs.Rule.{rowRule};
 ghost use Rattle.table.specs.Rules.{rows, room};
 ghost use Rattle.book.specs.Entries.{plan-wide, entry-wide, planBodyOf};
@@ -83,22 +83,25 @@ pub fn take_into(slots: &mut [u8], at: usize, b: &[u8], p: usize)
     slots[at] = 1;
 }
 
-// What a slot adds to the count of rows: one for itself, one for its row, less one for the row that the table has.
-fn weigh(t: &[u8], n: usize, slots: &[u8], at: usize) -> usize
+// What a slot adds to the count of rows: one for itself, one for its row, less one for the row that the table has. Its key is looked for from `near` on, which
+// then is where the next slot's key would be: slots rise by key.
+fn weigh(t: &[u8], n: usize, slots: &[u8], at: usize, near: &mut usize) -> usize
     requires { ⌜ (n * row-wide ≤ length (now t)) × (at + slot-wide ≤ length (now slots)) ⌝ }
     requires { ⌜ sortedRows (rows n (now t)) ≡ true ⌝ }
     ensures { λ r. ⌜ r ≡ weight (get (keyIn (part at slot-wide (now (slots .entry)))) (rows n (now (t .entry)))) (rowIn (part at slot-wide (now (slots .entry)))) ⌝ }
 {
     let has = slots[at];
-    let f = table::find(t, n, slots, at + 1);
+    let f = table::find_near(t, n, slots, at + 1, *near);
     match f {
-        Found::At(_) => {
+        Found::At(place) => {
+            *near = place + 1;
             if has == 1 {
                 return 1;
             }
             return 0;
         }
-        Found::Missing(_) => {
+        Found::Missing(place) => {
+            *near = place;
             if has == 1 {
                 return 2;
             }
@@ -115,8 +118,9 @@ fn count_after(t: &[u8], n: usize, slots: &[u8], c: usize) -> usize
 {
     let mut sum = n;
     let mut i = 0;
+    let mut near = 0;
     while i < c {
-        let w = weigh(t, n, slots, i * SLOT_WIDE);
+        let w = weigh(t, n, slots, i * SLOT_WIDE, &mut near);
         sum = sum + w;
         i += 1;
     }
@@ -165,15 +169,37 @@ fn remove_all(t: &mut [u8], n: usize, slots: &[u8], c: usize) -> usize
     count
 }
 
+// The row r is put by its key, looked for from `near` on, which then is where the next row would be; the new count.
+fn put_near(t: &mut [u8], n: usize, r: &[u8], near: &mut usize) -> usize
+    requires { ⌜ (n * row-wide ≤ length (now t)) × (length (put (now r) (rows n (now t))) * row-wide ≤ length (now t)) × (length (now r) ≡ row-wide) ⌝ }
+    requires { ⌜ sortedRows (rows n (now t)) ≡ true ⌝ }
+    ensures { λ m. ⌜ m ≡ length (put (now (r .entry)) (rows n (now (t .entry)))) ⌝ }
+    ensures { λ _. ⌜ now (t .exit) ≡ store row-wide n (put (now (r .entry)) (rows n (now (t .entry)))) (now (t .entry)) ⌝ }
+{
+    let f = table::find_near(t, n, r, 0, *near);
+    match f {
+        Found::At(place) => {
+            *near = place + 1;
+            table::replace_row(t, n, place, r);
+            n
+        }
+        Found::Missing(place) => {
+            *near = place + 1;
+            table::insert_row(t, n, place, r);
+            n + 1
+        }
+    }
+}
+
 // A slot with a row puts it; the new count.
-fn put_one(t: &mut [u8], n: usize, slots: &[u8], at: usize) -> usize
+fn put_one(t: &mut [u8], n: usize, slots: &[u8], at: usize, near: &mut usize) -> usize
     requires { ⌜ (n * row-wide ≤ length (now t)) × (at + slot-wide ≤ length (now slots)) × (length (putOne (part at slot-wide (now slots)) (rows n (now t))) * row-wide ≤ length (now t)) ⌝ }
     requires { ⌜ sortedRows (rows n (now t)) ≡ true ⌝ }
     ensures { λ r. ⌜ r ≡ length (putOne (part at slot-wide (now (slots .entry))) (rows n (now (t .entry)))) ⌝ }
     ensures { λ _. ⌜ now (t .exit) ≡ store row-wide n (putOne (part at slot-wide (now (slots .entry))) (rows n (now (t .entry)))) (now (t .entry)) ⌝ }
 {
     if slots[at] == 1 {
-        return table::put_row(t, n, &slots[at + 1..at + SLOT_WIDE]);
+        return put_near(t, n, &slots[at + 1..at + SLOT_WIDE], near);
     }
     n
 }
@@ -187,8 +213,9 @@ fn put_all(t: &mut [u8], n: usize, slots: &[u8], c: usize) -> usize
 {
     let mut count = n;
     let mut i = 0;
+    let mut near = 0;
     while i < c {
-        count = put_one(t, count, slots, i * SLOT_WIDE);
+        count = put_one(t, count, slots, i * SLOT_WIDE, &mut near);
         i += 1;
     }
     count

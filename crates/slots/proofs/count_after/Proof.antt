@@ -7,10 +7,10 @@ use Rattle.slots.proofs.count_after.Statement.{statement}
 use Rattle.slots.proofs.count_after.Tie as tie
 
 abbrev Inv-loop : tie.InvT-loop
-Inv-loop t n slots c sum₀ i₀ sum i = (i ≤ c) × Summed (rows n t) c slots n i sum
+Inv-loop t n slots c sum₀ i₀ near₀ sum i near = (i ≤ c) × Summed (rows n t) c slots n i sum
 
 abbrev μ-loop : tie.MeasureT-loop
-μ-loop t n slots c sum₀ i₀ sum i = c - i
+μ-loop t n slots c sum₀ i₀ near₀ sum i near = c - i
 
 loop-holds : tie.Need-loop-holds Inv-loop μ-loop
 loop-holds c =
@@ -23,16 +23,16 @@ mul-weigh c = search needs
 
 weigh-requires : tie.Need-weigh-requires Inv-loop μ-loop
 weigh-requires c κs =
-    let start = c .before .before .before .before in
+    let start = c .before .before .before .before .before in
     ((start .pre .0 .0, omega arith), start .pre .1)
 
 add-sum : tie.Need-add-sum Inv-loop μ-loop
 add-sum c =
-    let start = c .before .before .before .before .before in
+    let start = c .before .before .before .before .before .before in
     let a = start .args in
-    let loop = c .before .before .loop in
+    let loop = c .before .before .before .loop in
     let s = loop .inv .1 .small in
-    let t = sum-turn (rows (a .n) (a .t .now)) (a .c) (a .slots .now) (a .n) (loop .i) (loop .sum) (c .weigh .result) (c .before .loop-test .taken) (loop .inv .1) (c .weigh .ensures) .small in
+    let t = sum-turn (rows (a .n) (a .t .now)) (a .c) (a .slots .now) (a .n) (loop .i) (loop .sum) (c .weigh .result) (c .before .before .loop-test .taken) (loop .inv .1) (c .weigh .ensures) .small in
     omega arith
 
 add-i : tie.Need-add-i Inv-loop μ-loop
@@ -43,10 +43,10 @@ loop-less c = search needs
 
 loop-again : tie.Need-loop-again Inv-loop μ-loop
 loop-again c =
-    let start = c .before .before .before .before .before in
+    let start = c .before .before .before .before .before .before in
     let a = start .args in
-    let loop = c .before .before .loop in
-    (omega arith, sum-turn (rows (a .n) (a .t .now)) (a .c) (a .slots .now) (a .n) (loop .i) (loop .sum) (c .weigh .result) (c .before .loop-test .taken) (loop .inv .1) (c .weigh .ensures))
+    let loop = c .before .before .before .loop in
+    (omega arith, sum-turn (rows (a .n) (a .t .now)) (a .c) (a .slots .now) (a .n) (loop .i) (loop .sum) (c .weigh .result) (c .before .before .loop-test .taken) (loop .inv .1) (c .weigh .ensures))
 
 returns : tie.Need-returns Inv-loop μ-loop
 returns c =

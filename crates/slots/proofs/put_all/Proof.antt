@@ -12,10 +12,10 @@ use Rattle.slots.proofs.put_all.Statement.{statement}
 use Rattle.slots.proofs.put_all.Tie as tie
 
 abbrev Inv-loop : tie.InvT-loop
-Inv-loop t₀ n slots c count₀ i₀ t count i = (i ≤ c) × Put n t₀ slots i count t
+Inv-loop t₀ n slots c count₀ i₀ near₀ t count i near = (i ≤ c) × Put n t₀ slots i count t
 
 abbrev μ-loop : tie.MeasureT-loop
-μ-loop t₀ n slots c count₀ i₀ t count i = c - i
+μ-loop t₀ n slots c count₀ i₀ near₀ t count i near = c - i
 
 loop-holds : tie.Need-loop-holds Inv-loop μ-loop
 loop-holds c =
@@ -37,9 +37,9 @@ space c =
 
 put-one-requires : tie.Need-put-one-requires Inv-loop μ-loop
 put-one-requires c κs =
-    let a = c .before .before .before .before .before .args in
-    let loop = c .before .before .loop in
-    let d = c .before in
+    let a = c .before .before .before .before .before .before .args in
+    let loop = c .before .before .before .loop in
+    let d = c .before .before in
     let rs = puts (slotsOf (loop .i) (a .slots .now)) (rows (a .n) (a .t .now)) in
     let h = loop .inv .1 in
     ((holds-fits (a .n) (a .t .now) (loop .count) (loop .t) rs h, there d, put-room (a .n) (a .t .now) (a .slots .now) (loop .i) (loop .count) (loop .t) h (there d) (space d)), holds-sorted (a .n) (a .t .now) (loop .count) (loop .t) rs h)
@@ -52,9 +52,9 @@ loop-less c = search needs
 
 loop-again : tie.Need-loop-again Inv-loop μ-loop
 loop-again c =
-    let a = c .before .before .before .before .before .before .before .before .args in
-    let loop = c .before .before .before .before .before .loop in
-    let d = c .before .before .before .before in
+    let a = c .before .before .before .before .before .before .before .before .before .args in
+    let loop = c .before .before .before .before .before .before .loop in
+    let d = c .before .before .before .before .before in
     let one = c .before .before .put-one in
     (omega arith, put-turn (a .n) (a .t .now) (a .slots .now) (loop .i) (loop .count) (loop .t) (loop .inv .1) (there d) (space d) (one .result) _ (one .ensures .0) (one .ensures .1))
 
