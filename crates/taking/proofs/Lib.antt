@@ -1,5 +1,6 @@
 pub mod TakenLaws
-pub mod StepLaws
 pub mod LoopLaws
+pub mod FittingLaws
+pub mod StepLaws
 pub mod Claims
 pub mod Determined
