@@ -7,7 +7,6 @@ use mathlib.Core.List.{List, []}
 use borrow.Author.Tests.{le-leb, lt-leb, ne-eqb}
 use lib.Dec.{leb}
 use lib.ListN.{length}
-use Rattle.lists.specs.Logic.{on}
 use Rattle.lists.specs.Part.{over}
 use Rattle.lists.specs.Rows.{rowsOf, flat}
 use Rattle.lists.proofs.OverLaws.{over-nil}
@@ -17,6 +16,10 @@ use Rattle.passage.specs.Layout.{row-wide}
 use Rattle.keys.specs.Replay.{takenAll}
 use Rattle.table.specs.Rules.{tableSound, room}
 use Rattle.table.proofs.SoundLaws.{sound-within}
+use Rattle.taking.specs.declared.Fitted.{Fitted}
+use Rattle.taking.specs.declared.Fitted.the-variants.{Count, TooMany}
+use Rattle.taking.specs.Fitting.{fitting, fittingIn}
+use Rattle.taking.proofs.FittingLaws.{count-told, too-many-told, in-yes, in-no}
 use Rattle.book.specs.Entries.{entry-wide, entriesOf, updatesIn}
 use Rattle.book.specs.Rules.{bookSound, bookRoom, nextNumber}
 use Rattle.book.proofs.SoundLaws.{sound-facts}
@@ -25,7 +28,7 @@ use Rattle.calls.specs.declared.Answer.the-variants.{Accepted, BookShort, Table
 use Rattle.calls.specs.declared.Counts.{Counts}
 use Rattle.calls.specs.declared.Outcome.{Outcome}
 use Rattle.calls.specs.Answers.{isAccepted}
-use Rattle.calls.specs.Message.{numberFor, rowsTaken, roomFor, countsTaking, bookTaking, tableTaking}
+use Rattle.calls.specs.Message.{rowsTaken, roomFor, countsTaking, bookTaking, tableTaking}
 use Rattle.posting.specs.Steps.{takenOutcome, takenBook, takenTable}
 
 -- an outcome by its answer and counts
@@ -53,16 +56,30 @@ module _ (bodies : List (List ℕ)) (sender : ℕ) (book table : List ℕ) (c : 
   unfolding roomFor
   book-short h r e = refuses BookShort (rw (lt-leb _ _ h)) refl r e
 
-  pub table-short : c .used + length bodies * entry-wide ≤ bookRoom book → leb (length (rowsTaken bodies table (c .rows))) (room table) ≡ false
-      → (r : Outcome) → (r .answer ≡ TableShort) × (r .counts ≡ c) → Leaves r book table
-  unfolding roomFor
-  table-short h k r e = refuses TableShort (rw (le-leb _ _ h, k)) refl r e
+  -- the table's rows taken, or too many of them
+  module _ (most : ℕ) (m : most ≡ room table) (f : Fitted) (t : List ℕ)
+      (p : (f ≡ fitting most (rowsTaken bodies table (c .rows))) × (t ≡ fittingIn (c .rows) most (rowsTaken bodies table (c .rows)) table)) where
+    abbrev rs : List (List ℕ)
+    rs = rowsTaken bodies table (c .rows)
 
-  pub fits : (length bodies ≡ 0 → ⊥) → c .used + length bodies * entry-wide ≤ bookRoom book → leb (length (rowsTaken bodies table (c .rows))) (room table) ≡ true
-      → (r : Outcome) (b t : List ℕ) → (r .answer ≡ Accepted (nextNumber (updatesIn (c .used) book))) × (r .counts ≡ countsTaking bodies table c)
-      → b ≡ bookTaking bodies sender book (c .used) → t ≡ tableTaking bodies table (c .rows) → Leaves r b t
-  unfolding roomFor
-  fits some h k r b t e f g = accepts (nextNumber (updatesIn (c .used) book)) (rw (le-leb _ _ h, k, ne-eqb _ _ some)) r b t e f g
+    pub table-short : c .used + length bodies * entry-wide ≤ bookRoom book → f ≡ TooMany → (r : Outcome) → (r .answer ≡ TableShort) × (r .counts ≡ c) → Leaves r book t
+    unfolding roomFor
+    table-short h e r x =
+        let over = too-many-told (c .rows) most rs table (sym (p .0) ∙ e) in
+        let k : leb (length rs) (room table) ≡ false = ap (leb (length rs)) (sym m) ∙ over in
+        let all = refuses TableShort (rw (le-leb _ _ h, k)) refl r x in
+        (all .0, (all .1 .0, p .1 ∙ in-no (c .rows) most rs table over ∙ all .1 .1))
+
+    pub fits : (length bodies ≡ 0 → ⊥) → c .used + length bodies * entry-wide ≤ bookRoom book → (n : ℕ) → f ≡ Count n
+        → (r : Outcome) (b : List ℕ) → r .answer ≡ Accepted (nextNumber (updatesIn (c .used) book))
+        → (r .counts .used ≡ c .used + length bodies * entry-wide) × (r .counts .rows ≡ n)
+        → b ≡ bookTaking bodies sender book (c .used) → Leaves r b t
+    unfolding roomFor tableTaking
+    fits some h n e r b x y z =
+        let within = count-told (c .rows) most rs table n (sym (p .0) ∙ e) in
+        let k : leb (length rs) (room table) ≡ true = ap (leb (length rs)) (sym m) ∙ within .0 in
+        let counts : r .counts ≡ countsTaking bodies table c = λ i. record { used = y .0 i; rows = (y .1 ∙ within .1) i } in
+        accepts (nextNumber (updatesIn (c .used) book)) (rw (le-leb _ _ h, k, ne-eqb _ _ some)) r b t (x, counts) z (p .1 ∙ in-yes (c .rows) most rs table (within .0))
 
 -- without rows all stays
 module _ (sender : ℕ) (book table : List ℕ) (c : Counts) (sound : (bookSound (c .used) book ≡ true) × (tableSound (c .rows) table ≡ true)) where

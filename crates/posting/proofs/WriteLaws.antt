@@ -1,9 +1,7 @@
 -- The writes of an accepted message. Assumes nothing.
 use Prim.Native.Nat.{ℕ, _+_, _*_, _-_, _≤_}
-use native.Mathlib.Nat.{le-trans, mul-le-mul-right}
 use native.Mathlib.Omega.{arith}
-use mathlib.Core.Path.{_≡_, sym, ap, _∙_}
-use mathlib.Core.Bool.{true}
+use mathlib.Core.Path.{_≡_, ap, _∙_}
 use mathlib.Core.List.{List, _++_}
 use lib.ListN.{length, take, drop}
 use Rattle.lists.specs.Part.{over}
@@ -11,19 +9,12 @@ use Rattle.lists.specs.Rows.{rowsOf, flat}
 use Rattle.lists.proofs.ReadLaws.{lent-over}
 use Rattle.lists.proofs.RowLaws.{length-rowsOf}
 use Rattle.lists.proofs.WideLaws.{wide-rowsOf, length-flat}
-use Rattle.passage.specs.Layout.{body-wide, row-wide}
-use Rattle.table.specs.Rules.{room}
-use Rattle.table.proofs.SoundLaws.{room-fits}
+use Rattle.passage.specs.Layout.{body-wide}
 use Rattle.book.specs.Entries.{entry-wide, entriesOf, updatesIn}
 use Rattle.book.specs.Rules.{bookRoom, nextNumber}
 use Rattle.book.proofs.SoundLaws.{room-within}
 use Rattle.book.proofs.WriteLaws.{wide-entriesOf, length-entriesOf}
-use Rattle.calls.specs.declared.Counts.{Counts}
-use Rattle.calls.specs.Message.{rowsTaken, bookTaking, countsTaking}
-
--- rows that the table has room for lie within it
-pub rows-fit : (n : ℕ) (table : List ℕ) → n ≤ room table → n * row-wide ≤ length table
-rows-fit n table h = le-trans (mul-le-mul-right row-wide h) (room-fits table)
+use Rattle.calls.specs.Message.{bookTaking}
 
 module _ (staging : List ℕ) (n : ℕ) (staged : n * body-wide ≤ length staging) (book : List ℕ) (used : ℕ) where
   abbrev bodies : List (List ℕ)
@@ -47,9 +38,3 @@ module _ (staging : List ℕ) (n : ℕ) (staged : n * body-wide ≤ length stagi
       ∙ lent-over used (length book - used) 0 (flat (entriesOf number sender bodies)) book (omega arith)
       ∙ ap (λ (k : ℕ). over k (flat (entriesOf number sender bodies)) book) z
       ∙ ap (λ (k : ℕ). over used (flat (entriesOf k sender bodies)) book) e
-
--- the new counts
-pub counts-are : (staging : List ℕ) (n : ℕ) (table : List ℕ) (c : Counts) (rows : ℕ) → rows ≡ length (rowsTaken (rowsOf body-wide n staging) table (c .rows))
-    → _≡_ {A = Counts} (record { used = c .used + n * entry-wide; rows = rows }) (countsTaking (rowsOf body-wide n staging) table c)
-counts-are staging n table c rows e =
-    λ i. record { used = ap (λ (k : ℕ). c .used + k * entry-wide) (sym (length-rowsOf body-wide n staging)) i; rows = e i }

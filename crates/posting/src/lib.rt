@@ -4,38 +4,35 @@ use calls::Counts;
 use calls::Outcome;
 ghost use mathlib.Core.Path.{_≡_};
 ghost use mathlib.Core.Bool.{true};
-ghost use Prim.Native.Nat.{_+_, _*_, _≤_, _<_};
+ghost use Prim.Native.Nat.{_+_, _*_, _≤_};
 ghost use lib.ListN.{length};
 ghost use Rattle.lists.specs.Rows.{rowsOf};
-ghost use Rattle.passage.specs.Layout.{body-wide, row-wide};
-ghost use Rattle.table.specs.Rules.{tableSound, room};
+ghost use Rattle.passage.specs.Layout.{body-wide};
+ghost use Rattle.table.specs.Rules.{tableSound};
 ghost use Rattle.book.specs.Entries.{entry-wide, updatesIn};
 ghost use Rattle.book.specs.Rules.{bookSound, bookRoom, nextNumber};
 ghost use Rattle.calls.specs.declared.Answer.the-variants.{Accepted};
-ghost use Rattle.calls.specs.Message.{rowsTaken, bookTaking, tableTaking, countsTaking};
+ghost use Rattle.calls.specs.Message.{bookTaking};
 ghost use Rattle.posting.specs.Steps.{takenOutcome, takenBook, takenTable};
 
-// The n staged bodies go to the book as entries and are applied to the table; there is room.
+// The n staged bodies go to the book as entries; there is room. The table has the rows already.
 fn write_rows(
     staging: &[u8],
     n: usize,
     sender: u8,
     book: &mut [u8],
-    table: &mut [u8],
-    c: Counts,
+    used: usize,
+    rows: usize,
 ) -> Outcome
     requires { ⌜ (n ≤ 2427) × (n * body-wide ≤ length (now staging)) ⌝ }
-    requires { ⌜ (bookSound (c .used) (now book) ≡ true) × (tableSound (c .rows) (now table) ≡ true) ⌝ }
-    requires { ⌜ (c .used + n * entry-wide ≤ bookRoom (now book)) × (length (rowsTaken (rowsOf body-wide n (now staging)) (now table) (c .rows)) ≤ room (now table)) ⌝ }
-    ensures answer { λ r. ⌜ r .answer ≡ Accepted (nextNumber (updatesIn (c .used) (now (book .entry)))) ⌝ }
-    ensures counts { λ r. ⌜ r .counts ≡ countsTaking (rowsOf body-wide n (now (staging .entry))) (now (table .entry)) c ⌝ }
-    ensures entries { λ _. ⌜ now (book .exit) ≡ bookTaking (rowsOf body-wide n (now (staging .entry))) sender (now (book .entry)) (c .used) ⌝ }
-    ensures rows { λ _. ⌜ now (table .exit) ≡ tableTaking (rowsOf body-wide n (now (staging .entry))) (now (table .entry)) (c .rows) ⌝ }
+    requires { ⌜ bookSound used (now book) ≡ true ⌝ }
+    requires { ⌜ used + n * entry-wide ≤ bookRoom (now book) ⌝ }
+    ensures answer { λ r. ⌜ r .answer ≡ Accepted (nextNumber (updatesIn used (now (book .entry)))) ⌝ }
+    ensures counts { λ r. ⌜ (r .counts .used ≡ used + n * entry-wide) × (r .counts .rows ≡ rows) ⌝ }
+    ensures entries { λ _. ⌜ now (book .exit) ≡ bookTaking (rowsOf body-wide n (now (staging .entry))) sender (now (book .entry)) used ⌝ }
 {
-    let used = c.used;
     let number = book::next_number(book, used);
     book::write_entries(&mut book[used..], number, sender, staging, n);
-    let rows = taking::take_all(table, c.rows, staging, n);
     Outcome {
         answer: Answer::Accepted(number),
         counts: Counts {
@@ -69,8 +66,8 @@ pub fn take_rows(
         return calls::refused(Answer::BookShort, c);
     }
     let most = table::rows_room(table);
-    if taking::fits_after(table, held, staging, n, most) {
-        return write_rows(staging, n, sender, book, table, c);
+    match taking::take_fitting(table, held, staging, n, most) {
+        taking::Fitted::Count(rows) => write_rows(staging, n, sender, book, used, rows),
+        taking::Fitted::TooMany => calls::refused(Answer::TableShort, c),
     }
-    calls::refused(Answer::TableShort, c)
 }

@@ -3,7 +3,7 @@ use mathlib.Core.Path.{_≡_, refl, sym, ap, _∙_}
 use mathlib.Core.Bool.{Bool, true, false}
 use mathlib.Core.List.{List, [], _∷_}
 use mathlib.Core.Logic.{_⊎_, inl, inr}
-use Prim.Native.Nat.{ℕ, _+_, _-_, _*_, _≤_, _<_}
+use Prim.Native.Nat.{ℕ, suc, _+_, _-_, _*_, _≤_, _<_}
 use native.Mathlib.Nat.{not-suc-le-zero, le-refl, le-trans, mul-le-mul-right}
 use native.Mathlib.Omega.{arith}
 use borrow.Author.Tests.{le-leb, leb-true}
@@ -15,7 +15,7 @@ use Rattle.lists.specs.Rows.{rowsOf, store, Wide}
 use Rattle.lists.proofs.RowLaws.{length-rowsOf, rowsOf-start, rowsOf-step}
 use Rattle.lists.proofs.WideLaws.{wide-rowsOf}
 use Rattle.passage.specs.Layout.{body-wide, row-wide, keyOf}
-use Rattle.keys.specs.Sorted.{get, put}
+use Rattle.keys.specs.Sorted.{get}
 use Rattle.keys.specs.Replay.{taken, takenAll}
 use Rattle.keys.proofs.CountLaws.{length-put-held}
 use Rattle.keys.proofs.ReplayLaws.{empty-or, length-taken-most, get-taken}
@@ -130,3 +130,40 @@ module _ (n most : ℕ) (rs : List (List ℕ)) (t : List ℕ) where
   pub fits-no : leb (length rs) most ≡ false → Fits TooMany t
   unfolding fitting fittingIn
   fits-no h = rw h (refl, refl)
+
+-- ---- what an answer tells
+
+abbrev counted : Fitted → ℕ
+counted (Count k) = suc k
+counted TooMany = 0
+
+told : (b : Bool) (l : ℕ) → counted (on b (Count l) TooMany) ≡ on b (suc l) 0
+told true l = refl
+told false l = refl
+
+yes-told : (b : Bool) (l k : ℕ) → on b (suc l) 0 ≡ suc k → (b ≡ true) × (k ≡ l)
+yes-told true l k e = (refl, omega arith)
+yes-told false l k e = absurd (omega arith)
+
+no-told : (b : Bool) (l : ℕ) → on b (suc l) 0 ≡ 0 → b ≡ false
+no-told true l e = absurd (omega arith)
+no-told false l e = refl
+
+module _ (n most : ℕ) (rs : List (List ℕ)) (t : List ℕ) where
+  told-is : counted (fitting most rs) ≡ on (leb (length rs) most) (suc (length rs)) 0
+  unfolding fitting
+  told-is = told (leb (length rs) most) (length rs)
+
+  pub count-told : (k : ℕ) → fitting most rs ≡ Count k → (leb (length rs) most ≡ true) × (k ≡ length rs)
+  count-told k e = yes-told (leb (length rs) most) (length rs) k (sym told-is ∙ ap counted e)
+
+  pub too-many-told : fitting most rs ≡ TooMany → leb (length rs) most ≡ false
+  too-many-told e = no-told (leb (length rs) most) (length rs) (sym told-is ∙ ap counted e)
+
+  pub in-yes : leb (length rs) most ≡ true → fittingIn n most rs t ≡ store row-wide n rs t
+  unfolding fittingIn
+  in-yes h = rw h
+
+  pub in-no : leb (length rs) most ≡ false → fittingIn n most rs t ≡ t
+  unfolding fittingIn
+  in-no h = rw h

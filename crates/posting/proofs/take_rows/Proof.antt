@@ -2,38 +2,23 @@
 use Prim.Native.Nat.{ℕ, _+_, _*_, _≤_, _<_}
 use native.Mathlib.Omega.{arith}
 use mathlib.Core.Path.{_≡_, sym, ap, _∙_}
-use mathlib.Core.Bool.{true, false}
 use mathlib.Core.List.{List, []}
-use borrow.Author.Tests.{leb-true}
-use lib.Dec.{leb}
 use lib.ListN.{length}
 use Rattle.lists.specs.Rows.{rowsOf}
 use Rattle.lists.proofs.RowLaws.{length-rowsOf}
-use Rattle.passage.specs.Layout.{body-wide}
-use Rattle.table.specs.Rules.{room}
-use Rattle.table.proofs.SoundLaws.{room-most, sound-within, sound-fits, sound-sorted}
+use Rattle.passage.specs.Layout.{body-wide, row-wide}
+use Rattle.table.proofs.SoundLaws.{room-most, room-fits, sound-within, sound-fits, sound-sorted}
 use Rattle.book.specs.Entries.{entry-wide}
 use Rattle.book.specs.Rules.{bookRoom}
-use Rattle.calls.specs.Message.{rowsTaken}
 use Rattle.posting.proofs.SoundLaws.{used-fits}
 use Rattle.posting.proofs.TakeLaws.{rowless, book-short, table-short, fits}
 use borrow.Author.Needs.{needs}
 use Rattle.posting.proofs.take_rows.Statement.{statement}
 use Rattle.posting.proofs.take_rows.Tie as tie
-use Rattle.posting.proofs.take_rows.Reads as reads
-use Rattle.posting.proofs.take_rows.Lts as lts
-use Rattle.book.proofs.book_room.Reads as book-room-reads
-use Rattle.calls.proofs.refused.Reads as refused-reads
-use Rattle.posting.proofs.write_rows.Reads as write-rows-reads
-use Rattle.table.proofs.rows_room.Reads as rows-room-reads
-use Rattle.taking.proofs.fits_after.Reads as fits-after-reads
 
 -- the staged bodies
 abbrev bodies : tie.Start → List (List ℕ)
 bodies s = rowsOf body-wide (s .args .n) (s .args .staging .now)
-
-abbrev room-of : tie.Start → ℕ
-room-of s = room (s .args .table .now)
 
 no-bodies : (s : tie.Start) → s .args .n ≡ 0 → bodies s ≡ []
 unfolding rowsOf
@@ -77,27 +62,33 @@ returns-2 c =
 rows-room-requires : tie.Need-rows-room-requires
 rows-room-requires c κs = search needs
 
-fits-after-requires : tie.Need-fits-after-requires
-fits-after-requires c κs =
+take-fitting-requires : tie.Need-take-fitting-requires
+take-fitting-requires c κs =
     let s = c .before .before .before .before .before .before .before .before .before .before in
     let a = s .args in
     let t = s .pre .1 .1 in
     let m = c .before .rows-room .ensures in
     let most : c .before .rows-room .result ≤ 2048 = rw m (room-most (a .table .now)) in
     let held : a .c .rows ≤ c .before .rows-room .result = rw m (sound-within (a .c .rows) (a .table .now) t) in
-    ((sound-fits (a .c .rows) (a .table .now) t, s .pre .0 .1, held, most, s .pre .0 .0), sound-sorted (a .c .rows) (a .table .now) t)
+    let within : c .before .rows-room .result * row-wide ≤ length (a .table .now) = rw m (room-fits (a .table .now)) in
+    ((sound-fits (a .c .rows) (a .table .now) t, s .pre .0 .1, held, most, s .pre .0 .0), (sound-sorted (a .c .rows) (a .table .now) t, within))
+
+enum-known-rows : tie.Need-enum-known-rows
+enum-known-rows c = search needs
 
 write-rows-requires : tie.Need-write-rows-requires
 write-rows-requires c κs =
-    let tried = c .before .before .before in
-    let s = c .before .before .before .before .before .before .before .before .before .before .before .before .before .before in
+    let s = c .before .before .before .before .before .before .before .before .before .before .before .before .before .before .before .before .before in
     let a = s .args in
-    let room = tried .before .before .before .before .before .book-room .ensures in
-    let left = tried .before .before .before .before .if2 .left in
-    let fit : a .c .used + a .n * entry-wide ≤ bookRoom (a .book .now) = rw (← room) left in
-    let most = tried .before .before .rows-room .ensures in
-    let yes : leb (length (rowsTaken (bodies s) (a .table .now) (a .c .rows))) (room-of s) ≡ true = rw (← most) (sym (tried .fits-after .ensures) ∙ c .before .before .if3 .taken) in
-    (s .pre .0, (s .pre .1, (fit, leb-true _ _ yes)))
+    let room = c .before .before .before .before .before .before .before .before .before .before .before .book-room .ensures in
+    let fit : a .c .used + a .n * entry-wide ≤ bookRoom (a .book .now) = rw (← room) (c .before .before .before .before .before .before .before .before .before .before .if2 .left) in
+    (s .pre .0, (s .pre .1 .0, fit))
+
+enum-told : tie.Need-enum-told
+enum-told c = search needs
+
+refused-requires-3 : tie.Need-refused-requires-3
+refused-requires-3 c κs = search needs
 
 same-length-2 : tie.Need-same-length-2
 same-length-2 c = search needs
@@ -107,20 +98,17 @@ same-length-3 c = search needs
 
 returns-3 : tie.Need-returns-3
 returns-3 c =
-    let wrote = c .before .before .before .before in
-    let tried = wrote .before .before .before .before in
-    let s = c .before .before .before .before .before .before .before .before .before .before .before .before .before .before .before .before .before .before .before in
+    let took = c .before .before .before .before .before .before .before .before .before in
+    let s = c .before .before .before .before .before .before .before .before .before .before .before .before .before .before .before .before .before .before .before .before in
     let a = s .args in
-    let room = tried .before .before .before .before .before .book-room .ensures in
-    let fit : a .c .used + length (bodies s) * entry-wide ≤ bookRoom (a .book .now) = rw (← room, length-rowsOf body-wide (a .n) (a .staging .now)) (tried .before .before .before .before .if2 .left) in
-    let most = tried .before .before .rows-room .ensures in
-    let yes : leb (length (rowsTaken (bodies s) (a .table .now) (a .c .rows))) (room-of s) ≡ true = rw (← most) (sym (tried .fits-after .ensures) ∙ wrote .before .before .before .if3 .taken) in
-    let some : length (bodies s) ≡ 0 → ⊥ = λ e. tried .before .before .before .before .before .before .before .if1 .left (sym (length-rowsOf body-wide (a .n) (a .staging .now)) ∙ e) in
-    let e = wrote .write-rows .ensures in
-    fits (bodies s) (a .sender) (a .book .now) (a .table .now) (a .c) some fit yes (wrote .write-rows .result) _ _ (e .0, e .1 .0) (e .1 .1 .0) (e .1 .1 .1)
-
-refused-requires-3 : tie.Need-refused-requires-3
-refused-requires-3 c κs = search needs
+    let all = length-rowsOf body-wide (a .n) (a .staging .now) in
+    let room = c .before .before .before .before .before .before .before .before .before .before .before .before .before .before .book-room .ensures in
+    let fit : a .c .used + length (bodies s) * entry-wide ≤ bookRoom (a .book .now) = rw (← room, all) (c .before .before .before .before .before .before .before .before .before .before .before .before .before .if2 .left) in
+    let some : length (bodies s) ≡ 0 → ⊥ = λ e. c .before .before .before .before .before .before .before .before .before .before .before .before .before .before .before .before .if1 .left (sym all ∙ e) in
+    let wrote = c .before .before .write-rows in
+    let e = wrote .ensures in
+    let used = e .1 .0 .0 ∙ ap (λ (k : ℕ). a .c .used + k * entry-wide) (sym all) in
+    fits (bodies s) (a .sender) (a .book .now) (a .table .now) (a .c) _ (c .before .before .before .before .before .before .before .before .before .before .before .rows-room .ensures) (took .take-fitting .result) _ (took .take-fitting .ensures) some fit _ (c .before .before .before .before .before .rows .given .1) (wrote .result) _ (e .0) (used, e .1 .0 .1) (e .1 .1)
 
 same-length-4 : tie.Need-same-length-4
 same-length-4 c = search needs
@@ -130,14 +118,12 @@ same-length-5 c = search needs
 
 returns-4 : tie.Need-returns-4
 returns-4 c =
-    let tried = c .before .before in
-    let s = c .before .before .before .before .before .before .before .before .before .before .before .before .before in
+    let took = c .before .before .before .before .before in
+    let s = c .before .before .before .before .before .before .before .before .before .before .before .before .before .before .before .before in
     let a = s .args in
-    let room = tried .before .before .before .before .before .book-room .ensures in
-    let fit : a .c .used + length (bodies s) * entry-wide ≤ bookRoom (a .book .now) = rw (← room, length-rowsOf body-wide (a .n) (a .staging .now)) (tried .before .before .before .before .if2 .left) in
-    let most = tried .before .before .rows-room .ensures in
-    let over : leb (length (rowsTaken (bodies s) (a .table .now) (a .c .rows))) (room-of s) ≡ false = rw (← most) (sym (tried .fits-after .ensures) ∙ c .before .if3 .left) in
-    table-short (bodies s) (a .sender) (a .book .now) (a .table .now) (a .c) fit over (c .refused3 .result) (c .refused3 .ensures)
+    let room = c .before .before .before .before .before .before .before .before .before .before .book-room .ensures in
+    let fit : a .c .used + length (bodies s) * entry-wide ≤ bookRoom (a .book .now) = rw (← room, length-rowsOf body-wide (a .n) (a .staging .now)) (c .before .before .before .before .before .before .before .before .before .if2 .left) in
+    table-short (bodies s) (a .sender) (a .book .now) (a .table .now) (a .c) _ (c .before .before .before .before .before .before .before .rows-room .ensures) (took .take-fitting .result) _ (took .take-fitting .ensures) fit (c .before .enum-told .given .1) (c .refused3 .result) (c .refused3 .ensures)
 
 pub take-rows-spec : {M : Type 1} → statement M
 take-rows-spec =
@@ -152,12 +138,14 @@ take-rows-spec =
     same-length
     returns-2
     rows-room-requires
-    fits-after-requires
+    take-fitting-requires
+    enum-known-rows
     write-rows-requires
+    enum-told
+    refused-requires-3
     same-length-2
     same-length-3
     returns-3
-    refused-requires-3
     same-length-4
     same-length-5
     returns-4)
