@@ -99,11 +99,11 @@ pub fn keys_rise(s: &[u8], w: usize, off: usize, n: usize) -> bool
     ensures { λ r. ⌜ r ≡ sortedRows (map (part off (w - off)) (rowsOf w n (now (s .entry)))) ⌝ }
 {
     let mut p = off;
-    let mut i = 0;
-    while i + 1 < n {
+    let mut row = 0;
+    while row + 1 < n {
         if is_below(s, p, s, p + w) {
             p += w;
-            i += 1;
+            row += 1;
         } else {
             return false;
         }

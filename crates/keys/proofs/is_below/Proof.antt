@@ -1,5 +1,5 @@
 use mathlib.Core.Path.{_≡_, refl, sym, ap, _∙_}
-use mathlib.Core.Bool.{_&&_, _||_}
+use mathlib.Core.Bool.{Bool, _&&_, _||_}
 use mathlib.Core.List.{List}
 use Prim.Native.Nat.{ℕ, _+_, _-_, _*_, _≤_}
 use native.Mathlib.Omega.{arith}
@@ -83,7 +83,8 @@ returns : tie.Need-returns Inv-loop μ-loop
 returns c =
     let l = c .before .before .before in
     let s = l .before .before .before .args in
-    rw (sym (last-below (s .a .now) (s .b .now) (s .p) (s .q) key-wide (l .loop .word * 8) 40 (omega arith) (omega arith) (omega arith) refl)) (l .loop .inv .1)
+    let e = last-below (s .a .now) (s .b .now) (s .p) (s .q) key-wide (l .loop .word * 8) 40 (omega arith) (omega arith) (omega arith) refl in
+    ap (λ (t : Bool). l .loop .below || l .loop .equal && t) (sym e) ∙ l .loop .inv .1
 
 pub is-below-spec : {M : Type 1} → statement M
 is-below-spec =

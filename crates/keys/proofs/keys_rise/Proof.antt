@@ -14,10 +14,10 @@ use Rattle.keys.proofs.keys_rise.Statement.{statement}
 use Rattle.keys.proofs.keys_rise.Tie as tie
 
 abbrev Inv-loop : tie.InvT-loop
-Inv-loop s w off n p₀ i₀ p i = (i ≤ n) × (p ≡ i * w + off) × (sortedRows (map (part off (w - off)) (rowsOf w n s)) ≡ sortedRows (left w off n s i))
+Inv-loop s w off n p₀ row₀ p row = (row ≤ n) × (p ≡ row * w + off) × (sortedRows (map (part off (w - off)) (rowsOf w n s)) ≡ sortedRows (left w off n s row))
 
 abbrev μ-loop : tie.MeasureT-loop
-μ-loop s w off n p₀ i₀ p i = n - i
+μ-loop s w off n p₀ row₀ p row = n - row
 
 loop-holds : tie.Need-loop-holds Inv-loop μ-loop
 loop-holds c = let a = c .before .args in (omega arith, omega arith, sym (rise-start (a .w) (a .off) (a .n) (a .s .now)))
@@ -29,10 +29,10 @@ add-loop c =
     omega (arith, c .before .before .pre .0)
 
 -- the next row lies within the list
-fit : (c : tie.In-loop Inv-loop μ-loop) → let a = c .before .before .before .args in c .before .loop .i * a .w + a .w + a .w ≤ length (a .s .now)
+fit : (c : tie.In-loop Inv-loop μ-loop) → let a = c .before .before .before .args in c .before .loop .row * a .w + a .w + a .w ≤ length (a .s .now)
 fit c =
     let a = c .before .before .before .args in
-    rise-fits (a .w) (a .off) (a .n) (a .s .now) (c .before .loop .i) (c .loop-test .taken) (c .before .before .before .pre .0)
+    rise-fits (a .w) (a .off) (a .n) (a .s .now) (c .before .loop .row) (c .loop-test .taken) (c .before .before .before .pre .0)
 
 add-is-below : tie.Need-add-is-below Inv-loop μ-loop
 add-is-below c = omega (arith, fit c, c .before .loop .inv .1)
@@ -43,8 +43,8 @@ is-below-requires c κs = (omega (arith, fit c, c .before .loop .inv .1), omega 
 add-p : tie.Need-add-p Inv-loop μ-loop
 add-p c = omega (arith, fit (c .before .before), c .before .before .before .loop .inv .1)
 
-add-i : tie.Need-add-i Inv-loop μ-loop
-add-i c = search needs
+add-row : tie.Need-add-row Inv-loop μ-loop
+add-row c = search needs
 
 loop-less : tie.Need-loop-less Inv-loop μ-loop
 loop-less c = search needs
@@ -53,19 +53,19 @@ loop-less c = search needs
 step : (c : tie.After-is-below Inv-loop μ-loop) →
     let a = c .before .before .before .before .args in
     sortedRows (map (part (a .off) (a .w - a .off)) (rowsOf (a .w) (a .n) (a .s .now)))
-    ≡ both (c .is-below .result) (sortedRows (left (a .w) (a .off) (a .n) (a .s .now) (c .before .before .loop .i + 1)))
+    ≡ both (c .is-below .result) (sortedRows (left (a .w) (a .off) (a .n) (a .s .now) (c .before .before .loop .row + 1)))
 step c =
     let a = c .before .before .before .before .args in
     let l = c .before .before .loop in
     l .inv .2
-    ∙ rise-step (a .w) (a .off) (a .n) (a .s .now) (l .i) (c .before .loop-test .taken) (c .before .before .before .before .pre .1)
+    ∙ rise-step (a .w) (a .off) (a .n) (a .s .now) (l .row) (c .before .loop-test .taken) (c .before .before .before .before .pre .1)
     ∙ rw (c .is-below .ensures, l .inv .1)
 
 loop-again : tie.Need-loop-again Inv-loop μ-loop
 loop-again c =
     let l = c .before .before .before .loop in
     let a = c .before .before .before .before .before .args in
-    (omega arith, rw (next-row (a .w) (l .i)) (omega (arith, l .inv .1)), step (c .before) ∙ rw (c .if1 .taken))
+    (omega arith, rw (next-row (a .w) (l .row)) (omega (arith, l .inv .1)), step (c .before) ∙ rw (c .if1 .taken))
 
 returns : tie.Need-returns Inv-loop μ-loop
 returns c = sym (step (c .before) ∙ rw (c .if1 .left))
@@ -74,7 +74,7 @@ returns-2 : tie.Need-returns-2 Inv-loop μ-loop
 returns-2 c =
     let a = c .before .before .before .args in
     let l = c .before .loop in
-    sym (l .inv .2 ∙ rise-end (a .w) (a .off) (a .n) (a .s .now) (l .i) (c .loop-test .left))
+    sym (l .inv .2 ∙ rise-end (a .w) (a .off) (a .n) (a .s .now) (l .row) (c .loop-test .left))
 
 pub keys-rise-spec : {M : Type 1} → statement M
 keys-rise-spec =
@@ -87,7 +87,7 @@ keys-rise-spec =
     add-is-below
     is-below-requires
     add-p
-    add-i
+    add-row
     loop-less
     loop-again
     returns
