@@ -1,3 +1,4 @@
 pub mod AskLaws
+pub mod TextLaws
 pub mod ShowLaws
 pub mod Determined

@@ -7,10 +7,10 @@ ghost use lib.ListN.{length};
 ghost use Rattle.lists.specs.Part.{part};
 ghost use Rattle.lists.specs.Text.{same};
 ghost use Rattle.texts.specs.Texts.{isText};
-ghost use Rattle.passage.specs.Layout.{row-wide, ownerOf};
+ghost use Rattle.passage.specs.Layout.{text-wide, row-wide, ownerOf};
 ghost use Rattle.passage.specs.Ranges.{rowInRange};
 ghost use Rattle.shows.specs.Ask.{asksInRange};
-ghost use Rattle.shows.specs.Look.{isOf, shownAt, mayBe};
+ghost use Rattle.shows.specs.Look.{shownAt, mayBe};
 
 // Whether a row is shown, and if so its departure moment.
 pub enum Shown {
@@ -49,22 +49,25 @@ pub fn asks_in_range(owner: &[u8], stop: &[u8], date: u32, second: u32, horizon:
     is_text(owner) & is_text(stop) & clock::is_date(date) & (second < 86400) & (horizon <= 86400)
 }
 
-// Whether the row from `at` on is of this owner, padded.
-pub fn is_owned(t: &[u8], at: usize, owner: &[u8]) -> bool
-    requires { ⌜ at + row-wide ≤ length (now t) ⌝ }
-    ensures { λ r. ⌜ r ≡ same (ownerOf (part at row-wide (now (t .entry)))) (now (owner .entry)) ⌝ }
+// Whether the padded text stands from `at` on. No branch, and few loads.
+fn same_text(t: &[u8], at: usize, text: &[u8]) -> bool
+    requires { ⌜ (at + text-wide ≤ length (now t)) × (length (now text) ≡ text-wide) ⌝ }
+    ensures { λ r. ⌜ r ≡ same (part at text-wide (now (t .entry))) (now (text .entry)) ⌝ }
 {
-    lists::same_bytes(&t[at..at + passage::TEXT_WIDE], owner)
+    let first = lists::get_number(t, at, 4);
+    let second = lists::get_number(t, at + 4, 4);
+    let last = lists::get_number(t, at + 8, 2);
+    (first == lists::get_number(text, 0, 4))
+        & (second == lists::get_number(text, 4, 4))
+        & (last == lists::get_number(text, 8, 2))
 }
 
-// Whether the row from `at` on is of this owner and this stop, both padded.
-fn is_of(t: &[u8], at: usize, owner: &[u8], stop: &[u8]) -> bool
-    requires { ⌜ at + row-wide ≤ length (now t) ⌝ }
-    ensures { λ r. ⌜ r ≡ isOf (now (owner .entry)) (now (stop .entry)) (part at row-wide (now (t .entry))) ⌝ }
+// Whether the row from `at` on is of this owner, padded.
+pub fn is_owned(t: &[u8], at: usize, owner: &[u8]) -> bool
+    requires { ⌜ (at + row-wide ≤ length (now t)) × (length (now owner) ≡ text-wide) ⌝ }
+    ensures { λ r. ⌜ r ≡ same (ownerOf (part at row-wide (now (t .entry)))) (now (owner .entry)) ⌝ }
 {
-    let s = at + passage::STOP_AT;
-    lists::same_bytes(&t[at..at + passage::TEXT_WIDE], owner)
-        & lists::same_bytes(&t[s..s + passage::TEXT_WIDE], stop)
+    same_text(t, at, owner)
 }
 
 // The show rule but for stop and stop type.
@@ -85,12 +88,12 @@ fn may_be(
         & ((flexible <= 1) | (flexible == 3) & (monitored == 1))
 }
 
-// Whether the row from `at` on is shown, and if so its departure moment.
+// Whether the row from `at` on, which is of this owner, is shown, and if so its departure moment.
 pub fn shown_at(t: &[u8], at: usize, owner: &[u8], stop: &[u8], from: u32, till: u32) -> Shown
-    requires { ⌜ (at + row-wide ≤ length (now t)) × (rowInRange (part at row-wide (now t)) ≡ true) ⌝ }
+    requires { ⌜ (at + row-wide ≤ length (now t)) × (rowInRange (part at row-wide (now t)) ≡ true) × (length (now stop) ≡ text-wide) × (same (ownerOf (part at row-wide (now t))) (now owner) ≡ true) ⌝ }
     ensures { λ r. ⌜ r ≡ shownAt (now (owner .entry)) (now (stop .entry)) from till (part at row-wide (now (t .entry))) ⌝ }
 {
-    let here = is_of(t, at, owner, stop);
+    let here = same_text(t, at + passage::STOP_AT, stop);
     if here {
         if t[at + passage::STOP_TYPE_AT] == 2 {
             return Shown::Hidden;
