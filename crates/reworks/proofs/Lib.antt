@@ -1,7 +1,5 @@
-pub mod TakeLaws
 pub mod RowsLaws
 pub mod NamesLaws
-pub mod HeardLaws
 pub mod WorkLaws
 pub mod ReworkLaws
 pub mod RoomLaws

@@ -2,22 +2,15 @@
 use calls::Answer;
 use calls::Counts;
 use calls::Outcome;
-use keys::Found;
 ghost use mathlib.Core.Path.{_≡_};
 ghost use mathlib.Core.Bool.{true};
-ghost use mathlib.Core.List.{[], _∷_, map};
-ghost use Prim.Native.Nat.{ℕ, _+_, _*_, _≤_, _<_};
-ghost use lib.ListN.{length, drop, take};
-ghost use Rattle.lists.specs.Each.{Each};
-ghost use Rattle.lists.specs.Part.{part};
-ghost use Rattle.lists.specs.Rows.{rowsOf};
-ghost use Rattle.passage.specs.Layout.{body-wide};
-ghost use Rattle.keys.specs.Sorted.{sortedRows};
+ghost use mathlib.Core.List.{map};
+ghost use Prim.Native.Nat.{_+_, _*_, _≤_};
+ghost use lib.ListN.{length};
 ghost use Rattle.book.specs.Entries.{entry-wide};
 ghost use Rattle.book.specs.Rules.{bookSound};
 ghost use Rattle.calls.specs.Withdraw.{withdrawSound};
-ghost use Rattle.slots.specs.Slots.{slot-wide, slotsOf, keyIn};
-ghost use Rattle.slots.specs.Worked.{takeIn, heardIn, namesAt};
+ghost use Rattle.slots.specs.Slots.{slot-wide, slotsOf};
 ghost use Rattle.reworks.specs.Steps.{Stands, namesIn, workedOut, roomOutcome, roomBook, roomTable};
 
 // The entries of a small message, and a slot for each.
@@ -29,79 +22,6 @@ const FEW_SLOTS: usize = 4352;
 const MOST: usize = 4096;
 
 const MOST_SLOTS: usize = 278528;
-
-// The update whose body stands at p of b is taken into the slot of its key, if there is one.
-fn take_update(b: &[u8], p: usize, e: &[u8], m: usize, order: &[u32], c: usize, slots: &mut [u8])
-    requires { ⌜ (p + body-wide ≤ length (now b)) × (m * entry-wide ≤ length (now e)) × (c ≤ length (now order)) × (c * slot-wide ≤ length (now slots)) ⌝ }
-    requires { ⌜ Each (λ (j : ℕ). j < m) (take c (now order)) ⌝ }
-    requires { ⌜ sortedRows (namesAt (now e) (take c (now order))) ≡ true ⌝ }
-    requires { ⌜ map keyIn (slotsOf c (now slots)) ≡ namesAt (now e) (take c (now order)) ⌝ }
-    ensures { λ _. ⌜ slotsOf c (now (slots .exit)) ≡ map (takeIn (part p body-wide (now (b .entry)))) (slotsOf c (now (slots .entry))) ⌝ }
-{
-    let f = sorting::find_place(e, m, book::BODY_AT, book::ENTRY_WIDE, order, c, b, p);
-    match f {
-        Found::At(i) => {
-            slots::take_into(slots, i * slots::SLOT_WIDE, b, p);
-            return;
-        }
-        Found::Missing(_) => {
-            return;
-        }
-    }
-}
-
-// The entry from p on is taken into its slot, if it stands and is of another message.
-fn replay_one(
-    b: &[u8],
-    p: usize,
-    number: u32,
-    e: &[u8],
-    m: usize,
-    order: &[u32],
-    c: usize,
-    slots: &mut [u8],
-)
-    requires { ⌜ (p + entry-wide ≤ length (now b)) × (m * entry-wide ≤ length (now e)) × (c ≤ length (now order)) × (c * slot-wide ≤ length (now slots)) ⌝ }
-    requires { ⌜ Each (λ (j : ℕ). j < m) (take c (now order)) ⌝ }
-    requires { ⌜ sortedRows (namesAt (now e) (take c (now order))) ≡ true ⌝ }
-    requires { ⌜ map keyIn (slotsOf c (now slots)) ≡ namesAt (now e) (take c (now order)) ⌝ }
-    ensures { λ _. ⌜ slotsOf c (now (slots .exit)) ≡ map (heardIn number (part p entry-wide (now (b .entry)) ∷ [])) (slotsOf c (now (slots .entry))) ⌝ }
-{
-    let kind = b[p];
-    if kind != 2 {
-        return;
-    }
-    let own = lists::get_number(b, p + book::NUMBER_AT, book::NUMBER_WIDE);
-    if own == number {
-        return;
-    }
-    take_update(b, p + book::BODY_AT, e, m, order, c, slots);
-}
-
-// The k updates from `at` on, one after another, in the order accepted.
-fn replay(
-    b: &[u8],
-    at: usize,
-    k: usize,
-    number: u32,
-    e: &[u8],
-    m: usize,
-    order: &[u32],
-    c: usize,
-    slots: &mut [u8],
-)
-    requires { ⌜ (at + k * entry-wide ≤ length (now b)) × (m * entry-wide ≤ length (now e)) × (c ≤ length (now order)) × (c * slot-wide ≤ length (now slots)) ⌝ }
-    requires { ⌜ Each (λ (j : ℕ). j < m) (take c (now order)) ⌝ }
-    requires { ⌜ sortedRows (namesAt (now e) (take c (now order))) ≡ true ⌝ }
-    requires { ⌜ map keyIn (slotsOf c (now slots)) ≡ namesAt (now e) (take c (now order)) ⌝ }
-    ensures { λ _. ⌜ slotsOf c (now (slots .exit)) ≡ map (heardIn number (rowsOf entry-wide k (drop at (now (b .entry))))) (slotsOf c (now (slots .entry))) ⌝ }
-{
-    let mut i = 0;
-    while i < k {
-        replay_one(b, at + i * book::ENTRY_WIDE, number, e, m, order, c, slots);
-        i += 1;
-    }
-}
 
 // The passages that the m entries from `at` on name, in slots, each as the book gives it once message `number` is withdrawn; their count.
 fn work_out(
@@ -124,7 +44,7 @@ fn work_out(
     slots::begin_slots(book, n, e, m, order, c, slots);
     let from = n * book::PLAN_WIDE;
     let k = (used - from) / book::ENTRY_WIDE;
-    replay(book, from, k, number, e, m, order, c, slots);
+    replays::replay(book, from, k, number, e, m, order, c, slots);
     c
 }
 

@@ -77,7 +77,7 @@ returns c =
     let w = sorted (c .before .before .before .before .before .before .before .before .before .before .before .before .before) in
     let a = c .before .before .before .before .before .before .before .before .before .before .before .before .before .before .before .before .before .before .before .args in
     let k = order-most w in
-    (order-count w, worked w (c .before .before .before .before .before .before .before .before .before .before .count-plans .ensures) (a .slots .now) _ (omega arith) (c .before .before .before .before .before .before .before .begin-slots .ensures) (a .number) _ (c .before .before .replay .ensures))
+    (order-count w, worked w (c .before .before .before .before .before .before .before .before .before .before .count-plans .ensures) (a .slots .now) _ (omega arith) (c .before .before .before .before .before .before .before .begin-slots .ensures) (a .number) _ (c .before .before .replay .ensures .0))
 
 pub work-out-spec : {M : Type 1} → statement M
 work-out-spec =

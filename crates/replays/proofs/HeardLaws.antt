@@ -13,6 +13,7 @@ use Rattle.lists.specs.Part.{part, over}
 use Rattle.lists.specs.Rows.{rowsOf, Wide}
 use Rattle.lists.specs.BigEndian.{number}
 use Rattle.lists.proofs.PartLaws.{length-part}
+use Rattle.lists.proofs.ReadLaws.{drop-behind}
 use Rattle.lists.proofs.RowLaws.{row-at, length-rowsOf}
 use Rattle.passage.specs.Layout.{key-wide, body-wide, keyOf}
 use Rattle.keys.specs.declared.Found.{Found}
@@ -29,7 +30,7 @@ use Rattle.slots.specs.Slots.{slot-wide, slotsOf, keyIn, rowIn}
 use Rattle.slots.specs.Worked.{takeIn, takenIn, heardIn}
 use Rattle.slots.proofs.SlotLaws.{taken-append, heard-key}
 use Rattle.slots.proofs.SlotWriteLaws.{slots-set}
-use Rattle.reworks.proofs.TakeLaws.{take-found}
+use Rattle.replays.proofs.TakeLaws.{take-found}
 
 -- ---- one update, by where its key is found among the slots
 
@@ -62,6 +63,14 @@ module _ (c p : ℕ) (b d : List ℕ) (names : List (List ℕ)) (fits : c * slot
       ap (slotsOf c) g
       ∙ slots-set c i (1 ∷ rowRule (rowIn (part (i * slot-wide) slot-wide d)) u) d fits h (omega arith)
       ∙ rw (← row-at slot-wide c i d h) (sym (take-found u (slotsOf c d) (At i) (rw keys rises) (found-as (At i) e)))
+
+  -- what lies behind the slots stays
+  pub update-rest : (i : ℕ) (s : List ℕ) → At i ≡ lookup (part p key-wide b) names → s ≡ over (i * slot-wide) (1 ∷ rowRule (rowIn (part (i * slot-wide) slot-wide d)) u) d
+      → drop (c * slot-wide) s ≡ drop (c * slot-wide) d
+  update-rest i s e g =
+      let h = update-below i e in
+      let wide = rule-wide (rowIn (part (i * slot-wide) slot-wide d)) u (length-part p body-wide b body) in
+      ap (drop (c * slot-wide)) g ∙ drop-behind (c * slot-wide) (i * slot-wide) (1 ∷ rowRule (rowIn (part (i * slot-wide) slot-wide d)) u) d (omega arith)
 
   pub update-missing : (i : ℕ) → Missing i ≡ lookup (part p key-wide b) names → slotsOf c d ≡ map (takeIn u) (slotsOf c d)
   update-missing i e = sym (take-found u (slotsOf c d) (Missing i) (rw keys rises) (found-as (Missing i) e))

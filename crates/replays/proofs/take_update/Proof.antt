@@ -1,10 +1,10 @@
-use mathlib.Core.Path.{sym, _∙_}
+use mathlib.Core.Path.{refl, sym, _∙_}
 use Prim.Native.Nat.{_<_}
 use native.Mathlib.Omega.{arith}
 use borrow.Author.Needs.{needs}
-use Rattle.reworks.proofs.HeardLaws.{update-below, update-taken, update-missing}
-use Rattle.reworks.proofs.take_update.Statement.{statement}
-use Rattle.reworks.proofs.take_update.Tie as tie
+use Rattle.replays.proofs.HeardLaws.{update-below, update-taken, update-rest, update-missing}
+use Rattle.replays.proofs.take_update.Statement.{statement}
+use Rattle.replays.proofs.take_update.Tie as tie
 
 find-place-requires : tie.Need-find-place-requires
 find-place-requires c κs =
@@ -38,7 +38,10 @@ returns : tie.Need-returns
 returns c =
     let start = c .before .before .before .before .before .before .before .before .before .before .before .before in
     let a = start .args in
-    update-taken (a .c) (a .p) (a .b .now) (a .slots .now) _ (start .pre .0 .3) (start .pre .0 .0) (start .pre .1 .1 .0) (start .pre .1 .1 .1) _ _ (sym (c .before .before .before .before .before .f .given .1) ∙ c .before .before .before .before .before .before .before .find-place .ensures) (c .before .before .take-into .ensures)
+    let found = sym (c .before .before .before .before .before .f .given .1) ∙ c .before .before .before .before .before .before .before .find-place .ensures in (
+      update-taken (a .c) (a .p) (a .b .now) (a .slots .now) _ (start .pre .0 .3) (start .pre .0 .0) (start .pre .1 .1 .0) (start .pre .1 .1 .1) _ _ found (c .before .before .take-into .ensures),
+      update-rest (a .c) (a .p) (a .b .now) (a .slots .now) _ (start .pre .0 .3) (start .pre .0 .0) (start .pre .1 .1 .0) (start .pre .1 .1 .1) _ _ found (c .before .before .take-into .ensures),
+    )
 
 enum-told : tie.Need-enum-told
 enum-told c = search needs
@@ -47,7 +50,7 @@ returns-2 : tie.Need-returns-2
 returns-2 c =
     let start = c .before .before .before .before .before .before .before in
     let a = start .args in
-    update-missing (a .c) (a .p) (a .b .now) (a .slots .now) _ (start .pre .0 .3) (start .pre .0 .0) (start .pre .1 .1 .0) (start .pre .1 .1 .1) _ (sym (c .enum-told .given .1) ∙ c .before .before .find-place .ensures)
+    (update-missing (a .c) (a .p) (a .b .now) (a .slots .now) _ (start .pre .0 .3) (start .pre .0 .0) (start .pre .1 .1 .0) (start .pre .1 .1 .1) _ (sym (c .enum-told .given .1) ∙ c .before .before .find-place .ensures), refl)
 
 pub take-update-spec : {M : Type 1} → statement M
 take-update-spec =
