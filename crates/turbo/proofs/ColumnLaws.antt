@@ -1,19 +1,21 @@
 use Prim.Native.Nat.{ℕ, suc, _+_, _≤_, _<_, _-_}
 use native.Mathlib.Omega.{arith}
 use native.Mathlib.Numerals.{add-one}
+use native.Mathlib.Decide.{decLt}
 use mathlib.Core.Path.{_≡_, refl, sym, ap, _∙_}
 use mathlib.Core.Bool.{Bool, true, false}
 use mathlib.Core.List.{List, [], _∷_}
 use borrow.Author.Tests.{leb-true, leb-false, ltb-true, ltb-false, eq-eqb, ne-eqb, le-leb, lt-leb}
-use lib.ListN.{length, take, drop, set, replicate}
+use lib.ListN.{length, getD, take, drop, set, replicate}
+use lib.Seq.{getD-set-same, getD-set-other}
 use lib.Dec.{ltb, leb}
 use Rattle.lists.specs.Logic.{on}
 use Rattle.lists.specs.Text.{same}
 use Rattle.turbo.specs.declared.Columns.{Columns}
 use Rattle.turbo.specs.declared.Seen.the-variants.{First, Twice}
-use Rattle.turbo.specs.Split.{until, fields}
+use Rattle.turbo.specs.Split.{until, past, fields, tailAt}
 use Rattle.turbo.specs.Columns.{count, place, anyTwice, placesFrom, columnsOf, noted, seenBy, sought, most}
-use Rattle.turbo.proofs.SplitLaws.{fields-cons, fields-last}
+use Rattle.turbo.proofs.SplitLaws.{rest-is, tail-past, fields-cons, fields-last}
 
 -- Laws of the search for column names. Assumes nothing.
 
@@ -143,3 +145,21 @@ module _ (none i : ℕ) (w : List ℕ) (fs : List (List ℕ)) (ps : List ℕ) (z
 -- one field fewer is left
 pub fields-fewer : (l : List ℕ) (n : ℕ) → n ≡ length (until 124 l) → n < length l → length (fields l) ≡ suc (length (fields (take (length l - (n + 1)) (drop (n + 1) l))))
 fields-fewer l n e h = ap length (fields-cons l n e h)
+
+-- one label more is measured
+pub measured-next :
+    (labels sizes l : List ℕ) (k n : ℕ) → k < length sizes → l ≡ tailAt k labels → n ≡ length (until 124 l)
+    → ((m : ℕ) → m < k → getD sizes m 0 ≡ length (until 124 (tailAt m labels)))
+    → (m : ℕ) → m < k + 1 → getD (set sizes k n) m 0 ≡ length (until 124 (tailAt m labels))
+measured-next labels sizes l k n h e q f m b = go (decLt m k)
+  where
+    go : Dec (m < k) → getD (set sizes k n) m 0 ≡ length (until 124 (tailAt m labels))
+    go (yes a) = getD-set-other sizes k m n 0 (λ z. omega arith) ∙ f m a
+    go (no a) =
+        let z : m ≡ k = omega (arith, a) in
+        rw z (getD-set-same sizes k n 0 h ∙ q ∙ ap (λ (x : List ℕ). length (until 124 x)) e)
+
+-- the labels behind one, n where its bar was found
+pub tail-labels :
+    (labels l : List ℕ) (k n : ℕ) → l ≡ tailAt k labels → n ≡ length (until 124 l) → take (length l - (n + 1)) (drop (n + 1) l) ≡ tailAt (k + 1) labels
+tail-labels labels l k n e q = rest-is 124 n l q ∙ ap (past 124) e ∙ tail-past k labels ∙ ap (λ (i : ℕ). tailAt i labels) (sym (add-one k))

@@ -176,6 +176,11 @@ pub tail-zero : (l : List ℕ) → tailAt 0 l ≡ l
 unfolding tailAt
 tail-zero l = refl
 
+-- a bar more, from the back
+pub tail-past : (k : ℕ) (l : List ℕ) → past 124 (tailAt k l) ≡ tailAt (suc k) l
+tail-past zero l = ap (past 124) (tail-zero l) ∙ sym (tail-next 0 l ∙ tail-zero (past 124 l))
+tail-past (suc k) l = ap (past 124) (tail-next k l) ∙ tail-past k (past 124 l) ∙ sym (tail-next (suc k) l)
+
 -- how many fields there are, byte by byte
 onto-length : (b : ℕ) (fs : List (List ℕ)) → 0 < length fs → length (onto b fs) ≡ length fs
 onto-length b [] h = absurd (omega arith)

@@ -1,11 +1,13 @@
 -- The search for column names in a label line. Names are compared as raw bytes. Assumes nothing.
-use Prim.Native.Nat.{ℕ, zero, suc}
+use Prim.Native.Nat.{ℕ, zero, suc, _<_}
+use mathlib.Core.Path.{_≡_}
 use mathlib.Core.Bool.{Bool, true, false}
 use mathlib.Core.List.{List, [], _∷_}
-use lib.ListN.{length, set, replicate}
+use lib.ListN.{length, getD, set, replicate}
 use lib.Dec.{eqb, leb}
 use Rattle.lists.specs.Logic.{on}
 use Rattle.lists.specs.Text.{same}
+use Rattle.turbo.specs.Split.{until, tailAt}
 use Rattle.turbo.specs.declared.Seen.{Seen}
 use Rattle.turbo.specs.declared.Seen.the-variants.{First, Twice}
 use Rattle.turbo.specs.declared.Columns.{Columns}
@@ -54,3 +56,7 @@ seenBy Twice f z = z
 unfoldable pub sought : ℕ → ℕ → ℕ → List ℕ → List (List ℕ) → Seen
 sought none first k w [] = First first
 sought none first k w (f ∷ fs) = seenBy (noted none first k (same f w)) (λ at. sought none at (suc k) w fs) Twice
+
+-- the sizes of the first labels
+abbrev pub Measured : List ℕ → List ℕ → Type 0
+Measured labels sizes = (k : ℕ) → k < length sizes → getD sizes k 0 ≡ length (until 124 (tailAt k labels))

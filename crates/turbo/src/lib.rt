@@ -5,7 +5,7 @@ ghost use Prim.Native.Nat.{ℕ, _+_, _≤_, _<_};
 ghost use lib.ListN.{length, drop, getD};
 ghost use Rattle.turbo.specs.Escape.{escaped};
 ghost use Rattle.turbo.specs.Split.{until, past, fields, fieldAt, tailAt, lines, letter, markOf, afterMark};
-ghost use Rattle.turbo.specs.Columns.{place, noted, columnsOf, most};
+ghost use Rattle.turbo.specs.Columns.{place, noted, columnsOf, most, Measured};
 
 // The byte that a backslash and `b` stand for, 0 for none.
 pub fn escaped(b: u8) -> u8
@@ -398,9 +398,36 @@ fn note(none: usize, first: usize, k: usize, hit: bool) -> Seen
     Seen::First(first)
 }
 
+// How many bytes the first labels have, as many as there is room for.
+fn measure(labels: &[u8], sizes: &mut [usize])
+    ensures { λ _. ⌜ Measured (now (labels .entry)) (now (sizes .exit)) ⌝ }
+{
+    let mut l = labels;
+    let mut k: usize = 0;
+    while k < sizes.len() {
+        let mut n: usize = 0;
+        let after = read_field(l, &mut n);
+        sizes[k] = n;
+        l = after;
+        k += 1;
+    }
+}
+
+// How many bytes label k has, l being the labels from it on.
+fn size_at(sizes: &[usize], k: usize, l: &[u8]) -> usize
+    requires { ⌜ (k < length (now sizes) → getD (now sizes) k 0 ≡ length (until 124 (now l))) ⌝ }
+    ensures is { λ r. ⌜ r ≡ length (until 124 (now (l .entry))) ⌝ }
+    ensures within { λ r. ⌜ r ≤ length (now (l .entry)) ⌝ }
+{
+    if k < sizes.len() {
+        return sizes[k];
+    }
+    find(l, 124)
+}
+
 // The places of the wanted names among the columns of a label line; both are names parted by bars. The search ends at the second find.
-pub fn find_columns(wanted: &[u8], labels: &[u8]) -> Columns
-    requires { ⌜ length (fields (now wanted)) ≤ most ⌝ }
+fn search_columns(wanted: &[u8], labels: &[u8], sizes: &[usize]) -> Columns
+    requires { ⌜ (length (fields (now wanted)) ≤ most) × Measured (now labels) (now sizes) ⌝ }
     ensures { λ r. ⌜ r ≡ columnsOf (fields (now (wanted .entry))) (fields (now (labels .entry))) ⌝ }
 {
     let none = count_fields(labels);
@@ -415,7 +442,7 @@ pub fn find_columns(wanted: &[u8], labels: &[u8]) -> Columns
         let mut k: usize = 0;
         let mut l = labels;
         'columns: loop {
-            let n = find(l, 124);
+            let n = size_at(sizes, k, l);
             let hit = lists::same_bytes(&l[..n], name);
             match note(none, first, k, hit) {
                 Seen::First(p) => {
@@ -446,4 +473,14 @@ pub fn find_columns(wanted: &[u8], labels: &[u8]) -> Columns
         twice: twice,
         places: places,
     }
+}
+
+// The same, the labels measured first: they are walked over for each name, and a table of 000 has at most 65.
+pub fn find_columns(wanted: &[u8], labels: &[u8]) -> Columns
+    requires { ⌜ length (fields (now wanted)) ≤ most ⌝ }
+    ensures { λ r. ⌜ r ≡ columnsOf (fields (now (wanted .entry))) (fields (now (labels .entry))) ⌝ }
+{
+    let mut sizes = [0usize; 72];
+    measure(labels, &mut sizes);
+    search_columns(wanted, labels, &sizes)
 }
