@@ -12,8 +12,6 @@ use Rattle.table.proofs.insert_row.Kinds as insert-row
 use Rattle.table.proofs.insert_row.Reads as insert-row-reads
 use Rattle.table.proofs.replace_row.Kinds as replace-row
 use Rattle.table.proofs.replace_row.Reads as replace-row-reads
-use Rattle.table.proofs.put_row.Kinds as put-row
-use Rattle.table.proofs.put_row.Reads as put-row-reads
 use Rattle.table.proofs.remove_key.Kinds as remove-key
 use Rattle.table.proofs.remove_key.Reads as remove-key-reads
 use Rattle.table.proofs.table_is_sound.Kinds as table-is-sound
@@ -42,9 +40,6 @@ pub replace-row-determined : Determined 2 replace-row.ps replace-row.r replace-r
 replace-row-determined κs a x y s t p q = p ∙ sym q
 
 -- ---- functions that answer a count and write into their first parameter
-
-pub put-row-determined : OneResult 2 put-row.ps put-row.r put-row-reads.Post × Determined 2 put-row.ps put-row.r put-row-reads.Post (λ κs x s. now (s .0))
-put-row-determined = (λ κs a x y s t p q. p .0 ∙ sym (q .0), λ κs a x y s t p q. p .1 ∙ sym (q .1))
 
 pub remove-key-determined : OneResult 2 remove-key.ps remove-key.r remove-key-reads.Post × Determined 2 remove-key.ps remove-key.r remove-key-reads.Post (λ κs x s. now (s .0))
 remove-key-determined = (λ κs a x y s t p q. p .0 ∙ sym (q .0), λ κs a x y s t p q. p .1 ∙ sym (q .1))

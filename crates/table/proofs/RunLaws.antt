@@ -1,4 +1,4 @@
--- Rows removed and put one after another: what a caller carries through a run of `remove_key` and then of `put_row`. Assumes nothing.
+-- Rows removed and put one after another: what a caller carries through a run of `remove_key` and then of rows put by their keys. Assumes nothing.
 use mathlib.Core.Path.{_≡_, sym, ap, _∙_}
 use mathlib.Core.Bool.{true}
 use mathlib.Core.List.{List, [], _∷_}
@@ -65,7 +65,7 @@ module _ (n : ℕ) (t₀ : List ℕ) (c : ℕ) (t : List ℕ) (rs : List (List �
   then-leaves : (qs : List (List ℕ)) → Wide row-wide qs → length rs ≤ n → store row-wide c qs t ≡ store row-wide n qs t₀
   then-leaves qs w l = rw (h .count, h .stored) (store-leaves row-wide n rs qs t₀ (h .wide) w l)
 
-  -- after put_row: d and u are its count and bytes
+  -- after a row is put by its key: d and u are the count and the bytes
   pub holds-put : (r : List ℕ) (d : ℕ) (u : List ℕ) → length r ≡ row-wide → length (put r rs) * row-wide ≤ length t₀
       → d ≡ length (put r (rows c t)) → u ≡ store row-wide c (put r (rows c t)) t → Holds n t₀ d u (put r rs)
   holds-put r d u l f e g =

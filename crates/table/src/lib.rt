@@ -8,7 +8,7 @@ ghost use Rattle.lists.specs.Part.{part};
 ghost use Rattle.lists.specs.Rows.{insertAt, removeAt, store};
 ghost use Rattle.passage.specs.Layout.{key-wide, row-wide, bodyOf};
 ghost use Rattle.passage.specs.Ranges.{allCommon};
-ghost use Rattle.keys.specs.Sorted.{sortedRows, lookup, put, remove};
+ghost use Rattle.keys.specs.Sorted.{sortedRows, lookup, remove};
 ghost use Rattle.table.specs.Rules.{rows, room, allInRange, tableSound};
 
 // The most rows that a table has.
@@ -120,26 +120,6 @@ fn remove_row(t: &mut [u8], n: usize, i: usize)
     let behind = (n - 1 - i) * passage::ROW_WIDE;
     lists::shift_down(t, a, behind, passage::ROW_WIDE);
     lists::clear(t, a + behind, passage::ROW_WIDE);
-}
-
-// The row r is put in by its key, or takes the place of the row with its key; the new count.
-pub fn put_row(t: &mut [u8], n: usize, r: &[u8]) -> usize
-    requires { ⌜ (n * row-wide ≤ length (now t)) × (length (put (now r) (rows n (now t))) * row-wide ≤ length (now t)) × (length (now r) ≡ row-wide) ⌝ }
-    requires { ⌜ sortedRows (rows n (now t)) ≡ true ⌝ }
-    ensures { λ m. ⌜ m ≡ length (put (now (r .entry)) (rows n (now (t .entry)))) ⌝ }
-    ensures { λ _. ⌜ now (t .exit) ≡ store row-wide n (put (now (r .entry)) (rows n (now (t .entry)))) (now (t .entry)) ⌝ }
-{
-    let f = find(t, n, r, 0);
-    match f {
-        keys::Found::At(i) => {
-            replace_row(t, n, i, r);
-            n
-        }
-        keys::Found::Missing(i) => {
-            insert_row(t, n, i, r);
-            n + 1
-        }
-    }
 }
 
 // The row of the key at q of k leaves, if there is one; the new count.

@@ -57,7 +57,7 @@ fn take_found(t: &mut [u8], n: usize, s: &[u8], at: usize, f: keys::Found) -> us
 }
 
 // The update whose body stands at `at` of s is taken into the n rows of t; the new count.
-pub fn take_row(t: &mut [u8], n: usize, s: &[u8], at: usize) -> usize
+fn take_row(t: &mut [u8], n: usize, s: &[u8], at: usize) -> usize
     requires { ⌜ (n * row-wide ≤ length (now t)) × (at + body-wide ≤ length (now s)) ⌝ }
     requires { ⌜ sortedRows (rowsOf row-wide n (now t)) ≡ true ⌝ }
     requires { ⌜ length (taken rowRule (part at body-wide (now s)) (rowsOf row-wide n (now t))) * row-wide ≤ length (now t) ⌝ }
@@ -81,7 +81,7 @@ fn take_near(t: &mut [u8], n: usize, s: &[u8], at: usize, hint: usize) -> usize
 }
 
 // The m updates whose bodies stand in s are taken into the n rows of t, one after another; the new count.
-pub fn take_all(t: &mut [u8], n: usize, s: &[u8], m: usize) -> usize
+fn take_all(t: &mut [u8], n: usize, s: &[u8], m: usize) -> usize
     requires { ⌜ (n * row-wide ≤ length (now t)) × (m * body-wide ≤ length (now s)) ⌝ }
     requires { ⌜ sortedRows (rowsOf row-wide n (now t)) ≡ true ⌝ }
     requires { ⌜ length (takenAll rowRule (rowsOf body-wide m (now s)) (rowsOf row-wide n (now t))) * row-wide ≤ length (now t) ⌝ }
@@ -117,7 +117,7 @@ fn trial_fits(trial: &mut [u8], t: &[u8], n: usize, s: &[u8], m: usize, most: us
 }
 
 // Whether there are at most `most` rows once the m updates are taken; tried only where there could be more.
-pub fn fits_after(t: &[u8], n: usize, s: &[u8], m: usize, most: usize) -> bool
+fn fits_after(t: &[u8], n: usize, s: &[u8], m: usize, most: usize) -> bool
     requires { ⌜ (n * row-wide ≤ length (now t)) × (m * body-wide ≤ length (now s)) × (n ≤ most) × (most ≤ 2048) × (m ≤ 2427) ⌝ }
     requires { ⌜ sortedRows (rowsOf row-wide n (now t)) ≡ true ⌝ }
     ensures { λ r. ⌜ r ≡ leb (length (takenAll rowRule (rowsOf body-wide m (now (s .entry))) (rowsOf row-wide n (now (t .entry))))) most ⌝ }
