@@ -1,4 +1,5 @@
 pub mod ReadingLaws
+pub mod PlainLaws
 pub mod KeptLaws
 pub mod Claims
 pub mod Determined
