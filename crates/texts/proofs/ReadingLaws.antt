@@ -88,7 +88,7 @@ outcome-long : (f t : List ℕ) (v : ℕ) (l : List ℕ) → decode f ≡ t ++ v
 unfolding text
 outcome-long f t v l e h = rw (e, above-range 1 10 (length (t ++ v ∷ l)) (omega (arith, length-append t (v ∷ l))))
 
-pub outcome-is : (f t : List ℕ) → decode f ≡ t → 1 ≤ length t → length t ≤ 10 → allText t ≡ true → textGiven true t ≡ text f
+outcome-is : (f t : List ℕ) → decode f ≡ t → 1 ≤ length t → length t ≤ 10 → allText t ≡ true → textGiven true t ≡ text f
 unfolding text
 outcome-is f t e h k g = rw (e, in-range 1 10 (length t) h k, g)
 

@@ -1,9 +1,9 @@
 -- Texts that are kept: 1 to 10 bytes, each 32 to 126, after decoding. Assumes nothing.
 use Prim.Native.Nat.{ℕ, _-_}
 use mathlib.Core.List.{List, [], _∷_, _++_}
-use mathlib.Core.Bool.{Bool, true, false, not, _&&_, _||_}
+use mathlib.Core.Bool.{Bool, true, false}
 use lib.ListN.{length, replicate}
-use lib.Dec.{eqb, ltb}
+use lib.Dec.{eqb}
 use Rattle.lists.specs.Logic.{on, both, within}
 use Rattle.turbo.specs.Escape.{escaped, decode}
 use Rattle.texts.specs.declared.Text.{Text}
@@ -44,12 +44,3 @@ keptStep b = on (within 32 126 b) (Byte b) Bad
 -- what one more byte of a field does; the Bool says that it stands after a backslash
 unfoldable pub stepOf : Bool → ℕ → Step
 stepOf after b = on after (keptStep (escaped b)) (on (eqb b 92) Mark (keptStep b))
-
--- a byte that does not stand for itself in a text: it is not of 32 to 126, or a backslash
-unfoldable pub odd : ℕ → Bool
-odd b = (ltb b 32 || ltb 126 b) || eqb b 92
-
--- every byte stands for itself
-unfoldable pub plain : List ℕ → Bool
-plain [] = true
-plain (x ∷ l) = not (odd x) && plain l
