@@ -77,7 +77,7 @@ pub fn sort_and_write(
     ensures rows { λ _. ⌜ now (table .exit) ≡ openedTable (rowsOf body-wide n (now (bodies .entry))) (now (book .entry)) (now (table .entry)) ⌝ }
 {
     let mut order = [0u32; MOST];
-    let distinct = sorting::sort_keys(bodies, n, 0, passage::BODY_WIDE, &mut order);
+    let distinct = merging::sort_keys(bodies, n, 0, passage::BODY_WIDE, &mut order);
     let room = table::rows_room(table);
     if distinct != n {
         return calls::refused(Answer::KeyTwice, c);

@@ -39,7 +39,7 @@ fn work_out(
     ensures { λ r. ⌜ slotsOf r (now (slots .exit)) ≡ map (workedOut number used (now (book .entry))) (namesIn at m (now (book .entry))) ⌝ }
 {
     let e = &book[at..at + m * book::ENTRY_WIDE];
-    let c = sorting::sort_keys(e, m, book::BODY_AT, book::ENTRY_WIDE, order);
+    let c = merging::sort_keys(e, m, book::BODY_AT, book::ENTRY_WIDE, order);
     let n = book::count_plans(book, used);
     slots::begin_slots(book, n, e, m, order, c, slots);
     let from = n * book::PLAN_WIDE;
