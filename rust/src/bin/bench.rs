@@ -204,8 +204,11 @@ fn parts(rows: usize) -> Vec<Case> {
         planning: planning_dossier(rows / DATES, Columns::All),
         calendar: b"\\G\r\n".to_vec(),
     };
+    let empty = Call::Open { planning: Vec::new(), calendar: Vec::new() };
     vec![
+        case("open, empty dossiers: areas cleared", empty, &blank()),
         case("open, 26 columns, no validities: reading", unjoined, &blank()),
+        case("message, empty dossier, book and table: areas cleared", message(b""), &blank()),
         case("message without rows: soundness", message(b"\\G\r\n"), &day.state),
         case(
             "message, wanted columns, no owner registered: soundness, reading",
