@@ -1,5 +1,4 @@
 pub mod CellLaws
-pub mod WriteLaws
 pub mod PartLaws
 pub mod LayoutLaws
 pub mod DigitLaws

@@ -8,10 +8,10 @@ use Rattle.fields.specs.Digits as Digits
 use Rattle.fields.specs.Dates as Dates
 use Rattle.fields.specs.Stamps as Stamps
 use Rattle.words.specs.Names as Names
 use Rattle.cells.specs.Cell.{width, numberCell, timeAt, cell}
-use Rattle.cells.proofs.WriteLaws.{Kept, kept-as, wide-as, kind-as, last-kind}
-use Rattle.cells.proofs.write_cell.Statement.{statement}
-use Rattle.cells.proofs.write_cell.Tie as tie
+use Rattle.filling.proofs.WriteLaws.{Kept, kept-as, wide-as, kind-as, last-kind}
+use Rattle.filling.proofs.write_cell.Statement.{statement}
+use Rattle.filling.proofs.write_cell.Tie as tie
 
 write-text-requires : tie.Need-write-text-requires
 unfolding width

@@ -5,10 +5,10 @@ use denote.Ref.{now}
 use lib.ListN.{length}
 use Rattle.texts.specs.declared.Text.{Text}
 use Rattle.texts.proofs.KeptLaws.{text-length}
 use Rattle.cells.specs.Cell.{textCell}
-use Rattle.cells.proofs.WriteLaws.{kept-none, kept-long, text-kept, text-refused}
-use Rattle.cells.proofs.write_text.Statement.{statement}
-use Rattle.cells.proofs.write_text.Tie as tie
+use Rattle.filling.proofs.WriteLaws.{kept-none, kept-long, text-kept, text-refused}
+use Rattle.filling.proofs.write_text.Statement.{statement}
+use Rattle.filling.proofs.write_text.Tie as tie
 
 read-text-requires : tie.Need-read-text-requires
 read-text-requires c κs = search needs

@@ -1,11 +1,11 @@
 use mathlib.Core.Path.{sym, ap}
 use borrow.Author.Needs.{needs}
 use Rattle.lists.specs.Rows.{flat}
 use Rattle.cells.specs.Cell.{width}
 use Rattle.cells.specs.Tables.{messageColumns, planningColumns, calendarColumns, columnsIn, rowWidth}
 use Rattle.cells.specs.Layout.{blankRow}
-use Rattle.cells.proofs.blank.Statement.{statement}
-use Rattle.cells.proofs.blank.Tie as tie
+use Rattle.filling.proofs.blank.Statement.{statement}
+use Rattle.filling.proofs.blank.Tie as tie
 
 enum-told : tie.Need-enum-told
 enum-told c = search needs

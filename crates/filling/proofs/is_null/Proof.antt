@@ -2,9 +2,9 @@ use mathlib.Core.Path.{_≡_}
 use borrow.Author.Needs.{needs}
 use denote.Ref.{now}
 use Rattle.lists.specs.Text.{same}
 use Rattle.cells.specs.Cell.{null}
-use Rattle.cells.proofs.is_null.Statement.{statement}
-use Rattle.cells.proofs.is_null.Tie as tie
+use Rattle.filling.proofs.is_null.Statement.{statement}
+use Rattle.filling.proofs.is_null.Tie as tie
 
 slice-aggregate-same-bytes : tie.Need-slice-aggregate-same-bytes
 slice-aggregate-same-bytes c = search needs
