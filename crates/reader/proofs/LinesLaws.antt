@@ -21,9 +21,9 @@ use Rattle.cells.specs.Tables.{rowWidth}
 use Rattle.reader.specs.declared.State.{State}
 use Rattle.reader.specs.declared.Answer.the-variants.{Form, Field, Owner, Rows}
 use Rattle.reader.specs.Items.{Item, Place, outside, after, seen, before, items}
-use Rattle.rows.specs.declared.Shape.{Shape}
+use Rattle.shapes.specs.declared.Shape.{Shape}
 use Rattle.rows.specs.declared.Read.{Read}
-use Rattle.rows.specs.Shape.{shapeOf}
+use Rattle.shapes.specs.Shape.{shapeOf}
 use Rattle.rows.specs.Reading.{readBy}
 use Rattle.reader.specs.Rules.{maySend, settled, firstLine, firstColumn, answerTo, rowsUpTo, itemsOf, laid}
 use Rattle.reader.specs.Step.{moved, misformed, labelled, mistyped, disowned, counted, rowStep, dataStep, labelStep, stepAt, stepBy, stageBy, Fresh}

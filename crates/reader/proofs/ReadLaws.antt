@@ -11,7 +11,7 @@ use Rattle.cells.specs.declared.Table.the-variants.{Message, Planning, Calendar
 use Rattle.cells.specs.Tables.{rowOf, rowWidth}
 use Rattle.cells.specs.Layout.{room}
 use Rattle.passage.specs.Register.{grants}
-use Rattle.rows.specs.declared.Shape.{Shape}
+use Rattle.shapes.specs.declared.Shape.{Shape}
 use Rattle.rows.specs.Reading.{IsShape}
 use Rattle.rows.proofs.RowLaws.{shape-reads, row-length}
 use Rattle.reader.specs.declared.State.{State}

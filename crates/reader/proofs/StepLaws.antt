@@ -6,7 +6,7 @@ use lib.ListN.{length}
 use Rattle.turbo.specs.declared.Mark.the-variants.{Group, Table, Labels, Data}
 use Rattle.turbo.specs.Split.{until, fields, markOf, afterMark}
 use Rattle.cells.specs.declared.Table as Tables
-use Rattle.rows.specs.Shape.{shapeOf}
+use Rattle.shapes.specs.Shape.{shapeOf}
 use Rattle.rows.specs.Reading.{readBy}
 use Rattle.reader.specs.declared.State.{State}
 use Rattle.reader.specs.Step.{moved, misformed, rowStep, dataStep, labelStep, placeNamed, stepBy, rowStaged, dataStaged, stageBy}

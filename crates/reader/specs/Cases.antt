@@ -23,7 +23,7 @@ use Rattle.texts.specs.Texts.{text}
 use Rattle.cells.specs.declared.Table.the-variants.{Message, Calendar}
 use Rattle.cells.specs.Cell.{cell}
 use Rattle.cells.specs.Tables.{messageColumns, calendarColumns, columnsIn, tableName, names, misses, rowOf, wrongColumn}
-use Rattle.rows.specs.Shape.{labelFault}
+use Rattle.shapes.specs.Shape.{labelFault}
 use Rattle.passage.specs.Register.{among, grants}
 use Rattle.reader.specs.declared.Answer.{Answer}
 use Rattle.reader.specs.declared.Answer.the-variants.{Syntax, Form, Field, Owner, Rows}

@@ -14,7 +14,7 @@ use Rattle.turbo.specs.Split.{fields, lines}
 use Rattle.cells.specs.declared.Table.{Table}
 use Rattle.cells.specs.declared.Table.the-variants as Tables
 use Rattle.cells.specs.Tables.{rowWidth, rowOf, wrongColumn}
-use Rattle.rows.specs.Shape.{labelFault}
+use Rattle.shapes.specs.Shape.{labelFault}
 use Rattle.passage.specs.Register.{grants}
 use Rattle.reader.specs.declared.Answer.{Answer}
 use Rattle.reader.specs.declared.Answer.the-variants.{TooLong, Syntax, Form, Field, Owner, Rows}

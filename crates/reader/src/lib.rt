@@ -1,7 +1,7 @@
 // The reader of turbo dossiers: from any bytes to rows in a staging area, or the refusal that document 01 gives. It knows nothing of boards.
 use cells::Table;
 use rows::Read;
-use rows::Shape;
+use shapes::Shape;
 use syntax::Verdict;
 use turbo::Mark;
 ghost use mathlib.Core.Path.{_≡_};
@@ -226,7 +226,7 @@ fn line_step(
         }
         Mark::Labels => {
             if place == 1 {
-                let h = rows::read_labels(t, turbo::after_mark(line));
+                let h = shapes::read_labels(t, turbo::after_mark(line));
                 return label_step(s, h);
             }
             moved_to(s, 0)

@@ -1,16 +1,11 @@
 -- The claims of `specs/Claims.antt`. Assumes nothing.
-use mathlib.Core.Path.{sym, _∙_}
+use mathlib.Core.Path.{_∙_}
 use Rattle.rows.specs.Claims.{All}
-use Rattle.rows.proofs.SoundLaws.{shape-fault}
 use Rattle.rows.proofs.RowLaws.{shape-reads, read-length, row-length, row-part}
-use Rattle.rows.proofs.LabelLaws.{faultless, once, there, cell-stands, cell-absent, right-none, none-right, first-outside, outside-first, row-alike, right-alike, right-alike-back, fault-alike}
+use Rattle.rows.proofs.UnderLaws.{cell-stands, cell-absent, right-none, none-right, first-outside, outside-first, row-alike, right-alike, right-alike-back, fault-alike}
 
 pub claims : All
 claims = (
-  λ t labels. (
-    λ e. let f = sym (shape-fault t labels) ∙ e in (once t labels f, there t labels f),
-    λ p. shape-fault t labels ∙ faultless t labels (p .0) (p .1),
-  ),
   shape-reads,
   (read-length, row-length),
   λ t labels line e w j h. (

@@ -23,10 +23,10 @@ use Rattle.cells.specs.Layout.{wanted, columnAt, kindAt, optionalAt, widthIn, w
 use Rattle.cells.proofs.CellLaws.{cell-width}
 use Rattle.cells.proofs.PartLaws.{Fit}
 use Rattle.cells.proofs.LayoutLaws.{absent-width, width-at, length-widths, wanted-most}
-use Rattle.rows.specs.declared.Shape.{Shape}
+use Rattle.shapes.specs.declared.Shape.{Shape}
 use Rattle.rows.specs.Reading.{perColumn, cellsBy, empty, cellOf, filled}
 use Rattle.rows.proofs.ColumnLaws.{per-length, per-at, flat-set, fit-each}
-use Rattle.rows.proofs.SoundLaws.{Sound}
+use Rattle.shapes.proofs.SoundLaws.{Sound}
 
 pub equal : (k j : ℕ) → Dec (k ≡ j)
 equal k j = go (eqb k j) refl

@@ -1,8 +1,3 @@
-pub mod NextLaws
-pub mod OrderLaws
-pub mod AheadLaws
-pub mod ShapeLaws
-pub mod SoundLaws
 pub mod TailLaws
 pub mod ColumnLaws
 pub mod FillLaws
@@ -10,6 +5,6 @@ pub mod ReachLaws
 pub mod FieldLaws
 pub mod GoingLaws
 pub mod RowLaws
-pub mod LabelLaws
+pub mod UnderLaws
 pub mod Claims
 pub mod Determined

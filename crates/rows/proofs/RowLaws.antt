@@ -18,12 +18,12 @@ use Rattle.cells.specs.Tables.{Column, must, columnsIn, nameOf, cellAt, cellsOf
 use Rattle.cells.specs.Layout.{wanted, columnAt, kindAt, widths, offset, room}
 use Rattle.cells.proofs.PartLaws.{begins, Fit, length-flat, flat-part}
 use Rattle.cells.proofs.LayoutLaws.{wanted-most, width-at, length-widths, total-widths}
-use Rattle.rows.specs.declared.Shape.{Shape}
+use Rattle.shapes.specs.declared.Shape.{Shape}
 use Rattle.rows.specs.declared.Read.{Read}
-use Rattle.rows.specs.Shape.{placesOf, labelFault, shapeOf}
+use Rattle.shapes.specs.Shape.{placesOf, labelFault, shapeOf}
 use Rattle.rows.specs.Reading.{perColumn, cellsBy, firstWrong, readGiven, readCells, readBy, IsShape}
 use Rattle.rows.proofs.ColumnLaws.{WrongIs, wrong-is, fit-each}
-use Rattle.rows.proofs.SoundLaws.{name-at, place-at, places-room, shape-fault, shape-is}
+use Rattle.shapes.proofs.SoundLaws.{name-at, place-at, places-room, shape-fault, shape-is}
 use Rattle.rows.proofs.FillLaws.{cell-wide}
 
 -- ---- the readers' rule is the rule by labels

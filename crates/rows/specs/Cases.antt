@@ -1,11 +1,9 @@
--- Small label lines and data lines, by computation. Assumes nothing.
+-- Small data lines under their labels, by computation. Assumes nothing.
 use Prim.Native.Nat.{ℕ}
 use mathlib.Core.Path.{_≡_, refl}
-use mathlib.Core.Bool.{true, false}
 use mathlib.Core.List.{List, [], _∷_, _++_}
-use lib.ListN.{take, drop, replicate}
+use lib.ListN.{replicate}
 use Rattle.lists.specs.Text.{bytes, same}
-use Rattle.lists.specs.Part.{onto, over}
 use Rattle.lists.specs.Rows.{flat}
 use Rattle.lists.specs.BigEndian.{spelled}
 use Rattle.clock.specs.Date.{daysIn, isDate}
@@ -22,32 +20,9 @@ use Rattle.texts.specs.Texts.{text}
 use Rattle.cells.specs.declared.Table.the-variants.{Message, Calendar}
 use Rattle.cells.specs.Cell.{cell}
 use Rattle.cells.specs.Tables.{messageColumns, calendarColumns, columnsIn, names, misses, rowOf, wrongColumn}
-use Rattle.rows.specs.Shape.{nextFrom, visits, labelFault, shapeOf}
+use Rattle.shapes.specs.Shape.{labelFault, shapeOf}
+use Rattle.shapes.specs.Cases.{labels}
 use Rattle.rows.specs.Reading.{perColumn, firstWrong, readBy}
-
--- ---- labels
-
--- a calendar's columns out of order, among others: the level is first, the date third, the owner fifth
-unfoldable pub labels : List (List ℕ)
-labels = bytes "LocalServiceLevelCode" ∷ bytes "X" ∷ bytes "OperationDate" ∷ bytes "Y" ∷ bytes "DataOwnerCode" ∷ []
-
-pub calendar-shape :
-    (shapeOf Calendar labels .fault ≡ false)
-    × (shapeOf Calendar labels .count ≡ 5)
-    × (take 3 (shapeOf Calendar labels .places) ≡ 4 ∷ 0 ∷ 2 ∷ [])
-    × (take 3 (shapeOf Calendar labels .order) ≡ 1 ∷ 2 ∷ 0 ∷ [])
-unfolding labels shapeOf labelFault anyTwice count placesFrom place names columnsIn calendarColumns misses same visits nextFrom over onto
-calendar-shape = (refl, refl, refl, refl)
-
--- a missing column, and a wanted name that stands twice; an unwanted one may
-pub label-faults :
-    (labelFault Calendar (drop 1 labels) ≡ true)
-    × (labelFault Calendar (bytes "OperationDate" ∷ labels) ≡ true)
-    × (labelFault Calendar (bytes "X" ∷ labels) ≡ false)
-unfolding labels labelFault anyTwice count place names columnsIn calendarColumns misses same
-label-faults = (refl, refl, refl)
-
--- ---- rows
 
 -- a message's stop type in front, an unwanted column, and two optional columns missing
 unfoldable pub messageLabels : List (List ℕ)

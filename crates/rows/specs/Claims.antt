@@ -1,10 +1,10 @@
--- What is certain of label lines and of the rows that lines give under them. `proofs/Claims.antt` proves `All`. Assumes nothing.
+-- What is certain of the rows that lines give under their labels. `proofs/Claims.antt` proves `All`. Assumes nothing.
 use Prim.Native.Nat.{ℕ, _+_, _≤_, _<_}
 use mathlib.Core.Path.{_≡_}
-use mathlib.Core.Bool.{true, false}
-use mathlib.Core.List.{List, []}
+use mathlib.Core.Bool.{false}
+use mathlib.Core.List.{List}
 use mathlib.Core.Logic.{_⊎_, _↔_}
-use lib.ListN.{length, getD}
+use lib.ListN.{length}
 use Rattle.lists.specs.Part.{part}
 use Rattle.turbo.specs.Split.{fieldAt}
 use Rattle.turbo.specs.Columns.{place}
@@ -12,14 +12,11 @@ use Rattle.turbo.specs.Claims.{Twice}
 use Rattle.cells.specs.declared.Table.{Table}
 use Rattle.cells.specs.Cell.{width, some}
 use Rattle.cells.specs.Tables.{nameOf, rowWidth, rowOf, wrongColumn, stopPlace}
-use Rattle.cells.specs.Layout.{wanted, columnAt, kindAt, optionalAt, offset, room}
-use Rattle.rows.specs.declared.Shape.{Shape}
-use Rattle.rows.specs.Shape.{labelFault, shapeOf}
+use Rattle.cells.specs.Layout.{wanted, columnAt, kindAt, offset, room}
+use Rattle.shapes.specs.declared.Shape.{Shape}
+use Rattle.shapes.specs.Shape.{labelFault, shapeOf}
+use Rattle.shapes.specs.Claims.{Stands}
 use Rattle.rows.specs.Reading.{cellOf, readGiven, readBy}
-
--- the name of column j stands at place p among the labels
-abbrev pub Stands : Table → List (List ℕ) → ℕ → ℕ → Type 0
-Stands t labels j p = (p < length labels) × (getD labels p [] ≡ nameOf (columnAt t j))
 
 -- the field of the row's own stop type, and the cell that column j has by the field at place p
 abbrev pub stopField : List (List ℕ) → List ℕ → List ℕ
@@ -31,16 +28,6 @@ cellBy t labels line j p = cellOf (columnAt t j) (stopField labels line) (fieldA
 -- the part of column j in a row
 abbrev pub partOf : Table → ℕ → List ℕ → List ℕ
 partOf t j row = part (offset t j) (width (kindAt t j)) row
-
--- ---- label lines
-
--- A label line has no fault exactly where no wanted name stands twice and each column that must be there stands in it.
-abbrev pub FaultlessLabels : Type 0
-FaultlessLabels =
-    (t : Table) (labels : List (List ℕ)) →
-    (shapeOf t labels .fault ≡ false)
-    ↔ (((j : ℕ) → j < wanted t → Twice (nameOf (columnAt t j)) labels → ⊥)
-    × ((j : ℕ) → j < wanted t → optionalAt t j ≡ false → (p : ℕ) × Stands t labels j p))
 
 -- ---- rows
 
@@ -103,4 +90,4 @@ OrderIsFree =
     × (((j : ℕ) → j < wanted t → Twice (nameOf (columnAt t j)) labels′ → ⊥) → labelFault t labels ≡ false → labelFault t labels′ ≡ false)
 
 abbrev pub All : Type 0
-All = FaultlessLabels × ReadByLabels × RowsWide × RowHoldsLine × NoneWrong × FirstWrong × OrderIsFree
+All = ReadByLabels × RowsWide × RowHoldsLine × NoneWrong × FirstWrong × OrderIsFree

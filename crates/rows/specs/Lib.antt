@@ -1,4 +1,3 @@
-pub mod Shape
 pub mod Reading
 pub mod Claims
 pub mod Cases

@@ -3,7 +3,7 @@ use mathlib.Core.Path.{sym, ap, _∙_}
 use mathlib.Core.List.{List}
 use borrow.Author.Needs.{needs}
 use Rattle.turbo.specs.Split.{until, fields}
-use Rattle.rows.specs.Shape.{shapeOf}
+use Rattle.shapes.specs.Shape.{shapeOf}
 use Rattle.reader.specs.Step.{moved, labelStep, placeNamed}
 use Rattle.reader.proofs.StepLaws.{line-group, line-table, line-labels, line-labels-skipped, line-data, line-data-skipped}
 use Rattle.reader.proofs.line_step.Statement.{statement}

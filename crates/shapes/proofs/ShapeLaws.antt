@@ -14,8 +14,8 @@ use Rattle.cells.specs.declared.Table.{Table}
 use Rattle.cells.specs.declared.Table.the-variants.{Message, Planning, Calendar}
 use Rattle.cells.specs.Tables.{messageColumns, planningColumns, calendarColumns, columnsIn, names, misses, stopPlace}
 use Rattle.cells.specs.Layout.{wanted}
-use Rattle.rows.specs.declared.Shape.{Shape}
-use Rattle.rows.specs.Shape.{placesOf, mustCount, lacking, labelFault, visits, order, noShape, shapeOf}
+use Rattle.shapes.specs.declared.Shape.{Shape}
+use Rattle.shapes.specs.Shape.{placesOf, mustCount, lacking, labelFault, visits, order, noShape, shapeOf}
 
 pub must-most : (t : Table) → mustCount t ≤ most
 unfolding mustCount

@@ -21,11 +21,10 @@ use Rattle.cells.specs.Cell.{text}
 use Rattle.cells.specs.Tables.{Column, must, messageColumns, planningColumns, calendarColumns, columnsIn, names, nameOf, isOptional, missesIn, misses, stopPlace}
 use Rattle.cells.specs.Layout.{wanted, columnAt, optionalAt}
 use Rattle.cells.proofs.LayoutLaws.{wanted-most, names-wanted}
-use Rattle.rows.specs.declared.Shape.{Shape}
-use Rattle.rows.specs.Shape.{placesOf, labelFault, visits, order, noShape, shapeOf}
-use Rattle.rows.specs.Reading.{IsShape}
-use Rattle.rows.proofs.AheadLaws.{visits-length}
-use Rattle.rows.proofs.ShapeLaws.{found-twice, found-places}
+use Rattle.shapes.specs.declared.Shape.{Shape}
+use Rattle.shapes.specs.Shape.{placesOf, labelFault, visits, order, noShape, shapeOf}
+use Rattle.shapes.proofs.AheadLaws.{visits-length}
+use Rattle.shapes.proofs.ShapeLaws.{found-twice, found-places}
 
 -- ---- the wanted names are all different
 
@@ -167,7 +166,7 @@ pub shape-is : (t : Table) (labels : List (List ℕ)) → labelFault t labels �
 unfolding shapeOf
 shape-is t labels e = rw e
 
-right-sound : (t : Table) (labels : List (List ℕ)) → labelFault t labels ≡ false → Sound t (rightShape t labels)
+pub right-sound : (t : Table) (labels : List (List ℕ)) → labelFault t labels ≡ false → Sound t (rightShape t labels)
 right-sound t labels e =
     record {
       room = places-room t labels;
@@ -176,11 +175,6 @@ right-sound t labels e =
       found = refl;
       order = refl;
     }
-
-pub sound : (t : Table) (h : Shape) → IsShape t h → Sound t h
-sound t h g =
-    let e : labelFault t (g .labels) ≡ false = sym (shape-fault t (g .labels)) ∙ ap (λ (x : Shape). x .fault) (sym (g .shape)) ∙ g .faultless in
-    rw (g .shape ∙ shape-is t (g .labels) e) (right-sound t (g .labels) e)
 
 pub found-most : (t : Table) (h : Shape) → Sound t h → h .found ≤ most
 found-most t h g =
