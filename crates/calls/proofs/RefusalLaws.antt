@@ -13,10 +13,11 @@ use Rattle.syntax.specs.Machine.{fault}
 use Rattle.cells.specs.declared.Table.{Table}
 use Rattle.cells.specs.declared.Table.the-variants as Tables
 use Rattle.cells.specs.Tables.{rowOf}
+use Rattle.steps.specs.Step.{maySend}
 use Rattle.reader.specs.declared.Answer.{Answer as Reading}
 use Rattle.reader.specs.declared.Answer.the-variants as Readings
 use Rattle.reader.specs.Items.{Item, head, row}
-use Rattle.reader.specs.Rules.{largest, maySend, formBad, isWrong, ownerBad, firstLine, bySyntax, answerTo, itemsOf, readingOf}
+use Rattle.reader.specs.Rules.{largest, formBad, isWrong, ownerBad, firstLine, bySyntax, answerTo, itemsOf, readingOf}
 use Rattle.keys.specs.Sorted.{putAll}
 use Rattle.table.specs.Rules.{room}
 use Rattle.book.specs.Entries.{plan-wide, senderOf, kindOf, updatesIn}

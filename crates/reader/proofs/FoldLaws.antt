@@ -18,12 +18,12 @@ use Rattle.shapes.specs.declared.Shape.{Shape}
 use Rattle.shapes.specs.Shape.{labelFault, shapeOf}
 use Rattle.rows.specs.Reading.{readBy, readGiven}
 use Rattle.cells.specs.Layout.{room}
-use Rattle.reader.specs.declared.State.{State}
+use Rattle.steps.specs.declared.State.{State}
 use Rattle.reader.specs.declared.Answer.{Answer}
 use Rattle.reader.specs.declared.Answer.the-variants.{Form}
 use Rattle.reader.specs.Items.{Item, head, row, Place, outside, awaiting, under, after, seen, before}
-use Rattle.reader.specs.Rules.{formBad, isWrong, maySend, ownerBad, firstLine, firstColumn, rowsUpTo, settled}
-use Rattle.reader.specs.Step.{moved, misformed, labelled, mistyped, disowned, counted, rowStep, dataStep, labelStep, stepAt, stepBy}
+use Rattle.reader.specs.Rules.{formBad, isWrong, ownerBad, firstLine, firstColumn, rowsUpTo, settled}
+use Rattle.steps.specs.Step.{moved, misformed, labelled, mistyped, disowned, counted, maySend, rowStep, dataStep, labelStep, stepAt, stepBy}
 
 -- The answer by lines: what a line changes in the state is what its item changes in the answer. Assumes nothing.
 

@@ -1,6 +1,3 @@
-pub mod WidthLaws
-pub mod RowStepLaws
-pub mod StepLaws
 pub mod FoldLaws
 pub mod StageLaws
 pub mod ReadLaws

@@ -18,16 +18,16 @@ use Rattle.turbo.specs.Split.{until, past, fields, lines, markOf, afterMark}
 use Rattle.turbo.proofs.SplitLaws.{lines-cons, lines-none, after-line-shorter}
 use Rattle.cells.specs.declared.Table.{Table}
 use Rattle.cells.specs.Tables.{rowWidth}
-use Rattle.reader.specs.declared.State.{State}
+use Rattle.steps.specs.declared.State.{State}
 use Rattle.reader.specs.declared.Answer.the-variants.{Form, Field, Owner, Rows}
 use Rattle.reader.specs.Items.{Item, Place, outside, after, seen, before, items}
 use Rattle.shapes.specs.declared.Shape.{Shape}
 use Rattle.rows.specs.declared.Read.{Read}
 use Rattle.shapes.specs.Shape.{shapeOf}
 use Rattle.rows.specs.Reading.{readBy}
-use Rattle.reader.specs.Rules.{maySend, settled, firstLine, firstColumn, answerTo, rowsUpTo, itemsOf, laid}
-use Rattle.reader.specs.Step.{moved, misformed, labelled, mistyped, disowned, counted, rowStep, dataStep, labelStep, stepAt, stepBy, stageBy, Fresh}
-use Rattle.reader.proofs.WidthLaws.{width-some}
+use Rattle.reader.specs.Rules.{settled, firstLine, firstColumn, answerTo, rowsUpTo, itemsOf, laid}
+use Rattle.steps.specs.Step.{moved, misformed, labelled, mistyped, disowned, counted, maySend, rowStep, dataStep, labelStep, stepAt, stepBy, stageBy, Fresh}
+use Rattle.steps.proofs.WidthLaws.{width-some}
 use Rattle.reader.proofs.FoldLaws.{first, clean, rowsFrom, settledFrom, Agrees, Goes, Reads, line-go}
 use Rattle.reader.proofs.StageLaws.{Stages, Fronts, line-stages, on-same}
 
@@ -129,7 +129,7 @@ module _ (t : Table) (register : List ℕ) (sender : ℕ) (d st₀ : List ℕ) w
 
   pub reading-start : (s : State) → Fresh s → Reading t register sender d st₀ s d st₀
   unfolding answerTo
-  reading-start s (p, l, f, w, c, o, r) =
+  reading-start s (p, l, f, w, c, o, r, h) =
       record {
         place = outside;
         done = [];

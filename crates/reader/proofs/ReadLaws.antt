@@ -14,10 +14,10 @@ use Rattle.passage.specs.Register.{grants}
 use Rattle.shapes.specs.declared.Shape.{Shape}
 use Rattle.rows.specs.Reading.{IsShape}
 use Rattle.rows.proofs.RowLaws.{shape-reads, row-length}
-use Rattle.reader.specs.declared.State.{State}
+use Rattle.steps.specs.declared.State.{State}
+use Rattle.steps.specs.Step.{maySend}
 use Rattle.reader.specs.Items.{Place, outside, awaiting, under}
-use Rattle.reader.specs.Rules.{maySend}
-use Rattle.reader.proofs.WidthLaws.{width-most, width-owner}
+use Rattle.steps.proofs.WidthLaws.{width-most, width-owner}
 use Rattle.reader.proofs.FoldLaws.{Agrees, Reads, shape-fault}
 use Rattle.reader.proofs.StageLaws.{Fronts}
 

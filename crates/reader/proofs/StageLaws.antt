@@ -27,10 +27,10 @@ use Rattle.rows.specs.declared.Read.{Read}
 use Rattle.shapes.specs.Shape.{labelFault, shapeOf}
 use Rattle.rows.specs.Reading.{readBy, readGiven}
 use Rattle.cells.specs.Layout.{room}
-use Rattle.reader.specs.declared.State.{State}
+use Rattle.steps.specs.declared.State.{State}
 use Rattle.reader.specs.Items.{Item, head, row, Place, outside, awaiting, under, after, seen, before}
-use Rattle.reader.specs.Rules.{maySend, rowsUpTo, laid}
-use Rattle.reader.specs.Step.{moved, misformed, labelled, mistyped, disowned, counted, dataStep, labelStep, stepAt, stepBy, staged, rowStaged, dataStaged, stagedAt, stageBy}
+use Rattle.reader.specs.Rules.{rowsUpTo, laid}
+use Rattle.steps.specs.Step.{moved, misformed, labelled, mistyped, disowned, counted, maySend, dataStep, labelStep, stepAt, stepBy, staged, rowStaged, dataStaged, stagedAt, stageBy}
 use Rattle.reader.proofs.FoldLaws.{clean, rowsFrom, Agrees, Reads, shape-fault, shape-count, data-tested}
 
 -- The staging area by lines: what a line stages is what its item gives. Assumes nothing.

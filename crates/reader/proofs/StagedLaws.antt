@@ -16,7 +16,7 @@ use Rattle.cells.specs.Cell.{width}
 use Rattle.cells.specs.Tables.{messageColumns, planningColumns, calendarColumns, columnsIn, rowWidth}
 use Rattle.reader.specs.declared.Answer.the-variants.{Rows}
 use Rattle.reader.specs.Rules.{largest, rowsUpTo, itemsOf, readingOf, stagedBy}
-use Rattle.reader.proofs.WidthLaws.{width-some}
+use Rattle.steps.proofs.WidthLaws.{width-some}
 use Rattle.reader.proofs.EachRowLaws.{rows-wide}
 use Rattle.reader.proofs.AnswerLaws.{reading-looked, rows-counted}
 

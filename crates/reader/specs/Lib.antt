@@ -2,5 +2,4 @@ pub mod Items
 pub mod Rules
 pub mod Staged
 pub mod Claims
-pub mod Step
 pub mod Cases

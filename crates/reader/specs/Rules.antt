@@ -1,21 +1,20 @@
 -- What a reader answers, in the order of document 01's table: each number is looked for over the whole dossier before the next. Assumes nothing.
 use Prim.Native.Nat.{ℕ, _/_}
-use mathlib.Core.Bool.{Bool, true, false, not}
+use mathlib.Core.Bool.{Bool, false, not}
 use mathlib.Core.List.{List, [], _∷_}
 use lib.Dec.{eqb, ltb}
 use lib.ListN.{length, take}
 use Rattle.lists.specs.Logic.{on, both}
-use Rattle.lists.specs.Part.{part, over}
+use Rattle.lists.specs.Part.{over}
 use Rattle.lists.specs.Rows.{flat}
 use Rattle.syntax.specs.declared.Verdict.{Verdict}
 use Rattle.syntax.specs.declared.Verdict.the-variants as Verdicts
 use Rattle.syntax.specs.Machine.{fault}
 use Rattle.turbo.specs.Split.{fields, lines}
 use Rattle.cells.specs.declared.Table.{Table}
-use Rattle.cells.specs.declared.Table.the-variants as Tables
 use Rattle.cells.specs.Tables.{rowWidth, rowOf, wrongColumn}
 use Rattle.shapes.specs.Shape.{labelFault}
-use Rattle.passage.specs.Register.{grants}
+use Rattle.steps.specs.Step.{maySend}
 use Rattle.reader.specs.declared.Answer.{Answer}
 use Rattle.reader.specs.declared.Answer.the-variants.{TooLong, Syntax, Form, Field, Owner, Rows}
 use Rattle.reader.specs.Items.{Item, head, row, Place, outside, items}
@@ -38,12 +37,7 @@ abbrev pub wrongAt : Table → Item → ℕ
 wrongAt t (head n ls) = 0
 wrongAt t (row n ls l) = wrongColumn t ls l
 
--- 6: the row's owner is not registered for the sender. Only messages have a sender.
-abbrev pub maySend : Table → List ℕ → ℕ → List ℕ → Bool
-maySend Tables.Message register sender body = grants register sender (part 0 10 body)
-maySend Tables.Planning register sender body = true
-maySend Tables.Calendar register sender body = true
-
+-- 6: the row's owner is not registered for the sender
 abbrev pub ownerBad : Table → List ℕ → ℕ → Item → Bool
 ownerBad t register sender (head n ls) = false
 ownerBad t register sender (row n ls l) = not (maySend t register sender (rowOf t ls l))

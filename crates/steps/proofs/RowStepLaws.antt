@@ -5,9 +5,8 @@ use mathlib.Core.List.{List}
 use borrow.Author.Tests.{eq-eqb, ne-eqb}
 use Rattle.cells.specs.declared.Table.{Table}
 use Rattle.rows.specs.declared.Read.{Read}
-use Rattle.reader.specs.declared.State.{State}
-use Rattle.reader.specs.Rules.{maySend}
-use Rattle.reader.specs.Step.{moved, mistyped, disowned, counted, rowStep, staged, rowStaged}
+use Rattle.steps.specs.declared.State.{State}
+use Rattle.steps.specs.Step.{moved, mistyped, disowned, counted, maySend, rowStep, staged, rowStaged}
 
 -- Which case of a row's step holds. Assumes nothing.
 

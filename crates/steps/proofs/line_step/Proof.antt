@@ -4,10 +4,10 @@ use mathlib.Core.List.{List}
 use borrow.Author.Needs.{needs}
 use Rattle.turbo.specs.Split.{until, fields}
 use Rattle.shapes.specs.Shape.{shapeOf}
-use Rattle.reader.specs.Step.{moved, labelStep, placeNamed}
-use Rattle.reader.proofs.StepLaws.{line-group, line-table, line-labels, line-labels-skipped, line-data, line-data-skipped}
-use Rattle.reader.proofs.line_step.Statement.{statement}
-use Rattle.reader.proofs.line_step.Tie as tie
+use Rattle.steps.specs.Step.{moved, labelStep, placeNamed}
+use Rattle.steps.proofs.StepLaws.{line-group, line-table, line-labels, line-labels-skipped, line-data, line-data-skipped}
+use Rattle.steps.proofs.line_step.Statement.{statement}
+use Rattle.steps.proofs.line_step.Tie as tie
 
 mark-of-requires : tie.Need-mark-of-requires
 mark-of-requires c κs = search needs

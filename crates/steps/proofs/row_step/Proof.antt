@@ -3,9 +3,9 @@ use Prim.Native.Nat.{_-_}
 use native.Mathlib.Omega.{arith}
 use mathlib.Core.Path.{_≡_, sym, _∙_}
 use borrow.Author.Needs.{needs}
-use Rattle.reader.proofs.RowStepLaws.{row-wrong, row-before, row-sent, row-refused}
-use Rattle.reader.proofs.row_step.Statement.{statement}
-use Rattle.reader.proofs.row_step.Tie as tie
+use Rattle.steps.proofs.RowStepLaws.{row-wrong, row-before, row-sent, row-refused}
+use Rattle.steps.proofs.row_step.Statement.{statement}
+use Rattle.steps.proofs.row_step.Tie as tie
 
 wrong-field-requires : tie.Need-wrong-field-requires
 wrong-field-requires c κs = search needs

@@ -1,8 +1,8 @@
 use Prim.Native.Nat.{_-_}
 use mathlib.Core.Path.{sym, _∙_}
 use borrow.Author.Needs.{needs}
-use Rattle.reader.proofs.named_place.Statement.{statement}
-use Rattle.reader.proofs.named_place.Tie as tie
+use Rattle.steps.proofs.named_place.Statement.{statement}
+use Rattle.steps.proofs.named_place.Tie as tie
 
 is-named-requires : tie.Need-is-named-requires
 is-named-requires c κs = search needs

@@ -3,10 +3,10 @@ use Prim.Native.Nat.{_-_}
 use mathlib.Core.Path.{sym, ap, _∙_}
 use mathlib.Core.Bool.{Bool}
 use borrow.Author.Needs.{needs}
-use Rattle.reader.specs.declared.State.{State}
-use Rattle.reader.specs.Step.{labelStep, misformed, labelled}
-use Rattle.reader.proofs.label_step.Statement.{statement}
-use Rattle.reader.proofs.label_step.Tie as tie
+use Rattle.steps.specs.declared.State.{State}
+use Rattle.steps.specs.Step.{labelStep, misformed, labelled}
+use Rattle.steps.proofs.label_step.Statement.{statement}
+use Rattle.steps.proofs.label_step.Tie as tie
 
 form-fault-requires : tie.Need-form-fault-requires
 form-fault-requires c κs = search needs

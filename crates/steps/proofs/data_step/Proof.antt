@@ -1,10 +1,10 @@
 use Prim.Native.Nat.{_-_}
 use mathlib.Core.Path.{sym, ap, _∙_}
 use borrow.Author.Needs.{needs}
-use Rattle.reader.specs.Step.{rowStep, rowStaged}
-use Rattle.reader.proofs.StepLaws.{data-many, data-known, data-read}
-use Rattle.reader.proofs.data_step.Statement.{statement}
-use Rattle.reader.proofs.data_step.Tie as tie
+use Rattle.steps.specs.Step.{rowStep, rowStaged}
+use Rattle.steps.proofs.StepLaws.{data-many, data-known, data-read}
+use Rattle.steps.proofs.data_step.Statement.{statement}
+use Rattle.steps.proofs.data_step.Tie as tie
 
 count-fields-requires : tie.Need-count-fields-requires
 count-fields-requires c κs = search needs

@@ -13,7 +13,7 @@ use Rattle.cells.specs.declared.Table.{Table}
 use Rattle.cells.specs.declared.Table.the-variants.{Message, Planning, Calendar}
 use Rattle.cells.specs.Cell.{width}
 use Rattle.cells.specs.Tables.{messageColumns, planningColumns, calendarColumns, columnsIn, rowWidth}
-use Rattle.reader.specs.Step.{staged}
+use Rattle.steps.specs.Step.{staged}
 
 -- How wide a row is, and where it goes. Assumes nothing.
 

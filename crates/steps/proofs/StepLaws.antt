@@ -1,15 +1,16 @@
 use Prim.Native.Nat.{ℕ}
-use mathlib.Core.Path.{_≡_, refl}
+use mathlib.Core.Path.{_≡_, refl, ap, _∙_}
 use mathlib.Core.List.{List}
 use borrow.Author.Tests.{eq-eqb, ne-eqb}
 use lib.ListN.{length}
 use Rattle.turbo.specs.declared.Mark.the-variants.{Group, Table, Labels, Data}
 use Rattle.turbo.specs.Split.{until, fields, markOf, afterMark}
 use Rattle.cells.specs.declared.Table as Tables
-use Rattle.shapes.specs.Shape.{shapeOf}
+use Rattle.shapes.specs.declared.Shape.{Shape}
+use Rattle.shapes.specs.Shape.{noShape, shapeOf}
 use Rattle.rows.specs.Reading.{readBy}
-use Rattle.reader.specs.declared.State.{State}
-use Rattle.reader.specs.Step.{moved, misformed, rowStep, dataStep, labelStep, placeNamed, stepBy, rowStaged, dataStaged, stageBy}
+use Rattle.steps.specs.declared.State.{State}
+use Rattle.steps.specs.Step.{moved, misformed, rowStep, dataStep, labelStep, placeNamed, stepBy, rowStaged, dataStaged, stageBy, Fresh}
 
 -- Which case of a line's step holds. Assumes nothing.
 
@@ -52,3 +53,18 @@ module _ (t : Tables.Table) (register : List ℕ) (sender : ℕ) (s : State) (l 
   pub line-data-skipped : markOf l ≡ Data → (s .place ≡ 2 → ⊥) → (moved s (s .place) ≡ stepBy t register sender s l) × (st ≡ stageBy t register sender s l st)
   unfolding stepBy stageBy
   line-data-skipped m h = rw (m, ne-eqb (s .place) 2 h) (refl, refl)
+
+-- all that is kept before any line
+abbrev made : ℕ → ℕ → ℕ → ℕ → ℕ → ℕ → ℕ → Shape → State
+made p l f w c o r h = record { place = p; line = l; form = f; wrong = w; column = c; owner = o; rows = r; shape = h }
+
+pub fresh-one : (s : State) → Fresh s → s ≡ made 0 1 0 0 0 0 0 noShape
+fresh-one s (p, l, f, w, c, o, r, h) =
+    ap (λ (x : ℕ). made x (s .line) (s .form) (s .wrong) (s .column) (s .owner) (s .rows) (s .shape)) p
+    ∙ ap (λ (x : ℕ). made 0 x (s .form) (s .wrong) (s .column) (s .owner) (s .rows) (s .shape)) l
+    ∙ ap (λ (x : ℕ). made 0 1 x (s .wrong) (s .column) (s .owner) (s .rows) (s .shape)) f
+    ∙ ap (λ (x : ℕ). made 0 1 0 x (s .column) (s .owner) (s .rows) (s .shape)) w
+    ∙ ap (λ (x : ℕ). made 0 1 0 0 x (s .owner) (s .rows) (s .shape)) c
+    ∙ ap (λ (x : ℕ). made 0 1 0 0 0 x (s .rows) (s .shape)) o
+    ∙ ap (λ (x : ℕ). made 0 1 0 0 0 0 x (s .shape)) r
+    ∙ ap (made 0 1 0 0 0 0 0) h

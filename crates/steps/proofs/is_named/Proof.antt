@@ -2,8 +2,8 @@ use Prim.Native.Nat.{_-_}
 use mathlib.Core.Path.{_∙_}
 use borrow.Author.Needs.{needs}
 use Rattle.cells.specs.Tables.{tableName}
-use Rattle.reader.proofs.is_named.Statement.{statement}
-use Rattle.reader.proofs.is_named.Tie as tie
+use Rattle.steps.proofs.is_named.Statement.{statement}
+use Rattle.steps.proofs.is_named.Tie as tie
 
 enum-told : tie.Need-enum-told
 enum-told c = search needs

@@ -3,9 +3,9 @@ use native.Mathlib.Omega.{arith}
 use mathlib.Core.Path.{sym, _∙_}
 use borrow.Author.Needs.{needs}
 use lib.Seq.{length-take-le}
-use Rattle.reader.proofs.WidthLaws.{width-most, place-fits, stage-fits, stage-full}
-use Rattle.reader.proofs.stage.Statement.{statement}
-use Rattle.reader.proofs.stage.Tie as tie
+use Rattle.steps.proofs.WidthLaws.{width-most, place-fits, stage-fits, stage-full}
+use Rattle.steps.proofs.stage.Statement.{statement}
+use Rattle.steps.proofs.stage.Tie as tie
 
 row-width-requires : tie.Need-row-width-requires
 row-width-requires c κs = search needs

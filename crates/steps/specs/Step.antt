@@ -7,18 +7,19 @@ use lib.Dec.{eqb, leb}
 use lib.ListN.{length, take}
 use Rattle.lists.specs.Logic.{on, both}
 use Rattle.lists.specs.Text.{same}
-use Rattle.lists.specs.Part.{over}
+use Rattle.lists.specs.Part.{part, over}
 use Rattle.turbo.specs.declared.Mark.{Mark}
 use Rattle.turbo.specs.declared.Mark.the-variants as Marks
 use Rattle.turbo.specs.Split.{until, fields, markOf, afterMark}
 use Rattle.cells.specs.declared.Table.{Table}
+use Rattle.cells.specs.declared.Table.the-variants as Tables
 use Rattle.cells.specs.Tables.{tableName, rowWidth}
+use Rattle.passage.specs.Register.{grants}
 use Rattle.shapes.specs.declared.Shape.{Shape}
 use Rattle.rows.specs.declared.Read.{Read}
-use Rattle.shapes.specs.Shape.{shapeOf}
+use Rattle.shapes.specs.Shape.{noShape, shapeOf}
 use Rattle.rows.specs.Reading.{readBy}
-use Rattle.reader.specs.declared.State.{State}
-use Rattle.reader.specs.Rules.{maySend}
+use Rattle.steps.specs.declared.State.{State}
 
 -- the state after a line that changes only the place: 0 outside the table, 1 between its `\T` and `\L` lines, 2 under its labels
 abbrev pub moved : State → ℕ → State
@@ -43,6 +44,12 @@ disowned s = record { place = s .place; line = s .line + 1; form = s .form; wron
 -- one row more
 abbrev pub counted : State → State
 counted s = record { place = s .place; line = s .line + 1; form = s .form; wrong = s .wrong; column = s .column; owner = s .owner; rows = s .rows + 1; shape = s .shape }
+
+-- whether the row's owner is registered for the sender. Only messages have a sender.
+abbrev pub maySend : Table → List ℕ → ℕ → List ℕ → Bool
+maySend Tables.Message register sender body = grants register sender (part 0 10 body)
+maySend Tables.Planning register sender body = true
+maySend Tables.Calendar register sender body = true
 
 -- a row that was read
 unfoldable pub rowStep : Table → List ℕ → ℕ → State → Read → State
@@ -100,4 +107,4 @@ stageBy t register sender s l staging = stagedAt t register sender s l (markOf l
 
 -- a state before any line
 abbrev pub Fresh : State → Type 0
-Fresh s = (s .place ≡ 0) × (s .line ≡ 1) × (s .form ≡ 0) × (s .wrong ≡ 0) × (s .column ≡ 0) × (s .owner ≡ 0) × (s .rows ≡ 0)
+Fresh s = (s .place ≡ 0) × (s .line ≡ 1) × (s .form ≡ 0) × (s .wrong ≡ 0) × (s .column ≡ 0) × (s .owner ≡ 0) × (s .rows ≡ 0) × (s .shape ≡ noShape)

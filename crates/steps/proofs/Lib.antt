@@ -1,0 +1,4 @@
+pub mod WidthLaws
+pub mod RowStepLaws
+pub mod StepLaws
+pub mod Determined
