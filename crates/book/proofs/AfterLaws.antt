@@ -20,7 +20,7 @@ use Rattle.book.specs.Entries.{plan-wide, entry-wide, number-wide, planB
 use Rattle.book.specs.Rules.{bookRoom, allPlans, chained, noEntry, lastFrom, nextNumber, bookSound, messageEntries, marked, withdrawn, firstOf, runOf}
 use Rattle.book.specs.Claims.{UpdateBodies, PlanBodies}
 use Rattle.book.proofs.WriteLaws.{wide-entriesOf, length-entriesOf, wide-marked}
-use Rattle.book.proofs.FindLaws.{bodies}
+use Rattle.book.proofs.PlanLaws.{bodies}
 use Rattle.book.proofs.SoundLaws.{sound-facts, used-within, room-within}
 use Rattle.book.proofs.NumberLaws.{last-most, next-is, first-within, run-most}
 use Rattle.book.proofs.SplitLaws.{Plans, Split, split-plans, split-updates, split-sound, updateCount, sound-split, wide-updates, length-updates}

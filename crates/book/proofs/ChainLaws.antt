@@ -1,9 +1,8 @@
--- Updates, one after another: whether they are in range and in order, and where those of one number stand. Assumes nothing.
+-- Updates, one after another: whether they are in range and in order. Assumes nothing.
 use mathlib.Core.Path.{_≡_, refl, sym, _∙_}
 use mathlib.Core.Bool.{Bool, true, false}
 use mathlib.Core.List.{List, [], _∷_, map}
-use Prim.Native.Nat.{ℕ, suc, _+_, _*_, _≤_, _<_}
-use borrow.Author.Tests.{eq-eqb, ne-eqb}
+use Prim.Native.Nat.{ℕ, _+_, _*_, _≤_, _<_}
 use lib.Dec.{eqb, leb}
 use lib.ListN.{drop, getD}
 use Rattle.lists.specs.Logic.{both, either, within}
@@ -16,7 +15,7 @@ use Rattle.passage.specs.Ranges.{allCommon, updateInRange}
 use Rattle.passage.proofs.TestLaws.{not-then}
 use Rattle.passage.proofs.RangeLaws.{update-facts, facts-common}
 use Rattle.book.specs.Entries.{number-at, number-wide, sender-at, body-at, entry-wide, kindOf, numberOf, senderOf, bodyOf}
-use Rattle.book.specs.Rules.{entryInRange, mayFollow, chained, noEntry, firstOf, runOf}
+use Rattle.book.specs.Rules.{entryInRange, mayFollow, chained, noEntry}
 use Rattle.book.specs.Steps.{followsAs, chainedAs}
 use Rattle.book.proofs.TestLaws.{both-assoc}
 use Rattle.book.proofs.PlaceLaws.{kind-at, number-from, sender-from, body-from, rest, rest-start, rest-step, rest-end}
@@ -89,33 +88,3 @@ module _ (b : List ℕ) (at m : ℕ) where
   pub chain-end : (i n s k : ℕ) → m ≤ i → chainedAs n s k (rest b at m i) ≡ true
   unfolding chainedAs
   chain-end i n s k h = rw (rest-end b at m i h)
-
-  -- ---- those of one number
-
-  module _ (n i : ℕ) where
-    abbrev numberHere : ℕ
-    numberHere = number (part (at + i * entry-wide + number-at) number-wide b)
-
-    pub first-here : i < m → numberHere ≡ n → firstOf n (rest b at m i) ≡ 0
-    unfolding firstOf
-    first-here h e = rw (rest-step b at m i h, number-from (at + i * entry-wide) b, eq-eqb _ _ e)
-
-    pub first-next : i < m → (numberHere ≡ n → ⊥) → firstOf n (rest b at m i) ≡ suc (firstOf n (rest b at m (i + 1)))
-    unfolding firstOf
-    first-next h e = rw (rest-step b at m i h, number-from (at + i * entry-wide) b, ne-eqb _ _ e)
-
-    pub first-end : m ≤ i → firstOf n (rest b at m i) ≡ 0
-    unfolding firstOf
-    first-end h = rw (rest-end b at m i h)
-
-    pub run-next : i < m → numberHere ≡ n → runOf n (rest b at m i) ≡ suc (runOf n (rest b at m (i + 1)))
-    unfolding runOf
-    run-next h e = rw (rest-step b at m i h, number-from (at + i * entry-wide) b, eq-eqb _ _ e)
-
-    pub run-stop : i < m → (numberHere ≡ n → ⊥) → runOf n (rest b at m i) ≡ 0
-    unfolding runOf
-    run-stop h e = rw (rest-step b at m i h, number-from (at + i * entry-wide) b, ne-eqb _ _ e)
-
-    pub run-end : m ≤ i → runOf n (rest b at m i) ≡ 0
-    unfolding runOf
-    run-end h = rw (rest-end b at m i h)

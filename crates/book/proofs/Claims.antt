@@ -12,7 +12,6 @@ use Rattle.book.proofs.SoundLaws.{sound-facts}
 use Rattle.book.proofs.SplitLaws.{split-whole, wide-updates}
 use Rattle.book.proofs.MessageLaws.{first-number, numbers-rise, numbers-within, numbers-like}
 use Rattle.book.proofs.AfterLaws.{after-message, after-withdrawal, after-open}
-use Rattle.book.proofs.HeldLaws.{found-message, missing-message}
 use Rattle.book.proofs.StandingLaws.{standing-withdrawn, next-withdrawn}
 
 begins-at-1 : (us : List (List ℕ)) → chained noEntry us ≡ true → 0 < length us → numberOf (getD us 0 []) ≡ 1
@@ -32,6 +31,5 @@ claims = (
   λ used b n sound. after-withdrawal used b sound n,
   after-open,
   messages-numbered,
-  λ used b n sound. (found-message used b n sound, missing-message used b n sound),
   λ used b n sound. (standing-withdrawn n (updatesIn used b) (wide-updates used b sound), next-withdrawn n (updatesIn used b)),
 )

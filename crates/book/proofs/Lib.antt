@@ -4,7 +4,6 @@ pub mod PlanLaws
 pub mod ChainLaws
 pub mod SoundLaws
 pub mod WriteLaws
-pub mod FindLaws
 pub mod NumberLaws
 pub mod SplitLaws
 pub mod MessageLaws
@@ -12,6 +11,5 @@ pub mod ChangeLaws
 pub mod AfterLaws
 pub mod MarkLaws
 pub mod StandingLaws
-pub mod HeldLaws
 pub mod Claims
 pub mod Determined

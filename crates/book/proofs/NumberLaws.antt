@@ -1,27 +1,21 @@
--- Message numbers: the last of the updates, and where a message stands. Assumes nothing.
-use mathlib.Core.Path.{_≡_, refl, sym, ap, _∙_}
+-- Message numbers: the last of the updates, and where a message may stand. Assumes nothing.
+use mathlib.Core.Path.{_≡_, refl, ap, _∙_}
 use mathlib.Core.Bool.{Bool, true, false}
-use mathlib.Core.List.{List, [], _∷_, _++_}
+use mathlib.Core.List.{List, [], _∷_}
 use mathlib.Core.Logic.{_⊎_, inl, inr, ⊎-elim}
-use Prim.Native.Nat.{ℕ, suc, _+_, _*_, _-_, _/_, _%_, _≤_}
+use Prim.Native.Nat.{ℕ, suc, _+_, _*_, _-_, _/_, _≤_}
 use native.Mathlib.Omega.{arith}
-use borrow.Author.Tests.{eq-eqb, ne-eqb, eqb-true}
+use borrow.Author.Tests.{eqb-true}
 use lib.Dec.{eqb}
-use lib.ListN.{length, drop}
-use lib.Seq.{drop-drop}
+use lib.ListN.{length}
 use Rattle.lists.specs.Logic.{on, both, either}
 use Rattle.lists.specs.Part.{part}
-use Rattle.lists.specs.Rows.{rowsOf}
 use Rattle.lists.specs.BigEndian.{number}
 use Rattle.lists.proofs.LogicLaws.{both-true}
-use Rattle.lists.proofs.RowLaws.{length-rowsOf, drop-rowsOf}
-use Rattle.book.specs.declared.Held.the-variants.{Nowhere, At}
-use Rattle.book.specs.Entries.{plan-wide, entry-wide, number-at, number-wide, kindOf, numberOf, senderOf, planCount, updatesIn}
+use Rattle.lists.proofs.RowLaws.{length-rowsOf}
+use Rattle.book.specs.Entries.{plan-wide, entry-wide, kindOf, numberOf, senderOf, planCount, updatesIn}
 use Rattle.book.specs.Rules.{entryInRange, mayFollow, chained, noEntry, lastFrom, nextNumber, firstOf, runOf, bookSound}
-use Rattle.book.specs.Held.{heldAs}
-use Rattle.book.proofs.PlaceLaws.{number-from}
-use Rattle.book.proofs.WriteLaws.{rowsOf-snoc}
-use Rattle.book.proofs.SoundLaws.{sound-facts, used-within, updates-are, count-within}
+use Rattle.book.proofs.SoundLaws.{sound-facts, used-within, updates-are}
 
 -- ---- what one link of a chain tells
 
@@ -81,16 +75,11 @@ pub no-sender : senderOf noEntry ≡ 0
 unfolding noEntry
 no-sender = refl
 
-last-snoc : (e x : List ℕ) (es : List (List ℕ)) → lastFrom e (es ++ x ∷ []) ≡ x
-unfolding lastFrom
-last-snoc e x [] = refl
-last-snoc e x (y ∷ es) = last-snoc y x es
-
 pub next-is : (used : ℕ) (b : List ℕ) → numberOf (lastFrom noEntry (updatesIn used b)) + 1 ≡ nextNumber (updatesIn used b)
 unfolding nextNumber
 next-is used b = refl
 
--- of a sound book with n plan entries
+-- of a sound book
 module _ (used : ℕ) (b : List ℕ) (sound : bookSound used b ≡ true) where
   pub last-most : numberOf (lastFrom noEntry (updatesIn used b)) ≤ 4096
   last-most =
@@ -100,39 +89,6 @@ module _ (used : ℕ) (b : List ℕ) (sound : bookSound used b ≡ true) where
       let l : length (updatesIn used b) ≡ (used - planCount used b * plan-wide) / entry-wide = ap length (updates-are used b _ refl) ∙ length-rowsOf entry-wide _ _ in
       let z = no-number in
       omega (arith, u .1)
-
-  module _ (n : ℕ) (e : n ≡ planCount used b) where
-    pub next-first : used ≡ n * plan-wide → 1 ≡ nextNumber (updatesIn used b)
-    unfolding nextNumber lastFrom rowsOf
-    next-first h =
-        let m : (used - n * plan-wide) / entry-wide ≡ 0 = omega arith in
-        rw (updates-are used b n e, m, no-number)
-
-    whole : (used - n * plan-wide) % entry-wide ≡ 0
-    whole = rw e (sound-facts used b sound .whole)
-
-    pub last-fits : (used ≡ n * plan-wide → ⊥) → n * plan-wide + entry-wide ≤ used
-    last-fits h =
-        let w = whole in
-        let k = count-within used b n e in
-        omega arith
-
-    last-is : (used ≡ n * plan-wide → ⊥) → lastFrom noEntry (updatesIn used b) ≡ part (used - entry-wide) entry-wide b
-    unfolding part
-    last-is h =
-        let w = whole in
-        let k = last-fits h in
-        let m = (used - n * plan-wide) / entry-wide in
-        let p : m ≡ (m - 1) + 1 = omega arith in
-        let q : n * plan-wide + (m - 1) * entry-wide ≡ used - entry-wide = omega arith in
-        let r : rowsOf entry-wide m (drop (n * plan-wide) b) ≡ rowsOf entry-wide (m - 1) (drop (n * plan-wide) b) ++ part (used - entry-wide) entry-wide b ∷ [] =
-        ap (λ (j : ℕ). rowsOf entry-wide j (drop (n * plan-wide) b)) p
-        ∙ rowsOf-snoc entry-wide (m - 1) (drop (n * plan-wide) b)
-        ∙ rw (drop-drop ((m - 1) * entry-wide) (n * plan-wide) b, q) in
-        ap (lastFrom noEntry) (updates-are used b n e ∙ r) ∙ last-snoc noEntry (part (used - entry-wide) entry-wide b) (rowsOf entry-wide (m - 1) (drop (n * plan-wide) b))
-
-    pub next-after : (used ≡ n * plan-wide → ⊥) → number (part (used - entry-wide + number-at) number-wide b) ≡ numberOf (lastFrom noEntry (updatesIn used b))
-    next-after h = sym (ap numberOf (last-is h) ∙ number-from (used - entry-wide) b)
 
 -- ---- where a message stands
 
@@ -153,22 +109,3 @@ run-most n (e ∷ es) = go (eqb (numberOf e) n) (run-most n es)
     go : (t : Bool) → runOf n es ≤ length es → on t (suc (runOf n es)) 0 ≤ suc (length es)
     go true h = omega arith
     go false h = omega arith
-
-module _ (from m n : ℕ) (b : List ℕ) where
-  abbrev us : List (List ℕ)
-  us = rowsOf entry-wide m (drop from b)
-
-  module _ (i : ℕ) (found : i ≡ firstOf n us) where
-    pub place-within : i ≤ m
-    place-within = rw found (rw length-rowsOf at (first-within n us))
-
-    pub held-nowhere : i ≡ m → Nowhere ≡ heldAs n us
-    unfolding heldAs
-    held-nowhere h = let l = length-rowsOf entry-wide m (drop from b) in rw (eq-eqb (firstOf n us) (length us) (sym found ∙ h ∙ sym l))
-
-    pub held-at : (i ≡ m → ⊥) → (k : ℕ) → k ≡ runOf n (rowsOf entry-wide (m - i) (drop (from + i * entry-wide) b)) → At i k ≡ heldAs n us
-    unfolding heldAs
-    held-at h k e =
-        let l = length-rowsOf entry-wide m (drop from b) in
-        let d : drop i us ≡ rowsOf entry-wide (m - i) (drop (from + i * entry-wide) b) = drop-rowsOf entry-wide m i (drop from b) place-within ∙ rw (drop-drop (i * entry-wide) from b) in
-        rw (ne-eqb (firstOf n us) (length us) (λ q. h (found ∙ q ∙ l)), ← found, d, e)

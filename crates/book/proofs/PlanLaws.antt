@@ -1,4 +1,4 @@
--- Plan entries, one after another: their count, and whether they are in range and rise. Assumes nothing.
+-- Plan entries, one after another: their bodies, their count, and whether they are in range and rise. Assumes nothing.
 use mathlib.Core.Path.{_≡_, refl, sym, ap, _∙_}
 use mathlib.Core.Bool.{true, false}
 use mathlib.Core.List.{List, [], _∷_, map}
@@ -6,13 +6,14 @@ use Prim.Native.Nat.{ℕ, suc, _+_, _*_, _-_, _/_, _≤_, _<_}
 use native.Mathlib.Nat.{add-zero, zero-add}
 use native.Mathlib.Omega.{arith}
 use borrow.Author.Tests.{eq-eqb, ne-eqb}
-use lib.ListN.{drop, getD}
+use lib.ListN.{length, drop, getD, length-map}
 use Rattle.lists.specs.Logic.{both}
 use Rattle.lists.specs.Part.{part}
-use Rattle.lists.specs.Rows.{rowsOf}
+use Rattle.lists.specs.Rows.{rowsOf, Wide}
 use Rattle.lists.proofs.LogicLaws.{both-true}
-use Rattle.lists.proofs.PartLaws.{part-part}
-use Rattle.lists.proofs.RowLaws.{rowsOf-step, rowsOf-start}
+use Rattle.lists.proofs.PartLaws.{length-part, part-part}
+use Rattle.lists.proofs.RowLaws.{rowsOf-step, rowsOf-start, length-rowsOf}
+use Rattle.lists.proofs.WideLaws.{wide-rowsOf}
 use Rattle.passage.specs.Layout.{key-wide, body-wide, keyOf}
 use Rattle.passage.specs.Ranges.{allCommon, planInRange}
 use Rattle.passage.proofs.TestLaws.{not-then}
@@ -21,6 +22,21 @@ use Rattle.book.specs.Entries.{plan-wide, planBodyOf, leading, planCount
 use Rattle.book.specs.Rules.{allPlans}
 use Rattle.book.specs.Steps.{planBodyAt}
 use Rattle.book.proofs.PlaceLaws.{first-at, plan-body-at}
+
+-- ---- the bodies of n plan entries
+
+abbrev pub bodies : ℕ → List ℕ → List (List ℕ)
+bodies n b = map planBodyOf (rowsOf plan-wide n b)
+
+pub length-bodies : (n : ℕ) (b : List ℕ) → length (bodies n b) ≡ n
+length-bodies n b = length-map (rowsOf plan-wide n b) planBodyOf ∙ length-rowsOf plan-wide n b
+
+pub wide-bodies : (n : ℕ) (b : List ℕ) → n * plan-wide ≤ length b → Wide body-wide (bodies n b)
+wide-bodies n b h = go (rowsOf plan-wide n b) (wide-rowsOf plan-wide n b h)
+  where
+    go : (es : List (List ℕ)) → Wide plan-wide es → Wide body-wide (map planBodyOf es)
+    go [] w = tt
+    go (e ∷ es) w = (length-part 1 body-wide e (omega (arith, w .0)), go es (w .1))
 
 -- ---- the count
 

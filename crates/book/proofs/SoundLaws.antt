@@ -15,7 +15,7 @@ use Rattle.keys.specs.Sorted.{sortedRows}
 use Rattle.book.specs.Entries.{plan-wide, entry-wide, kindOf, leading, planCount, behindPlans, plansIn, updatesIn, planBodies}
 use Rattle.book.specs.Rules.{most-bytes, bookRoom, allPlans, chained, noEntry, bookSound}
 use Rattle.book.proofs.TestLaws.{both-assoc}
-use Rattle.book.proofs.FindLaws.{bodies}
+use Rattle.book.proofs.PlanLaws.{bodies}
 
 -- ---- the room
 

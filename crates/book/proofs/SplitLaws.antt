@@ -18,7 +18,7 @@ use Rattle.lists.proofs.WideLaws.{wide-rowsOf}
 use Rattle.keys.specs.Sorted.{sortedRows}
 use Rattle.book.specs.Entries.{plan-wide, entry-wide, kindOf, leading, planCount, behindPlans, plansIn, updatesIn}
 use Rattle.book.specs.Rules.{bookRoom, allPlans, entryInRange, chained, noEntry, bookSound}
-use Rattle.book.proofs.FindLaws.{bodies}
+use Rattle.book.proofs.PlanLaws.{bodies}
 use Rattle.book.proofs.SoundLaws.{sound-facts, facts-sound, used-within, plans-within}
 use Rattle.book.proofs.NumberLaws.{link}
 

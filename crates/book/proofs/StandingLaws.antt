@@ -15,7 +15,7 @@ use Rattle.passage.specs.Ranges.{planInRange, updateInRange}
 use Rattle.book.specs.Entries.{number-wide, body-at, entry-wide, kindOf, numberOf, senderOf, bodyOf, entryOf, entriesOf, planCount, planBodies}
 use Rattle.book.specs.Rules.{entryInRange, allPlans, chained, noEntry, lastFrom, nextNumber, marked, withdrawn, others, standing, bookSound}
 use Rattle.book.specs.Claims.{UpdateBodies, PlanBodies}
-use Rattle.book.proofs.FindLaws.{wide-bodies}
+use Rattle.book.proofs.PlanLaws.{wide-bodies}
 use Rattle.book.proofs.SoundLaws.{sound-facts, used-within, plans-within}
 use Rattle.book.proofs.SplitLaws.{sound-split, split-plans, updateCount}
 use Rattle.book.proofs.NumberLaws.{link}

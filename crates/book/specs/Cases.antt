@@ -6,10 +6,8 @@ use Prim.Native.Nat.{ℕ}
 use Rattle.lists.specs.Part.{part}
 use Rattle.lists.specs.Rows.{rowsOf}
 use Rattle.lists.specs.BigEndian.{number, spelled}
-use Rattle.book.specs.declared.Held.the-variants.{Nowhere, At}
 use Rattle.book.specs.Entries.{leading, planCount, plansIn, updatesIn, entryOf}
-use Rattle.book.specs.Rules.{bookRoom, bookSound, mayFollow, allPlans, chained, noEntry, lastFrom, nextNumber, messageEntries, marked, withdrawn, firstOf, runOf}
-use Rattle.book.specs.Held.{heldAs}
+use Rattle.book.specs.Rules.{bookRoom, bookSound, mayFollow, allPlans, chained, noEntry, lastFrom, nextNumber, messageEntries, marked, withdrawn}
 use Rattle.keys.specs.Sorted.{sortedRows}
 
 -- kind, message number, sender
@@ -48,10 +46,6 @@ updates = head 3 1 7 ∷ head 2 2 9 ∷ head 2 2 9 ∷ []
 next-case : (nextNumber updates ≡ 3) × (nextNumber [] ≡ 1)
 unfolding nextNumber lastFrom noEntry number part updates head
 next-case = (refl, refl)
-
-held-case : (heldAs 2 updates ≡ At 1 2) × (heldAs 1 updates ≡ At 0 1) × (heldAs 3 updates ≡ Nowhere)
-unfolding heldAs firstOf runOf number part updates head
-held-case = (refl, refl, refl)
 
 withdrawn-case : withdrawn 2 updates ≡ head 3 1 7 ∷ head 3 2 9 ∷ head 3 2 9 ∷ []
 unfolding withdrawn marked number part updates head

@@ -3,17 +3,15 @@ use mathlib.Core.Path.{_≡_}
 use mathlib.Core.Bool.{true}
 use mathlib.Core.List.{List, [], _++_, map}
 use Prim.Native.Nat.{ℕ, suc, _+_, _*_, _≤_, _<_}
-use lib.ListN.{length, take, drop, getD}
+use lib.ListN.{length, take, getD}
 use Rattle.lists.specs.Each.{Each}
 use Rattle.lists.specs.Part.{over}
-use Rattle.lists.specs.Rows.{rowsOf, flat}
+use Rattle.lists.specs.Rows.{flat}
 use Rattle.passage.specs.Layout.{body-wide}
 use Rattle.passage.specs.Ranges.{planInRange, updateInRange}
 use Rattle.keys.specs.Sorted.{sortedRows}
-use Rattle.book.specs.declared.Held.the-variants.{Nowhere, At}
 use Rattle.book.specs.Entries.{plan-wide, entry-wide, kindOf, numberOf, senderOf, planEntry, entriesOf, planCount, plansIn, updatesIn, planBodies}
 use Rattle.book.specs.Rules.{bookRoom, bookSound, nextNumber, messageEntries, marked, withdrawn, others, firstOf, standing}
-use Rattle.book.specs.Held.{heldAs}
 
 -- plan entries first, then updates, nothing between
 abbrev pub SplitWhole : Type 0
@@ -78,15 +76,6 @@ MessagesNumbered =
     × ((i j : ℕ) → i < length us → j < length us → numberOf (getD us i []) ≡ numberOf (getD us j []) →
     (senderOf (getD us i []) ≡ senderOf (getD us j [])) × (kindOf (getD us i []) ≡ kindOf (getD us j [])))
 
--- a message that is found stands there with all its entries, one behind the other; one that is not found has none
-abbrev pub FoundMessage : Type 0
-FoundMessage =
-    (used : ℕ) (b : List ℕ) (n : ℕ) →
-    bookSound used b ≡ true →
-    let us = updatesIn used b in
-    ((i k : ℕ) → heldAs n us ≡ At i k → (i + k ≤ length us) × (0 < k) × (rowsOf entry-wide k (drop (planCount used b * plan-wide + i * entry-wide) b) ≡ messageEntries n us))
-    × (heldAs n us ≡ Nowhere → messageEntries n us ≡ [])
-
 -- a withdrawn message's bodies stand no longer, as if it had never come; the next number stays
 abbrev pub WithdrawnIsAbsent : Type 0
 WithdrawnIsAbsent =
@@ -97,4 +86,4 @@ WithdrawnIsAbsent =
 
 -- all of these
 abbrev pub All : Type 0
-All = SplitWhole × AfterMessage × AfterWithdrawal × AfterOpen × MessagesNumbered × FoundMessage × WithdrawnIsAbsent
+All = SplitWhole × AfterMessage × AfterWithdrawal × AfterOpen × MessagesNumbered × WithdrawnIsAbsent

@@ -31,8 +31,8 @@ fn write_rows(
     ensures counts { λ r. ⌜ (r .counts .used ≡ used + n * entry-wide) × (r .counts .rows ≡ rows) ⌝ }
     ensures entries { λ _. ⌜ now (book .exit) ≡ bookTaking (rowsOf body-wide n (now (staging .entry))) sender (now (book .entry)) used ⌝ }
 {
-    let number = book::next_number(book, used);
-    book::write_entries(&mut book[used..], number, sender, staging, n);
+    let number = entries::next_number(book, used);
+    entries::write_entries(&mut book[used..], number, sender, staging, n);
     Outcome {
         answer: Answer::Accepted(number),
         counts: Counts {

@@ -27,7 +27,7 @@ use Rattle.sorting.proofs.PlaceLaws.{own-keyAt, length-keysOf}
 use Rattle.sorting.proofs.SortedPlacesLaws.{places-below, places-most, places-sorted}
 use Rattle.book.specs.Entries.{entry-wide, body-at, planCount, plansIn, planBodies, updatesIn}
 use Rattle.book.specs.Rules.{bookSound, messageEntries, withdrawn, standing, planRows, rowFor}
-use Rattle.book.proofs.FindLaws.{wide-bodies}
+use Rattle.book.proofs.PlanLaws.{wide-bodies}
 use Rattle.book.proofs.SoundLaws.{sound-facts, used-within, plans-within}
 use Rattle.book.proofs.SplitLaws.{wide-updates}
 use Rattle.calls.specs.Withdraw.{named, rowsWithout, tableWithout}

@@ -16,7 +16,7 @@ use Rattle.sorting.proofs.PlaceLaws.{own-keyAt, length-keysOf}
 use Rattle.sorting.proofs.SortedPlacesLaws.{places-below, places-most, places-sorted}
 use Rattle.book.specs.Entries.{plan-wide, entry-wide, body-at, planCount, plansIn, planBodies}
 use Rattle.book.specs.Rules.{bookSound}
-use Rattle.book.proofs.FindLaws.{bodies}
+use Rattle.book.proofs.PlanLaws.{bodies}
 use Rattle.book.proofs.SoundLaws.{sound-facts, used-within, count-within, updates-are}
 use Rattle.book.proofs.WriteLaws.{lent-part}
 use Rattle.slots.specs.Slots.{slot-wide, slotsOf, keyIn}

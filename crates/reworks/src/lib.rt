@@ -71,7 +71,7 @@ fn rework_in(
     let named = work_out(number, at, m, book, used, order, slots);
     if slots::fits_after(table, rows, slots, named) {
         let count = slots::settle(table, rows, slots, named);
-        book::mark_withdrawn(book, at, m);
+        entries::mark_withdrawn(book, at, m);
         return Outcome {
             answer: Answer::Accepted(0),
             counts: Counts { used, rows: count },

@@ -16,7 +16,7 @@ use Rattle.table.specs.Rules.{tableSound, room}
 use Rattle.table.proofs.SoundLaws.{each-range, room-holds, sound-stored}
 use Rattle.book.specs.Entries.{plan-wide, entry-wide, planEntry, planCount, plansIn, planBodies, updatesIn}
 use Rattle.book.specs.Rules.{bookSound}
-use Rattle.book.proofs.FindLaws.{length-bodies}
+use Rattle.book.proofs.PlanLaws.{length-bodies}
 use Rattle.runs.specs.Runs.{Day, Taken, logEntries, logStanding}
 use Rattle.runs.proofs.LogLaws.{each-so, Update, NotedFrom, log-wide}
 use Rattle.runs.proofs.RowsLaws.{Planned, IsPlan, Row, replay, replay-sorted, replay-rows}

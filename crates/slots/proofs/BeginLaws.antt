@@ -14,7 +14,7 @@ use Rattle.lists.proofs.WideLaws.{rowsOf-flat, length-flat}
 use Rattle.lists.proofs.OverLaws.{onto-fits}
 use Rattle.passage.specs.Layout.{key-wide}
 use Rattle.book.specs.Entries.{plan-wide, entry-wide, body-at}
-use Rattle.book.proofs.FindLaws.{bodies, wide-bodies}
+use Rattle.book.proofs.PlanLaws.{bodies, wide-bodies}
 use Rattle.sorting.specs.Rules.{keyAt, keysOf}
 use Rattle.sorting.proofs.PlaceLaws.{length-keysOf, keysOf-at}
 use Rattle.sorting.proofs.SearchLaws.{key-fits, place-below}

@@ -21,9 +21,9 @@ use Rattle.lists.proofs.EachLaws.{each-take}
 use Rattle.passage.specs.Layout.{key-wide, body-wide, row-wide}
 use Rattle.update.specs.Rule.{begun, beginning, applyRow, rowRule}
 use Rattle.update.proofs.RuleLaws.{rule-wide}
-use Rattle.book.specs.Held.{some}
 use Rattle.book.proofs.PlaceLaws.{first-at}
 use Rattle.book.proofs.WriteLaws.{set-over}
+use Rattle.finding.specs.Held.{some}
 use Rattle.slots.specs.Slots.{slot-wide, slotsOf, rowIn}
 use Rattle.slots.specs.Worked.{slotOf}
 use Rattle.slots.proofs.SlotLaws.{Whole}

@@ -33,7 +33,7 @@ fn begin_slot(b: &[u8], n: usize, e: &[u8], q: usize, slots: &mut [u8], at: usiz
         at + 1 + passage::KEY_WIDE,
         passage::ROW_WIDE - passage::KEY_WIDE,
     );
-    if book::plan_row(b, n, e, q, slots, at + 1) {
+    if finding::plan_row(b, n, e, q, slots, at + 1) {
         slots[at] = 1;
         return;
     }

@@ -7,13 +7,13 @@ use native.Mathlib.Omega.{arith}
 use lib.ListN.{drop}
 use Rattle.lists.specs.Part.{over}
 use Rattle.lists.specs.Rows.{rowsOf, flat}
-use Rattle.book.specs.declared.Held.the-variants.{At}
-use Rattle.book.specs.Held.{heldAs}
 use Rattle.book.specs.Entries.{plan-wide, entry-wide, planCount, updatesIn}
 use Rattle.book.specs.Rules.{bookSound, marked, withdrawn}
 use Rattle.book.proofs.SplitLaws.{sound-split, length-updates}
 use Rattle.book.proofs.MarkLaws.{marks-alone}
-use Rattle.book.proofs.HeldLaws.{held-is, found-message}
+use Rattle.finding.specs.declared.Held.the-variants.{At}
+use Rattle.finding.specs.Held.{heldAs}
+use Rattle.finding.proofs.HeldLaws.{held-is, found-message}
 use Rattle.calls.specs.Withdraw.{bookWithout}
 use Rattle.reworks.specs.Steps.{Stands}
 

@@ -1,8 +1,8 @@
 // Withdraw: a message's entries become kind 3, and each passage that they name is worked out again from the book.
-use book::Held;
 use calls::Answer;
 use calls::Counts;
 use calls::Outcome;
+use finding::Held;
 ghost use mathlib.Core.Path.{_≡_};
 ghost use mathlib.Core.Bool.{true};
 ghost use Rattle.calls.specs.Withdraw.{withdrawSound, withdrawOutcome, withdrawBook, withdrawTable};
@@ -46,7 +46,7 @@ fn withdraw_sound(number: u32, sender: u8, book: &mut [u8], table: &mut [u8], c:
     ensures rows { λ _. ⌜ now (table .exit) ≡ withdrawTable number sender (now (book .entry)) (now (table .entry)) c ⌝ }
 {
     let used = c.used;
-    let h = book::find_message(book, used, number);
+    let h = finding::find_message(book, used, number);
     match h {
         Held::Nowhere => calls::refused(Answer::NoMessage, c),
         Held::At(i, m) => {

@@ -1,7 +1,6 @@
 use mathlib.Core.Path.{sym, _∙_}
 use native.Mathlib.Omega.{arith}
-use Rattle.book.proofs.FindLaws.{bodies}
-use Rattle.book.proofs.PlanLaws.{plans-none}
+use Rattle.book.proofs.PlanLaws.{bodies, plans-none}
 use Rattle.book.proofs.plans_are_sound.Statement.{statement}
 use Rattle.book.proofs.plans_are_sound.Tie as tie
 

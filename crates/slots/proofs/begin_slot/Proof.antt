@@ -4,7 +4,7 @@ use borrow.Author.Needs.{needs}
 use lib.ListN.{length-set}
 use Rattle.book.specs.Rules.{planRows}
 use Rattle.keys.specs.Sorted.{get}
-use Rattle.book.proofs.FindLaws.{bodies, wide-bodies}
+use Rattle.book.proofs.PlanLaws.{bodies, wide-bodies}
 use Rattle.book.proofs.WriteLaws.{lent-part}
 use Rattle.lists.specs.Part.{part}
 use Rattle.lists.proofs.PartLaws.{length-part}

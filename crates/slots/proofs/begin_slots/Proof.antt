@@ -6,7 +6,7 @@ use borrow.Author.Needs.{needs}
 use lib.ListN.{getD, length, take}
 use Rattle.book.specs.Entries.{entry-wide, body-at}
 use Rattle.passage.specs.Layout.{key-wide}
-use Rattle.book.proofs.FindLaws.{bodies}
+use Rattle.book.proofs.PlanLaws.{bodies}
 use Rattle.lists.specs.Part.{over}
 use Rattle.lists.specs.Rows.{flat}
 use Rattle.slots.specs.Worked.{begunSlot, namesAt}

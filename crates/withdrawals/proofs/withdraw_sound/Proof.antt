@@ -5,7 +5,7 @@ use borrow.Author.Needs.{needs}
 use lib.ListN.{length}
 use Rattle.book.specs.Entries.{plan-wide, entry-wide}
 use Rattle.book.proofs.SoundLaws.{sound-facts, used-within}
-use Rattle.book.proofs.HeldLaws.{missing-message}
+use Rattle.finding.proofs.HeldLaws.{missing-message}
 use Rattle.calls.specs.declared.Answer.the-variants.{NoMessage}
 use Rattle.reworks.specs.Steps.{Stands}
 use Rattle.reworks.proofs.RoomLaws.{sound-parts}
