@@ -188,9 +188,9 @@ fn enrolled(line: &[u8], register: &mut [u8], sender: u8, h: Held) -> Held {
     put(register, at, &[sender]);
     put(register, at + 1, text::word(line, 2));
     echo(line, b": pair ");
-    desk_words::tell(b"% of 64\n", at / passage::PAIR_WIDE + 1, 0);
+    desk_words::tell(b"% of 64\n", at / register::PAIR_WIDE + 1, 0);
     let mut n = h;
-    n.register = at + passage::PAIR_WIDE;
+    n.register = at + register::PAIR_WIDE;
     n
 }
 

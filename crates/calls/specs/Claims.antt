@@ -11,7 +11,7 @@ use Rattle.lists.specs.Each.{Each}
 use Rattle.lists.specs.Text.{same}
 use Rattle.lists.specs.Rows.{rowsOf}
 use Rattle.passage.specs.Layout.{row-wide, keyOf}
-use Rattle.passage.specs.Register.{registerSound}
+use Rattle.register.specs.Register.{registerSound}
 use Rattle.syntax.specs.Grammar.{WellFormed}
 use Rattle.cells.specs.declared.Table.the-variants as Tables
 use Rattle.reader.specs.Items.{Item}

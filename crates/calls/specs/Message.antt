@@ -8,7 +8,7 @@ use Rattle.lists.specs.Logic.{on, both}
 use Rattle.lists.specs.Part.{over}
 use Rattle.lists.specs.Rows.{rowsOf, flat, store}
 use Rattle.passage.specs.Layout.{row-wide}
-use Rattle.passage.specs.Register.{registerSound}
+use Rattle.register.specs.Register.{registerSound}
 use Rattle.cells.specs.declared.Table.the-variants as Tables
 use Rattle.reader.specs.Rules.{readingOf, rowsUpTo, itemsOf}
 use Rattle.keys.specs.Replay.{takenAll}

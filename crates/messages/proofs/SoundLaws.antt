@@ -3,7 +3,7 @@ use mathlib.Core.Path.{_≡_}
 use mathlib.Core.Bool.{true, false}
 use Prim.Native.Nat.{ℕ}
 use mathlib.Core.List.{List}
-use Rattle.passage.specs.Register.{registerSound}
+use Rattle.register.specs.Register.{registerSound}
 use Rattle.table.specs.Rules.{tableSound}
 use Rattle.book.specs.Rules.{bookSound}
 use Rattle.calls.specs.declared.Counts.{Counts}

@@ -15,7 +15,7 @@ fn is_sound(register: &[u8], book: &[u8], table: &[u8], c: Counts) -> bool
 {
     let used = c.used;
     let rows = c.rows;
-    if passage::register_is_sound(register) {
+    if register::register_is_sound(register) {
         if book::book_is_sound(book, used) {
             return table::table_is_sound(table, rows);
         }

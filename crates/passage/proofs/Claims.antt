@@ -1,10 +1,8 @@
--- The claims on the ranges and on the register, proved. Assumes nothing.
-use mathlib.Core.Path.{refl}
+-- The claims on the ranges, proved. Assumes nothing.
 use Rattle.passage.specs.Claims.{PaddedExactly, All}
 use Rattle.passage.proofs.PaddedLaws.{padded-from, padded-text}
 use Rattle.passage.proofs.RangeLaws.{key-facts, facts-key, update-facts, facts-update, plan-facts, facts-plan, row-facts, facts-row, update-key, plan-key, row-key}
 use Rattle.passage.proofs.PlanLaws.{plan-row}
-use Rattle.passage.proofs.RegisterLaws.{grants-desk, grants-has, has-grants, desk-pair, grants-none}
 
 padded-exactly : PaddedExactly
 padded-exactly l = (padded-from l, λ p. rw (p .2) (padded-text (p .0) (p .1)))
@@ -18,8 +16,4 @@ claims = (
   λ r. (row-facts r, facts-row r),
   λ b. (update-key b, plan-key b, row-key b),
   plan-row,
-  λ register owner. grants-desk register 0 owner refl,
-  grants-none,
-  λ register sender owner. (grants-has register sender owner, λ p. has-grants register sender owner (p .0) (p .1)),
-  desk-pair,
 )

@@ -9,10 +9,6 @@ use Rattle.passage.proofs.plan_in_range.Kinds as plan-in-range
 use Rattle.passage.proofs.plan_in_range.Reads as plan-in-range-reads
 use Rattle.passage.proofs.row_in_range.Kinds as row-in-range
 use Rattle.passage.proofs.row_in_range.Reads as row-in-range-reads
-use Rattle.passage.proofs.registered.Kinds as registered
-use Rattle.passage.proofs.registered.Reads as registered-reads
-use Rattle.passage.proofs.register_is_sound.Kinds as register-is-sound
-use Rattle.passage.proofs.register_is_sound.Reads as register-is-sound-reads
 
 pub all-common-determined : Determined 1 all-common.ps all-common.r all-common-reads.Post (λ κs x s. x)
 all-common-determined κs a x y s t p q = p ∙ sym q
@@ -25,9 +21,3 @@ plan-in-range-determined κs a x y s t p q = p ∙ sym q
 
 pub row-in-range-determined : Determined 1 row-in-range.ps row-in-range.r row-in-range-reads.Post (λ κs x s. x)
 row-in-range-determined κs a x y s t p q = p ∙ sym q
-
-pub registered-determined : Determined 2 registered.ps registered.r registered-reads.Post (λ κs x s. x)
-registered-determined κs a x y s t p q = p ∙ sym q
-
-pub register-is-sound-determined : Determined 1 register-is-sound.ps register-is-sound.r register-is-sound-reads.Post (λ κs x s. x)
-register-is-sound-determined κs a x y s t p q = p ∙ sym q

@@ -4,7 +4,6 @@ pub mod RoleLaws
 pub mod FieldLaws
 pub mod RangeLaws
 pub mod PlanLaws
-pub mod RegisterLaws
 pub mod Claims
 pub mod StepLaws
 pub mod CommonLaws

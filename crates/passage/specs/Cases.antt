@@ -3,15 +3,13 @@ use mathlib.Core.Path.{_≡_, refl}
 use mathlib.Core.Bool.{true, false}
 use mathlib.Core.List.{List, [], _∷_, _++_}
 use Prim.Native.Nat.{ℕ}
-use Rattle.lists.specs.Text.{bytes, same}
+use Rattle.lists.specs.Text.{bytes}
 use Rattle.lists.specs.Part.{part}
-use Rattle.lists.specs.Rows.{rowsOf}
 use Rattle.lists.specs.BigEndian.{number, spelled}
 use Rattle.clock.specs.Date.{daysIn, isDate}
 use Rattle.texts.specs.Texts.{padded}
 use Rattle.passage.specs.Layout.{owner-at, date-at, line-at, journey-at, fortify-at, stop-at, order-at, key-wide, destination-at, stamp-at, status-at, arrival-at, departure-at, stop-type-at, show-cancelled-at, flexible-at, monitored-at, body-wide, heard-at, row-wide, missing, kept, keyOf, dateOf, journeyOf, departureOf, flexibleOf}
 use Rattle.passage.specs.Ranges.{paddedText, keyInRange, timesInRange, commonInRange, updateInRange, planInRange, heardInRange, rowInRange}
-use Rattle.passage.specs.Register.{among, grants, registerSound}
 
 -- each offset and width of the paper
 layout-case :
@@ -132,17 +130,3 @@ row-case :
     × (rowInRange (body 0 1456841730 3 87000 87060 (1 ∷ 1 ∷ kept ∷ 0 ∷ 1 ∷ [])) ≡ false)
 unfolding key body rowInRange heardInRange commonInRange timesInRange keyInRange paddedText part number spelled isDate daysIn
 row-case = (refl, refl, refl, refl, refl)
-
--- a register of sender 3 for CXX and the desk for CXX, and a byte that is no pair
-register : List ℕ
-register = 3 ∷ padded (bytes "CXX") ++ 0 ∷ padded (bytes "CXX") ++ 4 ∷ []
-
-register-case :
-    (grants register 3 (padded (bytes "CXX")) ≡ true)
-    × (grants register 3 (padded (bytes "CXY")) ≡ false)
-    × (grants register 4 (padded (bytes "CXX")) ≡ false)
-    × (grants register 0 (padded (bytes "CXX")) ≡ false)
-    × (registerSound register ≡ false)
-    × (registerSound [] ≡ true)
-unfolding register grants among rowsOf same registerSound
-register-case = (refl, refl, refl, refl, refl, refl)

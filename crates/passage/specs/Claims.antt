@@ -1,16 +1,14 @@
--- What is claimed of the ranges and of the register. Assumes nothing.
+-- What is claimed of the ranges. Assumes nothing.
 use mathlib.Core.Path.{_≡_}
-use mathlib.Core.Bool.{true, false}
+use mathlib.Core.Bool.{true}
 use mathlib.Core.List.{List, [], _∷_, _++_}
 use mathlib.Core.Logic.{_↔_}
-use Prim.Native.Nat.{ℕ, _*_, _/_, _<_}
+use Prim.Native.Nat.{ℕ}
 use lib.ListN.{length}
-use Rattle.lists.specs.Part.{part}
 use Rattle.texts.specs.Texts.{padded, isText}
-use Rattle.passage.specs.Layout.{text-wide, body-wide, keyOf}
+use Rattle.passage.specs.Layout.{body-wide, keyOf}
 use Rattle.passage.specs.Ranges.{paddedText, keyInRange, updateInRange, planInRange, rowInRange}
 use Rattle.passage.specs.Facts.{KeyFacts, UpdateFacts, PlanFacts, RowFacts}
-use Rattle.passage.specs.Register.{pair-wide, grants}
 
 -- A padded text is exactly a text that fields keep, 1 to 10 bytes of 32 to 126, padded with zero bytes to ten.
 abbrev pub PaddedExactly : Type 0
@@ -44,28 +42,6 @@ KeysInRange =
 abbrev pub PlanIsRow : Type 0
 PlanIsRow = (b : List ℕ) → length b ≡ body-wide → planInRange b ≡ true → rowInRange (b ++ 0 ∷ []) ≡ true
 
--- Sender 0, the desk, is registered for no owner, whatever the register.
-abbrev pub DeskNeverGranted : Type 0
-DeskNeverGranted = (register owner : List ℕ) → grants register 0 owner ≡ false
-
--- In an empty register nobody is registered.
-abbrev pub EmptyGrantsNothing : Type 0
-EmptyGrantsNothing = (sender : ℕ) (owner : List ℕ) → grants [] sender owner ≡ false
-
--- A sender is registered for an owner exactly where it is not 0 and some whole pair has this sender byte and these owner bytes.
-abbrev pub GrantsExactly : Type 0
-GrantsExactly =
-    (register : List ℕ) (sender : ℕ) (owner : List ℕ)
-    → (grants register sender owner ≡ true)
-    ↔ ((sender ≡ 0 → ⊥)
-    × ((i : ℕ) × (i < length register / pair-wide) × (part (i * pair-wide) pair-wide register ≡ sender ∷ owner)))
-
--- A pair with sender 0, in front of the others or behind k of them, changes nothing.
-abbrev pub DeskPairIgnored : Type 0
-DeskPairIgnored =
-    (front rest : List ℕ) (k : ℕ) → length front ≡ k * pair-wide → (owner : List ℕ) → length owner ≡ text-wide
-    → (sender : ℕ) (o : List ℕ) → grants (front ++ (0 ∷ owner ++ rest)) sender o ≡ grants (front ++ rest) sender o
-
 -- All of them.
 abbrev pub All : Type 0
 All =
@@ -76,7 +52,3 @@ All =
     × RowExactly
     × KeysInRange
     × PlanIsRow
-    × DeskNeverGranted
-    × EmptyGrantsNothing
-    × GrantsExactly
-    × DeskPairIgnored

@@ -2,6 +2,5 @@ pub mod Layout
 pub mod Ranges
 pub mod Roles
 pub mod Facts
-pub mod Register
 pub mod Claims
 pub mod Cases

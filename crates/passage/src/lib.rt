@@ -1,18 +1,16 @@
-// How a passage lies in bytes, the ranges of its fields, and the register of senders and owners.
+// How a passage lies in bytes, and the ranges of its fields.
 ghost use mathlib.Core.Path.{_≡_};
 ghost use mathlib.Core.Bool.{true};
-ghost use mathlib.Core.List.{_∷_, map};
+ghost use mathlib.Core.List.{map};
 ghost use Prim.Native.Nat.{_+_, _*_, _≤_, _<_};
 ghost use lib.ListN.{length, getD, drop};
-ghost use Rattle.lists.specs.Text.{same};
 ghost use Rattle.lists.specs.Part.{part};
 ghost use Rattle.lists.specs.Rows.{rowsOf};
 ghost use Rattle.lists.specs.BigEndian.{number};
 ghost use Rattle.clock.specs.Date.{isDate};
-ghost use Rattle.passage.specs.Layout.{text-wide, date-at, date-wide, body-wide, row-wide};
+ghost use Rattle.passage.specs.Layout.{date-at, date-wide, body-wide, row-wide};
 ghost use Rattle.passage.specs.Roles.{roleIn, roles-wide, roles, breaksText, textsPadded};
 ghost use Rattle.passage.specs.Ranges.{timesInRange, commonInRange, allCommon, updateInRange, planInRange, heardInRange, rowInRange};
-ghost use Rattle.passage.specs.Register.{pair-wide, grants, registerSound};
 
 // Widths of fields.
 pub const TEXT_WIDE: usize = 10;
@@ -69,9 +67,6 @@ pub const BODY_WIDE: usize = MONITORED_AT + 1;
 pub const HEARD_AT: usize = BODY_WIDE;
 
 pub const ROW_WIDE: usize = HEARD_AT + 1;
-
-// A pair of the register: one byte of sender, then the owner.
-pub const PAIR_WIDE: usize = 1 + TEXT_WIDE;
 
 // A time that is missing.
 pub const MISSING: u32 = 16777215;
@@ -234,41 +229,4 @@ pub fn row_in_range(s: &[u8], at: usize) -> bool
         & (s[at + SHOW_CANCELLED_AT] <= 1)
         & (s[at + FLEXIBLE_AT] <= 3)
         & (s[at + MONITORED_AT] <= 1)
-}
-
-// Whether the pair from `p` on is of this sender and of the owner from `at` on.
-fn pair_is(register: &[u8], p: usize, sender: u8, s: &[u8], at: usize) -> bool
-    requires { ⌜ (p + pair-wide ≤ length (now register)) × (at + text-wide ≤ length (now s)) ⌝ }
-    ensures { λ r. ⌜ r ≡ same (part p pair-wide (now (register .entry))) (sender ∷ part at text-wide (now (s .entry))) ⌝ }
-{
-    if register[p] != sender {
-        return false;
-    }
-    lists::same_bytes(&register[p + 1..p + PAIR_WIDE], &s[at..at + TEXT_WIDE])
-}
-
-// Whether the sender is registered for the owner whose ten bytes stand from `at` on.
-pub fn registered(register: &[u8], sender: u8, s: &[u8], at: usize) -> bool
-    requires { ⌜ at + text-wide ≤ length (now s) ⌝ }
-    ensures { λ r. ⌜ r ≡ grants (now (register .entry)) sender (part at text-wide (now (s .entry))) ⌝ }
-{
-    if sender == 0 {
-        return false;
-    }
-    let n = register.len() / PAIR_WIDE;
-    let mut i = 0;
-    while i < n {
-        if pair_is(register, i * PAIR_WIDE, sender, s, at) {
-            return true;
-        }
-        i += 1;
-    }
-    false
-}
-
-// Whether the register's length is that of whole pairs, at most 64.
-pub fn register_is_sound(register: &[u8]) -> bool
-    ensures { λ r. ⌜ r ≡ registerSound (now (register .entry)) ⌝ }
-{
-    (register.len() % PAIR_WIDE == 0) & (register.len() <= 704)
 }

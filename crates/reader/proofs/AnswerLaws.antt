@@ -22,8 +22,8 @@ use Rattle.turbo.specs.Split.{lines, markOf}
 use Rattle.cells.specs.declared.Table.{Table}
 use Rattle.cells.specs.declared.Table.the-variants.{Message, Planning, Calendar}
 use Rattle.cells.specs.Tables.{rowOf}
-use Rattle.passage.specs.Register.{grants}
-use Rattle.passage.proofs.RegisterLaws.{grants-desk}
+use Rattle.register.specs.Register.{grants}
+use Rattle.register.proofs.RegisterLaws.{grants-desk}
 use Rattle.reader.proofs.BoundLaws.{message-bounded, planning-bounded, calendar-bounded}
 use Rattle.reader.specs.declared.Answer.the-variants.{TooLong, Form, Field, Owner, Rows}
 use Rattle.reader.specs.Items.{Item, head, row, Place, outside, awaiting, under, after, seen, before, items}

@@ -24,7 +24,7 @@ use Rattle.cells.specs.declared.Table.the-variants.{Message, Calendar}
 use Rattle.cells.specs.Cell.{cell}
 use Rattle.cells.specs.Tables.{messageColumns, calendarColumns, columnsIn, tableName, names, misses, rowOf, wrongColumn}
 use Rattle.shapes.specs.Shape.{labelFault}
-use Rattle.passage.specs.Register.{among, grants}
+use Rattle.register.specs.Register.{among, grants}
 use Rattle.reader.specs.declared.Answer.{Answer}
 use Rattle.reader.specs.declared.Answer.the-variants.{Syntax, Form, Field, Owner, Rows}
 use Rattle.reader.specs.Items.{items}

@@ -14,7 +14,7 @@ use Rattle.turbo.specs.Split.{until, fields, markOf, afterMark}
 use Rattle.cells.specs.declared.Table.{Table}
 use Rattle.cells.specs.declared.Table.the-variants as Tables
 use Rattle.cells.specs.Tables.{tableName, rowWidth}
-use Rattle.passage.specs.Register.{grants}
+use Rattle.register.specs.Register.{grants}
 use Rattle.shapes.specs.declared.Shape.{Shape}
 use Rattle.rows.specs.declared.Read.{Read}
 use Rattle.shapes.specs.Shape.{noShape, shapeOf}

@@ -109,7 +109,7 @@ fn may_send(t: Table, register: &[u8], sender: u8, row: &[u8]) -> bool
     ensures { λ r. ⌜ r ≡ maySend t (now (register .entry)) sender (now (row .entry)) ⌝ }
 {
     match t {
-        Table::Message => passage::registered(register, sender, row, 0),
+        Table::Message => register::registered(register, sender, row, 0),
         Table::Planning => true,
         Table::Calendar => true,
     }

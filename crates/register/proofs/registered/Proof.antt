@@ -2,11 +2,11 @@ use mathlib.Core.Path.{_≡_, _∙_, sym}
 use Prim.Native.Nat.{_-_, _≤_}
 use borrow.Author.Needs.{needs}
 use Rattle.lists.specs.Part.{part}
 use Rattle.passage.specs.Layout.{text-wide}
-use Rattle.passage.specs.Register.{grants}
-use Rattle.passage.proofs.RegisterLaws.{left, left-start, left-found, left-next, left-none, grants-desk, grants-is}
-use Rattle.passage.proofs.registered.Statement.{statement}
-use Rattle.passage.proofs.registered.Tie as tie
+use Rattle.register.specs.Register.{grants}
+use Rattle.register.proofs.RegisterLaws.{left, left-start, left-found, left-next, left-none, grants-desk, grants-is}
+use Rattle.register.proofs.registered.Statement.{statement}
+use Rattle.register.proofs.registered.Tie as tie
 
 abbrev Inv-loop : tie.InvT-loop
 Inv-loop register sender s at n i₀ i =

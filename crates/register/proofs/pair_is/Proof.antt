@@ -1,8 +1,8 @@
 use mathlib.Core.Path.{_∙_, sym}
 use borrow.Author.Needs.{needs}
-use Rattle.passage.proofs.RegisterLaws.{pair-other, pair-lent}
-use Rattle.passage.proofs.pair_is.Statement.{statement}
-use Rattle.passage.proofs.pair_is.Tie as tie
+use Rattle.register.proofs.RegisterLaws.{pair-other, pair-lent}
+use Rattle.register.proofs.pair_is.Statement.{statement}
+use Rattle.register.proofs.pair_is.Tie as tie
 
 shared-slice-read-if1 : tie.Need-shared-slice-read-if1
 shared-slice-read-if1 c = search needs

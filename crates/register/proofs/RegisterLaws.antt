@@ -19,9 +19,9 @@ use Rattle.lists.proofs.TextLaws.{same-refl, same-equal}
 use Rattle.lists.proofs.PartLaws.{part-cons}
 use Rattle.lists.proofs.RowLaws.{rowsOf-step, rowsOf-start, length-rowsOf, rowsOf-append, flat-rowsOf, row-at}
 use Rattle.lists.proofs.WideLaws.{wide-rowsOf, rowsOf-flat}
 use Rattle.passage.specs.Layout.{text-wide}
-use Rattle.passage.specs.Register.{pair-wide, pairs, among, grants}
+use Rattle.register.specs.Register.{pair-wide, pairs, among, grants}
 use Rattle.passage.proofs.TestLaws.{or-pass, pass-or, or-assoc}
 
 -- a lent part of n bytes
 lent-part : (a e n : ℕ) (l : List ℕ) → e - a ≡ n → take (e - a) (drop a l) ≡ part a n l

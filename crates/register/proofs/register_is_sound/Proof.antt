@@ -1,7 +1,7 @@
 use mathlib.Core.Path.{refl}
-use Rattle.passage.specs.Register.{registerSound}
-use Rattle.passage.proofs.register_is_sound.Statement.{statement}
-use Rattle.passage.proofs.register_is_sound.Tie as tie
+use Rattle.register.specs.Register.{registerSound}
+use Rattle.register.proofs.register_is_sound.Statement.{statement}
+use Rattle.register.proofs.register_is_sound.Tie as tie
 
 returns : tie.Need-returns
 unfolding registerSound
