@@ -147,7 +147,7 @@ fn all_in_range(t: &[u8], n: usize) -> bool
 {
     let mut i = 0;
     while i < n {
-        let good = passage::row_in_range(t, i * passage::ROW_WIDE);
+        let good = ranges::row_in_range(t, i * passage::ROW_WIDE);
         if good {
             i += 1;
         } else {

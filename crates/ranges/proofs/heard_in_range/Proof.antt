@@ -1,8 +1,8 @@
 use mathlib.Core.Path.{refl}
 use borrow.Author.Needs.{needs}
 use Rattle.passage.specs.Ranges.{heardInRange}
-use Rattle.passage.proofs.heard_in_range.Statement.{statement}
-use Rattle.passage.proofs.heard_in_range.Tie as tie
+use Rattle.ranges.proofs.heard_in_range.Statement.{statement}
+use Rattle.ranges.proofs.heard_in_range.Tie as tie
 
 in-stamp-range-requires : tie.Need-in-stamp-range-requires
 in-stamp-range-requires c κs = search needs

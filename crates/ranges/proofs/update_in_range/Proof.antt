@@ -1,8 +1,8 @@
 use mathlib.Core.Path.{sym}
 use borrow.Author.Needs.{needs}
-use Rattle.passage.proofs.FieldLaws.{update-at}
-use Rattle.passage.proofs.update_in_range.Statement.{statement}
-use Rattle.passage.proofs.update_in_range.Tie as tie
+use Rattle.ranges.proofs.FieldLaws.{update-at}
+use Rattle.ranges.proofs.update_in_range.Statement.{statement}
+use Rattle.ranges.proofs.update_in_range.Tie as tie
 
 add-get-number : tie.Need-add-get-number
 add-get-number c = search needs
