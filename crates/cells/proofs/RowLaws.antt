@@ -11,7 +11,7 @@ use Rattle.lists.specs.Text.{same}
 use Rattle.lists.specs.Part.{part}
 use Rattle.lists.proofs.LogicLaws.{both-true}
 use Rattle.turbo.specs.Split.{fieldAt}
-use Rattle.turbo.specs.Columns.{place}
+use Rattle.labels.specs.Columns.{place}
 use Rattle.cells.specs.declared.Table.{Table}
 use Rattle.cells.specs.Cell.{text, width, null, cell, some}
 use Rattle.cells.specs.Tables.{Column, must, columnsIn, nameOf, isOptional, rowWidth, cellAt, stopPlace, cellsOf, rowOf}

@@ -9,7 +9,7 @@ use Rattle.lists.specs.Logic.{on, both}
 use Rattle.lists.specs.Text.{bytes, same}
 use Rattle.lists.specs.Rows.{flat}
 use Rattle.turbo.specs.Split.{fieldAt}
-use Rattle.turbo.specs.Columns.{place}
+use Rattle.labels.specs.Columns.{place}
 use Rattle.cells.specs.declared.Table.{Table}
 use Rattle.cells.specs.declared.Table.the-variants.{Message, Planning, Calendar}
 use Rattle.cells.specs.Cell.{text, date, journey, fortify, order, stamp, status, arrival, departure, stopType, bit, flexible, width, null, cell, some}

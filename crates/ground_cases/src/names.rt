@@ -8,8 +8,8 @@ pub fn lookup(v: &[u8]) {
     let rest = parts::tail(v);
     let labels = parts::head(rest);
     let line = parts::tail(rest);
-    say::size(turbo::column_of(labels, name));
-    let f = turbo::lookup(line, labels, name);
+    say::size(labels::column_of(labels, name));
+    let f = labels::lookup(line, labels, name);
     say::text(f);
 }
 
@@ -29,7 +29,7 @@ pub fn columns(v: &[u8]) {
         say::words(b" more than 20 names");
         return;
     }
-    let c = turbo::find_columns(wanted, labels);
+    let c = labels::find_columns(wanted, labels);
     if c.twice {
         say::words(b" twice,");
     }

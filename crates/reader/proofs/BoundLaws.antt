@@ -21,7 +21,7 @@ use Rattle.fields.proofs.TripleLaws.{triple-length, clock-other}
 use Rattle.turbo.specs.declared.Mark.{Mark}
 use Rattle.turbo.specs.declared.Mark.the-variants as Marks
 use Rattle.turbo.specs.Split.{until, past, tailAt, fields, fieldAt, lines, markOf, afterMark}
-use Rattle.turbo.specs.Columns.{place}
+use Rattle.labels.specs.Columns.{place}
 use Rattle.turbo.proofs.SplitLaws.{until-le, past-drop, field-tail, lines-cons, lines-none}
 use Rattle.cells.specs.declared.Table.{Table}
 use Rattle.cells.specs.declared.Table.the-variants.{Message, Planning, Calendar}

@@ -13,7 +13,7 @@ use Rattle.lists.specs.Part.{part}
 use Rattle.lists.specs.BigEndian.{number}
 use Rattle.lists.proofs.PartLaws.{part-cons, part-zero}
 use Rattle.turbo.specs.Split.{fieldAt}
-use Rattle.turbo.specs.Columns.{place}
+use Rattle.labels.specs.Columns.{place}
 use Rattle.turbo.specs.Escape.{decode}
 use Rattle.cells.specs.declared.Table.{Table}
 use Rattle.cells.specs.Cell as Cell

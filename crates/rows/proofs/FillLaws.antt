@@ -15,7 +15,7 @@ use Rattle.lists.specs.Part.{over}
 use Rattle.lists.specs.Rows.{flat}
 use Rattle.lists.proofs.LogicLaws.{both-true}
 use Rattle.turbo.specs.Split.{fieldAt}
-use Rattle.turbo.specs.Columns.{most}
+use Rattle.labels.specs.Columns.{most}
 use Rattle.cells.specs.declared.Table.{Table}
 use Rattle.cells.specs.Cell.{null, text, width, cell, some}
 use Rattle.cells.specs.Tables.{Column, must, columnsIn, isOptional, cellAt, rowWidth}

@@ -11,7 +11,7 @@ use Rattle.lists.specs.Logic.{on}
 use Rattle.lists.specs.Part.{part, over}
 use Rattle.lists.specs.Rows.{flat}
 use Rattle.lists.proofs.OverLaws.{length-over}
-use Rattle.turbo.specs.Columns.{place}
+use Rattle.labels.specs.Columns.{place}
 use Rattle.cells.specs.declared.Table.{Table}
 use Rattle.cells.specs.Cell.{text, width, some}
 use Rattle.cells.specs.Tables.{Column, must, columnsIn, nameOf, cellAt, cellsOf, stopPlace, rowOf, rowWidth, wrongIn, wrongColumn, lesser}

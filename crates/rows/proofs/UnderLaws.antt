@@ -10,8 +10,8 @@ use borrow.Author.Tests.{lt-ltb, le-ltb}
 use lib.ListN.{length}
 use lib.Seq.{ext-getD}
 use Rattle.lists.specs.Rows.{flat}
-use Rattle.turbo.specs.Columns.{place}
-use Rattle.turbo.proofs.PlaceLaws.{place-missing}
+use Rattle.labels.specs.Columns.{place}
+use Rattle.labels.proofs.PlaceLaws.{place-missing}
 use Rattle.cells.specs.declared.Table.{Table}
 use Rattle.cells.specs.Cell.{some}
 use Rattle.cells.specs.Tables.{columnsIn, nameOf, cellsOf, rowOf, wrongColumn}

@@ -10,7 +10,7 @@ use Rattle.clock.specs.Date.{daysIn, isDate}
 use Rattle.clock.specs.Moment.{monthStart, dayCount}
 use Rattle.turbo.specs.Escape.{escaped, decode}
 use Rattle.turbo.specs.Split.{fields, fieldAt}
-use Rattle.turbo.specs.Columns.{count, place, anyTwice, placesFrom}
+use Rattle.labels.specs.Columns.{count, place, anyTwice, placesFrom}
 use Rattle.fields.specs.Digits.{number, triple}
 use Rattle.fields.specs.Times.{clock, time}
 use Rattle.fields.specs.Dates.{date}

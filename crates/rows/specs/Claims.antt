@@ -7,8 +7,8 @@ use mathlib.Core.Logic.{_⊎_, _↔_}
 use lib.ListN.{length}
 use Rattle.lists.specs.Part.{part}
 use Rattle.turbo.specs.Split.{fieldAt}
-use Rattle.turbo.specs.Columns.{place}
-use Rattle.turbo.specs.Claims.{Twice}
+use Rattle.labels.specs.Columns.{place}
+use Rattle.labels.specs.Claims.{Twice}
 use Rattle.cells.specs.declared.Table.{Table}
 use Rattle.cells.specs.Cell.{width, some}
 use Rattle.cells.specs.Tables.{nameOf, rowWidth, rowOf, wrongColumn, stopPlace}

@@ -9,9 +9,9 @@ use borrow.Author.Tests.{lt-ltb}
 use lib.Dec.{ltb}
 use lib.ListN.{length, getD}
 use Rattle.lists.specs.Logic.{on}
-use Rattle.turbo.specs.Columns.{place, anyTwice}
+use Rattle.labels.specs.Columns.{place, anyTwice}
 use Rattle.turbo.specs.Claims.{Twice}
-use Rattle.turbo.proofs.PlaceLaws.{place-there, place-before, second-find, place-once}
+use Rattle.labels.proofs.PlaceLaws.{place-there, place-before, second-find, place-once}
 use Rattle.cells.specs.declared.Table.{Table}
 use Rattle.cells.specs.Cell.{text}
 use Rattle.cells.specs.Tables.{Column, must, columnsIn, names, nameOf, isOptional, missesIn, misses}

@@ -8,8 +8,8 @@ use lib.ListN.{length, take, replicate}
 use Rattle.lists.specs.Logic.{on, either}
 use Rattle.lists.specs.Part.{over}
 use Rattle.lists.proofs.LogicLaws.{either-true}
-use Rattle.turbo.specs.declared.Columns.{Columns}
-use Rattle.turbo.specs.Columns.{anyTwice, placesFrom, columnsOf, most}
+use Rattle.labels.specs.declared.Columns.{Columns}
+use Rattle.labels.specs.Columns.{anyTwice, placesFrom, columnsOf, most}
 use Rattle.cells.specs.declared.Table.{Table}
 use Rattle.cells.specs.declared.Table.the-variants.{Message, Planning, Calendar}
 use Rattle.cells.specs.Tables.{messageColumns, planningColumns, calendarColumns, columnsIn, names, misses, stopPlace}

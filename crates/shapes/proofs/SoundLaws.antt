@@ -13,8 +13,8 @@ use Rattle.lists.specs.Text.{same}
 use Rattle.lists.specs.Part.{over}
 use Rattle.lists.proofs.LogicLaws.{both-true, either-false}
 use Rattle.lists.proofs.TextLaws.{same-refl}
-use Rattle.turbo.specs.Columns.{place, anyTwice, placesFrom, columnsOf, most}
-use Rattle.turbo.proofs.PlaceLaws.{place-there, each-place}
+use Rattle.labels.specs.Columns.{place, anyTwice, placesFrom, columnsOf, most}
+use Rattle.labels.proofs.PlaceLaws.{place-there, each-place}
 use Rattle.cells.specs.declared.Table.{Table}
 use Rattle.cells.specs.declared.Table.the-variants.{Message, Planning, Calendar}
 use Rattle.cells.specs.Cell.{text}

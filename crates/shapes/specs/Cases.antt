@@ -6,7 +6,7 @@ use mathlib.Core.List.{List, [], _∷_}
 use lib.ListN.{take, drop}
 use Rattle.lists.specs.Text.{bytes, same}
 use Rattle.lists.specs.Part.{onto, over}
-use Rattle.turbo.specs.Columns.{count, place, anyTwice, placesFrom}
+use Rattle.labels.specs.Columns.{count, place, anyTwice, placesFrom}
 use Rattle.cells.specs.declared.Table.the-variants.{Calendar}
 use Rattle.cells.specs.Tables.{calendarColumns, columnsIn, names, misses}
 use Rattle.shapes.specs.Shape.{nextFrom, visits, labelFault, shapeOf}

@@ -1,19 +1,6 @@
 -- The claims of `specs/Claims.antt`. Assumes nothing.
-use mathlib.Core.Path.{ap}
-use Prim.Native.Nat.{ℕ}
-use Rattle.turbo.specs.Split.{fieldAt}
 use Rattle.turbo.specs.Claims.{All}
 use Rattle.turbo.proofs.GrammarLaws.{dossier-grammar, fields-grammar, decode-grammar}
-use Rattle.turbo.proofs.PlaceLaws.{place-most, place-there, place-before, place-missing, second-find, each-place, place-once}
 
 pub claims : All
-claims = (
-  λ d w. dossier-grammar w,
-  λ l f. fields-grammar f,
-  λ l t. decode-grammar t,
-  λ w fs h. (place-there w fs h, place-before w fs),
-  λ w fs. (place-most w fs, place-missing w fs),
-  second-find,
-  each-place,
-  λ line w fs j h q n. ap (λ (k : ℕ). fieldAt k line) (place-once w fs j h q n),
-)
+claims = (λ d w. dossier-grammar w, λ l f. fields-grammar f, λ l t. decode-grammar t)

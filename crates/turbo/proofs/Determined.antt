@@ -32,12 +32,6 @@ use Rattle.turbo.proofs.read_field.Kinds as read-field
 use Rattle.turbo.proofs.read_field.Reads as read-field-reads
 use Rattle.turbo.proofs.field_of.Kinds as field-of
 use Rattle.turbo.proofs.field_of.Reads as field-of-reads
-use Rattle.turbo.proofs.column_of.Kinds as column-of
-use Rattle.turbo.proofs.column_of.Reads as column-of-reads
-use Rattle.turbo.proofs.lookup.Kinds as lookup
-use Rattle.turbo.proofs.lookup.Reads as lookup-reads
-use Rattle.turbo.proofs.find_columns.Kinds as find-columns
-use Rattle.turbo.proofs.find_columns.Reads as find-columns-reads
 
 pub escaped-determined : OneResult 0 escaped.ps escaped.r escaped-reads.Post
 escaped-determined κs a x y s t p q = p ∙ sym q
@@ -83,15 +77,6 @@ read-field-size-determined κs a x y s t p q = p .1 ∙ sym (q .1)
 
 pub field-of-determined : Determined 1 field-of.ps field-of.r field-of-reads.Post (λ κs x s. now x)
 field-of-determined κs a x y s t p q = p ∙ sym q
-
-pub column-of-determined : OneResult 2 column-of.ps column-of.r column-of-reads.Post
-column-of-determined κs a x y s t p q = p ∙ sym q
-
-pub lookup-determined : Determined 3 lookup.ps lookup.r lookup-reads.Post (λ κs x s. now x)
-lookup-determined κs a x y s t p q = p ∙ sym q
-
-pub find-columns-determined : OneResult 2 find-columns.ps find-columns.r find-columns-reads.Post
-find-columns-determined κs a x y s t p q = p ∙ sym q
 
 pub read-line-tail-determined : Determined 2 read-line.ps read-line.r read-line-reads.Post (λ κs x s. now x)
 read-line-tail-determined κs a x y s t p q = p .0 ∙ sym (q .0)

@@ -1,6 +1,5 @@
 pub mod Escape
 pub mod Split
-pub mod Columns
 pub mod Told
 pub mod Claims
 pub mod Cases

@@ -12,9 +12,9 @@ use lib.Dec.{leb}
 use Rattle.lists.specs.Logic.{on}
 use Rattle.lists.specs.Text.{same}
 use Rattle.lists.proofs.TextLaws.{same-refl, same-equal}
-use Rattle.turbo.specs.declared.Columns.{Columns}
-use Rattle.turbo.specs.Columns.{count, place, anyTwice, placesFrom, columnsOf, most}
-use Rattle.turbo.specs.Claims.{Twice}
+use Rattle.labels.specs.declared.Columns.{Columns}
+use Rattle.labels.specs.Columns.{count, place, anyTwice, placesFrom, columnsOf, most}
+use Rattle.labels.specs.Claims.{Twice}
 
 -- What a place and a count among names say of the names. Assumes nothing.
 

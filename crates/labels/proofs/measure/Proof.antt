@@ -4,11 +4,11 @@ use native.Mathlib.Omega.{arith}
 use mathlib.Core.Path.{_≡_, refl, sym, ap, _∙_}
 use lib.ListN.{length, getD, length-set}
 use borrow.Author.Needs.{needs}
 use Rattle.turbo.specs.Split.{until, past, tailAt}
 use Rattle.turbo.proofs.SplitLaws.{tail-zero, tail-past}
-use Rattle.turbo.proofs.ColumnLaws.{measured-next}
-use Rattle.turbo.proofs.measure.Statement.{statement}
-use Rattle.turbo.proofs.measure.Tie as tie
+use Rattle.labels.proofs.ColumnLaws.{measured-next}
+use Rattle.labels.proofs.measure.Statement.{statement}
+use Rattle.labels.proofs.measure.Tie as tie
 
 abbrev Inv-loop : tie.InvT-loop
 Inv-loop labels sizes₀ l₀ k₀ sizes l k =

@@ -1,6 +1,6 @@
-use Rattle.turbo.proofs.ColumnLaws.{columnsFrom, columns-start, column-next, column-last, column-twice, name-next, name-last, name-twice, fields-fewer, tail-labels}
+use Rattle.labels.proofs.ColumnLaws.{columnsFrom, columns-start, column-next, column-last, column-twice, name-next, name-last, name-twice, fields-fewer, tail-labels}
 use Rattle.turbo.proofs.SplitLaws.{fields-some, tail-zero}
-use Rattle.turbo.specs.Columns.{noted, sought, columnsOf, most}
+use Rattle.labels.specs.Columns.{noted, sought, columnsOf, most}
 use Prim.Native.Nat.{ℕ, _+_, _-_, _≤_, _<_}
 use native.Mathlib.Omega.{arith}
 use mathlib.Core.Path.{_≡_, refl, sym, ap, _∙_}
@@ -8,11 +8,11 @@ use mathlib.Core.List.{List}
 use lib.ListN.{length, take, drop, set}
 use mathlib.Core.Bool.{Bool, false}
 use borrow.Author.Needs.{needs}
 use Rattle.turbo.specs.Split.{until, fields, tailAt}
 use lib.Seq.{length-take-le}
 use Rattle.lists.proofs.PartLaws.{tail-length}
-use Rattle.turbo.proofs.search_columns.Statement.{statement}
-use Rattle.turbo.proofs.search_columns.Tie as tie
+use Rattle.labels.proofs.search_columns.Statement.{statement}
+use Rattle.labels.proofs.search_columns.Tie as tie
 
 abbrev Inv-columns : tie.InvT-columns
 Inv-columns wanted labels sizes none twice₀ places₀ i w at name first₀ k₀ l₀ twice places first k l = (twice ≡ false) × (places ≡ places₀) × (k + length l ≤ length labels) × (sought none first k name (fields l) ≡ sought none none 0 name (fields labels)) × (l ≡ tailAt k labels)

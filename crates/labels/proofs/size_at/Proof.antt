@@ -1,9 +1,9 @@
 use Prim.Native.Nat.{_-_}
 use native.Mathlib.Omega.{arith}
 use borrow.Author.Needs.{needs}
 use Rattle.turbo.proofs.SplitLaws.{until-le}
-use Rattle.turbo.proofs.size_at.Statement.{statement}
-use Rattle.turbo.proofs.size_at.Tie as tie
+use Rattle.labels.proofs.size_at.Statement.{statement}
+use Rattle.labels.proofs.size_at.Tie as tie
 
 mul-result : tie.Need-mul-result
 mul-result c = search needs

@@ -3,13 +3,13 @@ use native.Mathlib.Omega.{arith}
 use mathlib.Core.Path.{_≡_, sym, _∙_}
 use lib.ListN.{length}
 use borrow.Author.Needs.{needs}
 use Rattle.turbo.specs.Split.{fields}
-use Rattle.turbo.specs.Columns.{place}
+use Rattle.labels.specs.Columns.{place}
 use lib.Seq.{length-take-le}
 use Rattle.lists.proofs.PartLaws.{tail-length}
-use Rattle.turbo.proofs.ColumnLaws.{place-hit, place-last, place-more}
-use Rattle.turbo.proofs.column_of.Statement.{statement}
-use Rattle.turbo.proofs.column_of.Tie as tie
+use Rattle.labels.proofs.ColumnLaws.{place-hit, place-last, place-more}
+use Rattle.labels.proofs.column_of.Statement.{statement}
+use Rattle.labels.proofs.column_of.Tie as tie
 
 abbrev Inv-loop : tie.InvT-loop
 Inv-loop labels name k₀ l₀ k l = (k + length l ≤ length labels) × (k + place name (fields l) ≡ place name (fields labels))

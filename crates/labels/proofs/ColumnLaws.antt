@@ -11,11 +11,11 @@ use lib.Seq.{getD-set-same, getD-set-other}
 use lib.Dec.{ltb, leb}
 use Rattle.lists.specs.Logic.{on}
 use Rattle.lists.specs.Text.{same}
-use Rattle.turbo.specs.declared.Columns.{Columns}
-use Rattle.turbo.specs.declared.Seen.the-variants.{First, Twice}
+use Rattle.labels.specs.declared.Columns.{Columns}
+use Rattle.labels.specs.declared.Seen.the-variants.{First, Twice}
 use Rattle.turbo.specs.Split.{until, past, fields, tailAt}
-use Rattle.turbo.specs.Columns.{count, place, anyTwice, placesFrom, columnsOf, noted, seenBy, sought, most}
+use Rattle.labels.specs.Columns.{count, place, anyTwice, placesFrom, columnsOf, noted, seenBy, sought, most}
 use Rattle.turbo.proofs.SplitLaws.{rest-is, tail-past, fields-cons, fields-last}
 
 -- Laws of the search for column names. Assumes nothing.
 

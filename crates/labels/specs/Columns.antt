@@ -7,10 +7,10 @@ use lib.ListN.{length, getD, set, replicate}
 use lib.Dec.{eqb, leb}
 use Rattle.lists.specs.Logic.{on}
 use Rattle.lists.specs.Text.{same}
 use Rattle.turbo.specs.Split.{until, tailAt}
-use Rattle.turbo.specs.declared.Seen.{Seen}
-use Rattle.turbo.specs.declared.Seen.the-variants.{First, Twice}
-use Rattle.turbo.specs.declared.Columns.{Columns}
+use Rattle.labels.specs.declared.Seen.{Seen}
+use Rattle.labels.specs.declared.Seen.the-variants.{First, Twice}
+use Rattle.labels.specs.declared.Columns.{Columns}
 
 -- how often w stands among the names fs
 unfoldable pub count : List ℕ → List (List ℕ) → ℕ

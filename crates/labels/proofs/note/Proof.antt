@@ -1,7 +1,7 @@
 use Prim.Native.Nat.{_-_}
 use borrow.Author.Tests.{eq-eqb, ne-eqb}
-use Rattle.turbo.proofs.note.Statement.{statement}
-use Rattle.turbo.proofs.note.Tie as tie
+use Rattle.labels.proofs.note.Statement.{statement}
+use Rattle.labels.proofs.note.Tie as tie
 
 returns : tie.Need-returns
 returns c = rw (c .before .if1 .taken, eq-eqb _ _ (c .if2 .taken))

@@ -1,10 +1,10 @@
 use Prim.Native.Nat.{ℕ, _-_}
 use mathlib.Core.Path.{ap, _∙_}
 use borrow.Author.Needs.{needs}
 use Rattle.turbo.specs.Split.{fieldAt}
 use denote.Ref.{now}
-use Rattle.turbo.proofs.lookup.Statement.{statement}
-use Rattle.turbo.proofs.lookup.Tie as tie
+use Rattle.labels.proofs.lookup.Statement.{statement}
+use Rattle.labels.proofs.lookup.Tie as tie
 
 column-of-requires : tie.Need-column-of-requires
 column-of-requires c κs = search needs

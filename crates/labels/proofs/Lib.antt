@@ -1,0 +1,4 @@
+pub mod ColumnLaws
+pub mod PlaceLaws
+pub mod Claims
+pub mod Determined
