@@ -12,7 +12,7 @@ use Rattle.lists.specs.Text.{same}
 use Rattle.lists.specs.Rows.{rowsOf}
 use Rattle.passage.specs.Layout.{row-wide, keyOf}
 use Rattle.register.specs.Register.{registerSound}
-use Rattle.syntax.specs.Grammar.{WellFormed}
+use Rattle.grammar.specs.Grammar.{WellFormed}
 use Rattle.cells.specs.declared.Table.the-variants as Tables
 use Rattle.reader.specs.Items.{Item}
 use Rattle.reader.specs.Rules.{largest, formBad, wrongAt, ownerBad, itemsOf}

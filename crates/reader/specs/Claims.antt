@@ -7,7 +7,7 @@ use mathlib.Core.Logic.{_↔_}
 use lib.ListN.{length}
 use Rattle.lists.specs.Each.{Each}
 use Rattle.lists.specs.Rows.{rowsOf}
-use Rattle.syntax.specs.Grammar.{WellFormed}
+use Rattle.grammar.specs.Grammar.{WellFormed}
 use Rattle.cells.specs.declared.Table.{Table}
 use Rattle.cells.specs.declared.Table.the-variants.{Message, Planning, Calendar}
 use Rattle.cells.specs.Tables.{rowWidth}

@@ -10,7 +10,7 @@ use lib.Dec.{ltb}
 use lib.ListN.{length, getD}
 use Rattle.lists.specs.Logic.{on}
 use Rattle.labels.specs.Columns.{place, anyTwice}
-use Rattle.turbo.specs.Claims.{Twice}
+use Rattle.labels.specs.Claims.{Twice}
 use Rattle.labels.proofs.PlaceLaws.{place-there, place-before, second-find, place-once}
 use Rattle.cells.specs.declared.Table.{Table}
 use Rattle.cells.specs.Cell.{text}

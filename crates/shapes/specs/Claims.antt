@@ -5,7 +5,7 @@ use mathlib.Core.Bool.{false}
 use mathlib.Core.List.{List, []}
 use mathlib.Core.Logic.{_↔_}
 use lib.ListN.{length, getD}
-use Rattle.turbo.specs.Claims.{Twice}
+use Rattle.labels.specs.Claims.{Twice}
 use Rattle.cells.specs.declared.Table.{Table}
 use Rattle.cells.specs.Tables.{nameOf}
 use Rattle.cells.specs.Layout.{wanted, columnAt, optionalAt}

@@ -13,7 +13,7 @@ use Rattle.syntax.specs.declared.Next.the-variants.{To, Bad}
 use Rattle.syntax.specs.declared.Verdict.the-variants.{Fine, FaultAt}
 use Rattle.lists.specs.Logic.{on}
 use Rattle.syntax.specs.Machine.{follow, field, escape, firstEscape, nul, ret, opened, marked, step, accepting, run, fault}
-use Rattle.syntax.specs.Grammar.{WellFormed}
+use Rattle.grammar.specs.Grammar.{WellFormed}
 use Rattle.syntax.proofs.GrammarLaws.{fine, formed}
 
 -- A fault lies at the first byte that no well-formed dossier could have after those before it, or at the length if the bytes end early:

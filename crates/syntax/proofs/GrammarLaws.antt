@@ -15,7 +15,7 @@ use Rattle.syntax.specs.declared.Next.{Next}
 use Rattle.syntax.specs.declared.Next.the-variants.{To, Bad}
 use Rattle.syntax.specs.declared.Verdict.the-variants.{Fine, FaultAt}
 use Rattle.syntax.specs.Machine.{follow, field, escape, firstEscape, nul, ret, opened, marked, step, accepting, mayEnd, run, fault}
-use Rattle.syntax.specs.Grammar.{ended, headed, Plain, Esc, Text, Field, Fields, Tables, Lines, WellFormed}
+use Rattle.grammar.specs.Grammar.{ended, headed, Plain, Esc, Text, Field, Fields, Tables, Lines, WellFormed}
 
 -- The machine and the grammar say the same: `fine` and `formed`. And a fault lies at the first byte that no well-formed dossier could have: `dead`, `viable`.
 -- Assumes nothing.

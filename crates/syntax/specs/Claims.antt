@@ -6,7 +6,7 @@ use mathlib.Core.List.{List, _++_}
 use lib.ListN.{length, take}
 use Rattle.syntax.specs.declared.Verdict.the-variants.{Fine, FaultAt}
 use Rattle.syntax.specs.Machine.{fault}
-use Rattle.syntax.specs.Grammar.{WellFormed}
+use Rattle.grammar.specs.Grammar.{WellFormed}
 
 -- no fault is found exactly in the well-formed dossiers
 abbrev pub FineIsWellFormed : Type 0

@@ -1,5 +1,4 @@
 pub mod Machine
-pub mod Grammar
 pub mod Claims
 pub mod Cases
 pub mod Scan

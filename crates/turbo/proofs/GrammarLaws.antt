@@ -4,7 +4,7 @@ use mathlib.Core.Path.{_≡_, refl, sym, ap, _∙_}
 use mathlib.Core.Bool.{false}
 use mathlib.Core.List.{List, [], _∷_, _++_, map, append-nil}
 use borrow.Author.Tests.{ne-eqb}
-use Rattle.syntax.specs.Grammar.{ended, headed, Plain, Esc, Text, Field, Fields, Lines, Tables, WellFormed}
+use Rattle.grammar.specs.Grammar.{ended, headed, Plain, Esc, Text, Field, Fields, Lines, Tables, WellFormed}
 use Rattle.turbo.specs.declared.Mark.the-variants.{Group, Table, Labels, Data}
 use Rattle.turbo.specs.Escape.{escaped, decodeAfter, decode}
 use Rattle.turbo.specs.Split.{onto, fields, linesFrom, lines, letter, markOf, behind, afterMark}

@@ -2,7 +2,7 @@
 use Prim.Native.Nat.{ℕ}
 use mathlib.Core.Path.{_≡_}
 use mathlib.Core.List.{List, map}
-use Rattle.syntax.specs.Grammar.{Text, Fields, WellFormed}
+use Rattle.grammar.specs.Grammar.{Text, Fields, WellFormed}
 use Rattle.turbo.specs.Escape.{decode}
 use Rattle.turbo.specs.Split.{lines, fields, markOf, afterMark}
 use Rattle.turbo.specs.Told.{Line, dossierIn, fieldsIn, contentIn}

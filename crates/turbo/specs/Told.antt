@@ -1,7 +1,7 @@
 -- What a well-formed dossier says, read off the grammar alone: its lines with their marks, a line's fields, a text's content. Assumes nothing.
 use Prim.Native.Nat.{ℕ}
 use mathlib.Core.List.{List, [], _∷_}
-use Rattle.syntax.specs.Grammar.{Esc, Text, Fields, Lines, Tables, WellFormed}
+use Rattle.grammar.specs.Grammar.{Esc, Text, Fields, Lines, Tables, WellFormed}
 use Rattle.turbo.specs.declared.Mark.{Mark}
 use Rattle.turbo.specs.declared.Mark.the-variants.{Group, Table, Labels, Data}
 
