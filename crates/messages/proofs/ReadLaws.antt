@@ -1,6 +1,5 @@
 -- The ways out of a message once its dossier is read: a refusal of the dossier, or what its rows give. Assumes nothing.
-use Prim.Native.Nat.{ℕ, _≤_}
-use native.Mathlib.Omega.{arith}
+use Prim.Native.Nat.{ℕ, _*_, _≤_}
 use mathlib.Core.Path.{_≡_, refl, ap, _∙_}
 use mathlib.Core.Bool.{true, false}
 use mathlib.Core.List.{List}
@@ -23,10 +22,10 @@ use Rattle.posting.specs.Steps.{takenOutcome, takenBook, takenTable}
 use Rattle.posting.proofs.TakeLaws.{outcome-is}
 
 -- the rows of an accepted dossier, as they are staged
-pub staged-bodies : (register : List ℕ) (sender : ℕ) (d staging : List ℕ) (n : ℕ) → readingOf Tables.Message register sender d ≡ Rows n → n ≤ 2427 → length staging ≡ 160182
+pub staged-bodies : (register : List ℕ) (sender : ℕ) (d staging : List ℕ) (n : ℕ) → readingOf Tables.Message register sender d ≡ Rows n → n * body-wide ≤ length staging
     → rowsOf body-wide n (stagedBy Tables.Message register sender d staging) ≡ messageBodies register sender d
 unfolding messageBodies
-staged-bodies register sender d staging n e few l = staged-updates register sender d staging n e (omega arith)
+staged-bodies register sender d staging n e room = staged-updates register sender d staging n e room
 
 module _ (d : List ℕ) (sender : ℕ) (register book table : List ℕ) (c : Counts) where
   abbrev bodies : List (List ℕ)

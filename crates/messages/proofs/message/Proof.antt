@@ -1,5 +1,6 @@
 -- `message` meets its contract. Assumes nothing.
 use mathlib.Core.Path.{refl, sym, _∙_}
+use borrow.Author.Needs.{needs}
 use Rattle.messages.proofs.ReadLaws.{unsound}
 use Rattle.messages.proofs.message.Statement.{statement}
 use Rattle.messages.proofs.message.Tie as tie
@@ -7,17 +8,17 @@ use Rattle.messages.proofs.message.Tie as tie
 is-sound-requires : tie.Need-is-sound-requires
 is-sound-requires c κs = tt
 
-read-and-take-requires : tie.Need-read-and-take-requires
-read-and-take-requires c κs = sym (c .before .before .before .before .is-sound .ensures) ∙ c .before .before .before .if1 .taken
+take-sound-requires : tie.Need-take-sound-requires
+take-sound-requires c κs = sym (c .before .before .before .is-sound .ensures) ∙ c .before .before .if1 .taken
 
 same-length : tie.Need-same-length
-same-length c = c .before .before .before .before .read-and-take .kept .1 .1 .1 .1 .0
+same-length c = search needs
 
 same-length-2 : tie.Need-same-length-2
-same-length-2 c = c .before .before .before .before .read-and-take .kept .1 .1 .1 .1 .1 .0
+same-length-2 c = search needs
 
 returns : tie.Need-returns
-returns c = c .before .before .before .before .read-and-take .ensures
+returns c = search needs
 
 refused-requires : tie.Need-refused-requires
 refused-requires c κs = tt
@@ -38,7 +39,7 @@ message-spec =
     tie.close
     (tie.spec
     is-sound-requires
-    read-and-take-requires
+    take-sound-requires
     same-length
     same-length-2
     returns
