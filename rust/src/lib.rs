@@ -6,3 +6,4 @@ pub mod generate;
 pub mod second;
 pub mod sides;
 pub mod tally;
+pub mod ways;

@@ -6,6 +6,8 @@
 //! measured time. The table printed gives the median and, in brackets, the 10th and the 90th
 //! percentile, of either side's time and of the ratio of neighbouring samples.
 
+mod reasons;
+
 use std::hint::black_box;
 use std::time::Instant;
 
@@ -47,6 +49,8 @@ fn main() {
             measure(rows, &case, samples);
         }
     }
+    println!("\nWhy: parts of calls in the proved library's way of working, by the second implementation's compiler.\n");
+    reasons::print(MOST_ROWS, samples);
 }
 
 struct Case {
@@ -204,9 +208,8 @@ fn parts(rows: usize) -> Vec<Case> {
         planning: planning_dossier(rows / DATES, Columns::All),
         calendar: b"\\G\r\n".to_vec(),
     };
-    let empty = Call::Open { planning: Vec::new(), calendar: Vec::new() };
     vec![
-        case("open, empty dossiers: areas cleared", empty, &blank()),
+        case("open, empty dossiers: areas cleared", open_empty(), &blank()),
         case("open, 26 columns, no validities: reading", unjoined, &blank()),
         case("message, empty dossier, book and table: areas cleared", message(b""), &blank()),
         case("message without rows: soundness", message(b"\\G\r\n"), &day.state),
@@ -250,10 +253,16 @@ fn open(rows: usize, columns: Columns) -> Call {
     Call::Open { planning: planning_dossier(rows / DATES, columns), calendar }
 }
 
+fn open_empty() -> Call {
+    Call::Open { planning: Vec::new(), calendar: Vec::new() }
+}
+
 fn message(dossier: &[u8]) -> Call {
-    let mut register = vec![SENDER];
-    register.extend_from_slice(&padded(OWNER));
-    Call::Message { dossier: dossier.to_vec(), sender: SENDER, register }
+    Call::Message { dossier: dossier.to_vec(), sender: SENDER, register: register() }
+}
+
+fn register() -> Vec<u8> {
+    [&[SENDER][..], &padded(OWNER)].concat()
 }
 
 fn withdraw(number: u32) -> Call {
