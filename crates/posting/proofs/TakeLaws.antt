@@ -16,10 +16,10 @@ use Rattle.passage.specs.Layout.{row-wide}
 use Rattle.keys.specs.Replay.{takenAll}
 use Rattle.table.specs.Rules.{tableSound, room}
 use Rattle.table.proofs.SoundLaws.{sound-within}
-use Rattle.taking.specs.declared.Fitted.{Fitted}
-use Rattle.taking.specs.declared.Fitted.the-variants.{Count, TooMany}
-use Rattle.taking.specs.Fitting.{fitting, fittingIn}
-use Rattle.taking.proofs.FittingLaws.{count-told, too-many-told, in-yes, in-no}
+use Rattle.fitting.specs.declared.Fitted.{Fitted}
+use Rattle.fitting.specs.declared.Fitted.the-variants.{Count, TooMany}
+use Rattle.fitting.specs.Fitting.{fitting, fittingIn}
+use Rattle.fitting.proofs.FittingLaws.{count-told, too-many-told, in-yes, in-no}
 use Rattle.book.specs.Entries.{entry-wide, entriesOf, updatesIn}
 use Rattle.book.specs.Rules.{bookSound, bookRoom, nextNumber}
 use Rattle.book.proofs.SoundLaws.{sound-facts}

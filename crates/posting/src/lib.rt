@@ -66,8 +66,8 @@ pub fn take_rows(
         return calls::refused(Answer::BookShort, c);
     }
     let most = table::rows_room(table);
-    match taking::take_fitting(table, held, staging, n, most) {
-        taking::Fitted::Count(rows) => write_rows(staging, n, sender, book, used, rows),
-        taking::Fitted::TooMany => calls::refused(Answer::TableShort, c),
+    match fitting::take_fitting(table, held, staging, n, most) {
+        fitting::Fitted::Count(rows) => write_rows(staging, n, sender, book, used, rows),
+        fitting::Fitted::TooMany => calls::refused(Answer::TableShort, c),
     }
 }

@@ -1,6 +1,5 @@
 pub mod TakenLaws
 pub mod LoopLaws
-pub mod FittingLaws
 pub mod StepLaws
 pub mod Claims
 pub mod Determined

@@ -1,18 +1,14 @@
 -- A loop that takes the bodies of s into the n rows of t₀, one after another. Assumes nothing.
 use mathlib.Core.Path.{_≡_, refl, sym, ap, _∙_}
-use mathlib.Core.Bool.{true, false}
-use mathlib.Core.List.{List, _++_}
-use Prim.Native.Nat.{ℕ, _+_, _-_, _*_, _≤_, _<_}
+use mathlib.Core.Bool.{true}
+use mathlib.Core.List.{List}
+use Prim.Native.Nat.{ℕ, _+_, _-_, _*_, _≤_}
 use native.Mathlib.Omega.{arith}
-use borrow.Author.Tests.{le-leb, lt-leb}
-use lib.Dec.{leb}
-use lib.ListN.{length, take, drop}
-use lib.Seq.{length-take-le}
-use Rattle.lists.specs.Part.{part, over}
-use Rattle.lists.specs.Rows.{rowsOf, flat, store, Wide}
-use Rattle.lists.proofs.OverLaws.{onto-fits}
-use Rattle.lists.proofs.RowLaws.{length-rowsOf, rowsOf-append, flat-rowsOf}
-use Rattle.lists.proofs.WideLaws.{wide-rowsOf, rowsOf-flat}
+use lib.ListN.{length, drop}
+use Rattle.lists.specs.Part.{part}
+use Rattle.lists.specs.Rows.{rowsOf, store, Wide}
+use Rattle.lists.proofs.RowLaws.{length-rowsOf, rowsOf-append}
+use Rattle.lists.proofs.WideLaws.{wide-rowsOf}
 use Rattle.lists.proofs.StoreLaws.{store-same, store-grows, rowsOf-store, length-store}
 use Rattle.passage.specs.Layout.{body-wide, row-wide}
 use Rattle.keys.specs.Sorted.{sortedRows}
@@ -127,32 +123,3 @@ module _ (s t₀ : List ℕ) (n : ℕ) (fits : n * row-wide ≤ length t₀) whe
               ∙ ap (λ (d : List ℕ). store row-wide (length rs) (after s rs₀ (i + 1)) d) (l .stored)
               ∙ store-grows row-wide n rs (after s rs₀ (i + 1)) t₀ wide w a b;
         }
-
--- ---- a trial on a copy
-
--- the rows of a copy of the n rows of t are those rows
-pub copied-rows : (n : ℕ) (t z : List ℕ) → n * row-wide ≤ length t → n * row-wide ≤ length z → rowsOf row-wide n (over 0 (take (n * row-wide - 0) (drop 0 t)) z) ≡ rowsOf row-wide n t
-unfolding over
-copied-rows n t z h k =
-    let rs = rowsOf row-wide n t in
-    let m : n * row-wide - 0 ≡ n * row-wide = omega arith in
-    let l : length (take (n * row-wide) t) ≡ n * row-wide = length-take-le (n * row-wide) t h in
-    let f : take (n * row-wide) t ≡ flat rs = sym (flat-rowsOf row-wide n t) in
-    let rest = drop (length (take (n * row-wide) t)) z in
-    let g : rowsOf row-wide n (flat rs ++ rest) ≡ rs = rw (length-rowsOf row-wide n t) at (rowsOf-flat row-wide rs rest (wide-rowsOf row-wide n t h)) in
-    rw (m, onto-fits (take (n * row-wide) t) z (omega arith)) (ap (λ (x : List ℕ). rowsOf row-wide n (x ++ rest)) f ∙ g)
-
--- the trial's rows q are the rows rs; it ends where there are too many, or with all bodies taken
-module _ (s : List ℕ) (rs q : List (List ℕ)) (e : q ≡ rs) (m most : ℕ) where
-  pub trial-over : (i : ℕ) → i ≤ m → most < length (after s q i) → false ≡ leb (length (after s rs m)) most
-  trial-over i h k =
-      let r : length (after s q i) ≤ length (after s rs m) = rw e (after-rises s rs i m h) in
-      sym (lt-leb (length (after s rs m)) most (omega arith))
-
-  pub trial-within : length (after s q m) ≤ most → true ≡ leb (length (after s rs m)) most
-  trial-within h = sym (le-leb (length (after s rs m)) most (rw e at h))
-
--- no trial is needed where each update may bring a row
-pub all-fit : (s t : List ℕ) (n m most : ℕ) → n + m ≤ most → true ≡ leb (length (after s (rowsOf row-wide n t) m)) most
-all-fit s t n m most h =
-    sym (le-leb (length (after s (rowsOf row-wide n t) m)) most (omega (arith, after-most s (rowsOf row-wide n t) m, length-rowsOf row-wide n t)))

@@ -20,9 +20,7 @@ use Rattle.keys.specs.Replay.{taken}
 use Rattle.keys.proofs.PutLaws.{putBy, put-at, get-at, found-below, missing-within}
 use Rattle.keys.proofs.ReplayLaws.{get-own}
 use Rattle.update.specs.Rule.{applyRow, beginning, begun, rowRule}
-use Rattle.taking.specs.Fitting.{lacking}
 use Rattle.taking.proofs.TakenLaws.{keeps, whole}
-use Rattle.taking.proofs.FittingLaws.{lacking-full}
 
 -- ---- a row of its own
 
@@ -88,10 +86,10 @@ module _ (t s : List ℕ) (n at i : ℕ) (fits : n * row-wide ≤ length t) (bod
     pub held-below : i < n
     held-below = found-below row-wide n i (part at key-wide s) t e
 
-    held-is : get (keyOf u) rs ≡ part (i * row-wide) row-wide t
+    pub held-is : get (keyOf u) rs ≡ part (i * row-wide) row-wide t
     held-is = get-at (keyOf u) rs (At i) (rw (← key-there) e) ∙ row-at row-wide n i t held-below
 
-    held-whole : length (part (i * row-wide) row-wide t) ≡ row-wide
+    pub held-whole : length (part (i * row-wide) row-wide t) ≡ row-wide
     held-whole = let h = held-below in length-part (i * row-wide) row-wide t (omega arith)
 
     rule-is : rowRule (get (keyOf u) rs) u ≡ applyRow (part (i * row-wide) row-wide t) u
@@ -102,9 +100,6 @@ module _ (t s : List ℕ) (n at i : ℕ) (fits : n * row-wide ≤ length t) (bod
 
     taken-held : taken rowRule u rs ≡ set rs i (applyRow (part (i * row-wide) row-wide t) u)
     taken-held = taken-by (At i) e ∙ ap (λ (r : List ℕ). set rs i r) rule-is
-
-    pub held-there : lacking (get (keyOf u) rs) ≡ 0
-    held-there = let l = held-whole in rw held-is (lacking-full (part (i * row-wide) row-wide t) (omega arith))
 
     pub held-count : n ≡ length (taken rowRule u rs)
     held-count = sym (rw (taken-held, length-set) (length-rowsOf row-wide n t))
@@ -119,11 +114,8 @@ module _ (t s : List ℕ) (n at i : ℕ) (fits : n * row-wide ≤ length t) (bod
     pub new-within : i ≤ n
     new-within = missing-within row-wide n i (part at key-wide s) t e
 
-    new-none : get (keyOf u) rs ≡ []
+    pub new-none : get (keyOf u) rs ≡ []
     new-none = get-at (keyOf u) rs (Missing i) (rw (← key-there) e)
-
-    pub new-lacks : lacking (get (keyOf u) rs) ≡ 1
-    new-lacks = ap lacking new-none
 
     taken-new : taken rowRule u rs ≡ insertAt i (rowRule [] u) rs
     taken-new = taken-by (Missing i) e ∙ ap (λ (h : List ℕ). insertAt i (rowRule h u) rs) new-none

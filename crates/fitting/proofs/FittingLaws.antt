@@ -10,22 +10,25 @@ use borrow.Author.Tests.{le-leb, leb-true}
 use lib.Dec.{leb}
 use lib.ListN.{length, drop}
 use Rattle.lists.specs.Logic.{on}
+use Rattle.lists.specs.Part.{part}
 use Rattle.lists.specs.Text.{same}
 use Rattle.lists.specs.Rows.{rowsOf, store, Wide}
 use Rattle.lists.proofs.RowLaws.{length-rowsOf, rowsOf-start, rowsOf-step}
 use Rattle.lists.proofs.WideLaws.{wide-rowsOf}
-use Rattle.passage.specs.Layout.{body-wide, row-wide, keyOf}
-use Rattle.keys.specs.Sorted.{get}
+use Rattle.passage.specs.Layout.{key-wide, body-wide, row-wide, keyOf}
+use Rattle.keys.specs.declared.Found.the-variants.{At, Missing}
+use Rattle.keys.specs.Sorted.{lookup, get}
 use Rattle.keys.specs.Replay.{taken, takenAll}
 use Rattle.keys.proofs.CountLaws.{length-put-held}
 use Rattle.keys.proofs.ReplayLaws.{empty-or, length-taken-most, get-taken}
 use Rattle.update.specs.Rule.{rowRule}
 use Rattle.update.proofs.RuleLaws.{rule-key, rule-not-empty}
-use Rattle.taking.specs.declared.Fitted.{Fitted}
-use Rattle.taking.specs.declared.Fitted.the-variants.{Count, TooMany}
-use Rattle.taking.specs.Fitting.{lacking, absent, fitting, fittingIn}
 use Rattle.taking.proofs.TakenLaws.{IsBody, keeps}
 use Rattle.taking.proofs.LoopLaws.{after, body}
+use Rattle.taking.proofs.StepLaws.{held-is, held-whole, new-none}
+use Rattle.fitting.specs.declared.Fitted.{Fitted}
+use Rattle.fitting.specs.declared.Fitted.the-variants.{Count, TooMany}
+use Rattle.fitting.specs.Fitting.{lacking, absent, fitting, fittingIn}
 
 -- ---- rows that come
 
@@ -71,6 +74,17 @@ pub few-fit : (s t : List ℕ) (n m most missing : ℕ) → m * body-wide ≤ le
 few-fit s t n m most missing h l e k =
     let g = grows (rowsOf body-wide m s) (rowsOf row-wide n t) (wide-rowsOf body-wide m s h) in
     sym (le-leb (length (after s (rowsOf row-wide n t) m)) most (omega (arith, g, length-rowsOf row-wide n t)))
+
+-- ---- what a search tells of a key
+
+module _ (t s : List ℕ) (n at i : ℕ) (fits : n * row-wide ≤ length t) (there : at + body-wide ≤ length s) where
+  pub held-there : lookup (part at key-wide s) (rowsOf row-wide n t) ≡ At i → lacking (get (keyOf (part at body-wide s)) (rowsOf row-wide n t)) ≡ 0
+  held-there e =
+      let l = held-whole t s n at i fits there e in
+      rw (held-is t s n at i fits there e) (lacking-full (part (i * row-wide) row-wide t) (omega arith))
+
+  pub new-lacks : lookup (part at key-wide s) (rowsOf row-wide n t) ≡ Missing i → lacking (get (keyOf (part at body-wide s)) (rowsOf row-wide n t)) ≡ 1
+  new-lacks e = ap lacking (new-none t s n at i fits there e)
 
 -- ---- counted in a loop
 
@@ -120,16 +134,18 @@ module _ (n most : ℕ) (rs : List (List ℕ)) (t : List ℕ) where
   abbrev Fits : Fitted → List ℕ → Type 0
   Fits r t′ = (r ≡ fitting most rs) × (t′ ≡ fittingIn n most rs t)
 
-  pub fits-room : leb (length rs) most ≡ true → most * row-wide ≤ length t → length rs * row-wide ≤ length t
-  fits-room h k = le-trans (mul-le-mul-right row-wide (leb-true (length rs) most h)) k
+  -- b: whether they are at most so many, as it was worked out
+  module _ (b : Bool) (e : b ≡ leb (length rs) most) where
+    pub fits-room : b ≡ true → most * row-wide ≤ length t → length rs * row-wide ≤ length t
+    fits-room h k = le-trans (mul-le-mul-right row-wide (leb-true (length rs) most (sym e ∙ h))) k
 
-  pub fits-yes : leb (length rs) most ≡ true → (k : ℕ) (t′ : List ℕ) → (k ≡ length rs) × (t′ ≡ store row-wide n rs t) → Fits (Count k) t′
-  unfolding fitting fittingIn
-  fits-yes h k t′ e = rw h (ap Count (e .0), e .1)
+    pub fits-yes : b ≡ true → (k : ℕ) (t′ : List ℕ) → (k ≡ length rs) × (t′ ≡ store row-wide n rs t) → Fits (Count k) t′
+    unfolding fitting fittingIn
+    fits-yes h k t′ g = rw (sym e ∙ h) (ap Count (g .0), g .1)
 
-  pub fits-no : leb (length rs) most ≡ false → Fits TooMany t
-  unfolding fitting fittingIn
-  fits-no h = rw h (refl, refl)
+    pub fits-no : b ≡ false → Fits TooMany t
+    unfolding fitting fittingIn
+    fits-no h = rw (sym e ∙ h) (refl, refl)
 
 -- ---- what an answer tells
 

@@ -7,8 +7,8 @@ use Rattle.lists.specs.Logic.{on}
 use Rattle.lists.specs.Rows.{store}
 use Rattle.passage.specs.Layout.{row-wide, keyOf}
 use Rattle.keys.specs.Sorted.{get}
-use Rattle.taking.specs.declared.Fitted.{Fitted}
-use Rattle.taking.specs.declared.Fitted.the-variants.{Count, TooMany}
+use Rattle.fitting.specs.declared.Fitted.{Fitted}
+use Rattle.fitting.specs.declared.Fitted.the-variants.{Count, TooMany}
 
 -- 1 for no row
 abbrev pub lacking : List ℕ → ℕ

@@ -5,10 +5,9 @@ use borrow.Author.Needs.{needs}
 use lib.ListN.{length, length-set}
 use Rattle.lists.specs.Rows.{rowsOf}
 use Rattle.passage.specs.Layout.{body-wide, row-wide}
-use Rattle.taking.proofs.StepLaws.{held-there, new-lacks}
-use Rattle.taking.proofs.FittingLaws.{Looked, looked-start, looked-held, looked-new, looked-end}
-use Rattle.taking.proofs.locate_all.Statement.{statement}
-use Rattle.taking.proofs.locate_all.Tie as tie
+use Rattle.fitting.proofs.FittingLaws.{held-there, new-lacks, Looked, looked-start, looked-held, looked-new, looked-end}
+use Rattle.fitting.proofs.locate_all.Statement.{statement}
+use Rattle.fitting.proofs.locate_all.Tie as tie
 
 abbrev Inv-loop : tie.InvT-loop
 Inv-loop t n s m places₀ missing₀ k₀ places missing k = (k ≤ m) × (length places ≡ length places₀) × Looked (rowsOf row-wide n t) m s k missing

@@ -1,11 +1,13 @@
-use mathlib.Core.Path.{sym}
+use mathlib.Core.Path.{refl}
+use mathlib.Core.Bool.{true}
 use borrow.Author.Needs.{needs}
 use Rattle.lists.specs.Rows.{rowsOf}
 use Rattle.passage.specs.Layout.{row-wide}
-use Rattle.taking.proofs.LoopLaws.{after, all-fit}
-use Rattle.taking.proofs.FittingLaws.{fits-room, fits-yes}
-use Rattle.taking.proofs.take_fitting.Statement.{statement}
-use Rattle.taking.proofs.take_fitting.Tie as tie
+use Rattle.taking.proofs.LoopLaws.{after}
+use Rattle.fitting.proofs.TrialLaws.{all-fit}
+use Rattle.fitting.proofs.FittingLaws.{fits-room, fits-yes}
+use Rattle.fitting.proofs.take_fitting.Statement.{statement}
+use Rattle.fitting.proofs.take_fitting.Tie as tie
 
 add-if1 : tie.Need-add-if1
 add-if1 c = search needs
@@ -15,8 +17,8 @@ take-all-requires c κs =
     let start = c .before .before .before .before in
     let a = start .args in
     let p = start .pre in
-    let fit = sym (all-fit (a .s .now) (a .t .now) (a .n) (a .m) (a .most) (c .before .if1 .taken)) in
-    ((p .0 .0, p .0 .1), (p .1 .0, fits-room (a .n) (a .most) (after (a .s .now) (rowsOf row-wide (a .n) (a .t .now)) (a .m)) (a .t .now) fit (p .1 .1)))
+    let fit = all-fit (a .s .now) (a .t .now) (a .n) (a .m) (a .most) (c .before .if1 .taken) in
+    ((p .0 .0, p .0 .1), (p .1 .0, fits-room (a .n) (a .most) (after (a .s .now) (rowsOf row-wide (a .n) (a .t .now)) (a .m)) (a .t .now) true fit refl (p .1 .1)))
 
 same-length : tie.Need-same-length
 same-length c = search needs
@@ -25,8 +27,8 @@ returns : tie.Need-returns
 returns c =
     let a = c .before .before .before .before .before .before .before .args in
     let took = c .before .before .take-all in
-    let fit = sym (all-fit (a .s .now) (a .t .now) (a .n) (a .m) (a .most) (c .before .before .before .before .if1 .taken)) in
-    fits-yes (a .n) (a .most) (after (a .s .now) (rowsOf row-wide (a .n) (a .t .now)) (a .m)) (a .t .now) fit (took .result) _ (took .ensures)
+    let fit = all-fit (a .s .now) (a .t .now) (a .n) (a .m) (a .most) (c .before .before .before .before .if1 .taken) in
+    fits-yes (a .n) (a .most) (after (a .s .now) (rowsOf row-wide (a .n) (a .t .now)) (a .m)) (a .t .now) true fit refl (took .result) _ (took .ensures)
 
 slice-aggregate-take-tight : tie.Need-slice-aggregate-take-tight
 slice-aggregate-take-tight c = search needs

@@ -1,7 +1,7 @@
 use borrow.Author.Needs.{needs}
-use Rattle.taking.proofs.FittingLaws.{few-fit}
-use Rattle.taking.proofs.fits_with.Statement.{statement}
-use Rattle.taking.proofs.fits_with.Tie as tie
+use Rattle.fitting.proofs.FittingLaws.{few-fit}
+use Rattle.fitting.proofs.fits_with.Statement.{statement}
+use Rattle.fitting.proofs.fits_with.Tie as tie
 
 sub-if1 : tie.Need-sub-if1
 sub-if1 c = search needs

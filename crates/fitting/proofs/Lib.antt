@@ -1,0 +1,3 @@
+pub mod FittingLaws
+pub mod TrialLaws
+pub mod Determined
