@@ -6,6 +6,8 @@ use Prim.Native.Nat.{ℕ, _+_, _*_, _-_, _≤_, _<_}
 use mathlib.Core.Logic.{_⊎_, inl, inr}
 use native.Mathlib.Omega.{arith}
 use borrow.Author.Tests.{lt-ltb, le-ltb, eq-eqb, ne-eqb}
+use mir.Syntax.{w8, w64}
+use mir.Val.{Fits}
 use lib.Dec.{eqb, ltb}
 use lib.ListN.{length, getD}
 use Rattle.lists.specs.Logic.{on}
@@ -40,6 +42,25 @@ word-is at s h =
     let e7 : number (part at 6 s) * 256 + getD s (at + 6) 0 ≡ number (part at 7 s) = read-turn at 6 (number (part at 6 s)) s refl (omega arith) in
     let e8 : number (part at 7 s) * 256 + getD s (at + 7) 0 ≡ number (part at 8 s) = read-turn at 7 (number (part at 7 s)) s refl (omega arith) in
     omega arith
+
+-- the sums of which a word is made fit into it
+module _ (at : ℕ) (s : List ℕ) (byte : (i : ℕ) → Fits w8 (getD s i 0)) where
+  pub high-fits :
+      Fits w64 (getD s at 0 * 72057594037927936 + getD s (at + 1) 0 * 281474976710656 + (getD s (at + 2) 0 * 1099511627776 + getD s (at + 3) 0 * 4294967296))
+  high-fits = omega (arith, byte at, byte (at + 1), byte (at + 2), byte (at + 3))
+
+  pub end-fits : Fits w64 (getD s (at + 6) 0 * 256 + getD s (at + 7) 0)
+  end-fits = omega (arith, byte (at + 6), byte (at + 7))
+
+  pub low-fits : Fits w64 (getD s (at + 4) 0 * 16777216 + getD s (at + 5) 0 * 65536 + (getD s (at + 6) 0 * 256 + getD s (at + 7) 0))
+  low-fits = omega (arith, byte (at + 4), byte (at + 5), byte (at + 6), byte (at + 7))
+
+  pub word-fits :
+      Fits w64
+      (getD s at 0 * 72057594037927936 + getD s (at + 1) 0 * 281474976710656 + (getD s (at + 2) 0 * 1099511627776 + getD s (at + 3) 0 * 4294967296)
+      + (getD s (at + 4) 0 * 16777216 + getD s (at + 5) 0 * 65536 + (getD s (at + 6) 0 * 256 + getD s (at + 7) 0)))
+  word-fits =
+      omega (arith, byte at, byte (at + 1), byte (at + 2), byte (at + 3), byte (at + 4), byte (at + 5), byte (at + 6), byte (at + 7))
 
 -- ---- as many bytes in front decide, or else the rest
 

@@ -1,7 +1,7 @@
 use Prim.Native.Nat.{_+_}
 use native.Mathlib.Omega.{arith}
 use borrow.Author.Needs.{needs}
-use Rattle.keys.proofs.WordLaws.{word-is}
+use Rattle.keys.proofs.WordLaws.{word-is, high-fits, end-fits, low-fits, word-fits}
 use Rattle.keys.proofs.word_at.Statement.{statement}
 use Rattle.keys.proofs.word_at.Tie as tie
 
@@ -57,7 +57,7 @@ add-high-5 : tie.Need-add-high-5
 add-high-5 c = omega (arith, c .shared-slice-known4 .given (c .before .before .before .before .args .at + 2), c .shared-slice-known4 .given (c .before .before .before .before .args .at + 3))
 
 add-high-6 : tie.Need-add-high-6
-add-high-6 c = omega (arith, c .shared-slice-known4 .given (c .before .before .before .before .args .at), c .shared-slice-known4 .given (c .before .before .before .before .args .at + 1), c .shared-slice-known4 .given (c .before .before .before .before .args .at + 2), c .shared-slice-known4 .given (c .before .before .before .before .args .at + 3))
+add-high-6 c = let a = c .before .before .before .before .args in high-fits (a .at) (a .s .now) (c .shared-slice-known4 .given)
 
 add-low : tie.Need-add-low
 add-low c = search needs
@@ -108,13 +108,13 @@ cast-low-4 : tie.Need-cast-low-4
 cast-low-4 c = omega (arith, c .shared-slice-known8 .given (c .before .before .before .before .before .before .before .before .args .at + 7))
 
 add-low-6 : tie.Need-add-low-6
-add-low-6 c = omega (arith, c .shared-slice-known8 .given (c .before .before .before .before .before .before .before .before .args .at + 6), c .shared-slice-known8 .given (c .before .before .before .before .before .before .before .before .args .at + 7))
+add-low-6 c = let a = c .before .before .before .before .before .before .before .before .args in end-fits (a .at) (a .s .now) (c .shared-slice-known8 .given)
 
 add-low-7 : tie.Need-add-low-7
-add-low-7 c = omega (arith, c .shared-slice-known8 .given (c .before .before .before .before .before .before .before .before .args .at + 4), c .shared-slice-known8 .given (c .before .before .before .before .before .before .before .before .args .at + 5), c .shared-slice-known8 .given (c .before .before .before .before .before .before .before .before .args .at + 6), c .shared-slice-known8 .given (c .before .before .before .before .before .before .before .before .args .at + 7))
+add-low-7 c = let a = c .before .before .before .before .before .before .before .before .args in low-fits (a .at) (a .s .now) (c .shared-slice-known8 .given)
 
 add-result : tie.Need-add-result
-add-result c = omega (arith, c .shared-slice-known8 .given (c .before .before .before .before .before .before .before .before .args .at), c .shared-slice-known8 .given (c .before .before .before .before .before .before .before .before .args .at + 1), c .shared-slice-known8 .given (c .before .before .before .before .before .before .before .before .args .at + 2), c .shared-slice-known8 .given (c .before .before .before .before .before .before .before .before .args .at + 3), c .shared-slice-known8 .given (c .before .before .before .before .before .before .before .before .args .at + 4), c .shared-slice-known8 .given (c .before .before .before .before .before .before .before .before .args .at + 5), c .shared-slice-known8 .given (c .before .before .before .before .before .before .before .before .args .at + 6), c .shared-slice-known8 .given (c .before .before .before .before .before .before .before .before .args .at + 7))
+add-result c = let a = c .before .before .before .before .before .before .before .before .args in word-fits (a .at) (a .s .now) (c .shared-slice-known8 .given)
 
 returns : tie.Need-returns
 returns c =
