@@ -51,8 +51,8 @@ fn write_number(n: Number, w: usize, row: &mut [u8], at: usize) -> bool
     }
 }
 
-// A text in ten bytes.
-fn write_text(f: &[u8], row: &mut [u8], at: usize) -> bool
+// A text in ten bytes, decoded.
+fn write_decoded(f: &[u8], row: &mut [u8], at: usize) -> bool
     requires { ⌜ at + 10 ≤ length (now row) ⌝ }
     ensures some { λ r. ⌜ r ≡ some (textCell (Texts.text (now (f .entry)))) ⌝ }
     ensures written { λ r. ⌜ now (row .exit) ≡ over at (textCell (Texts.text (now (f .entry)))) (now (row .entry)) ⌝ }
@@ -64,6 +64,19 @@ fn write_text(f: &[u8], row: &mut [u8], at: usize) -> bool
         return true;
     }
     false
+}
+
+// A text in ten bytes. Most fields have no escape and are copied as they stand.
+fn write_text(f: &[u8], row: &mut [u8], at: usize) -> bool
+    requires { ⌜ at + 10 ≤ length (now row) ⌝ }
+    ensures some { λ r. ⌜ r ≡ some (textCell (Texts.text (now (f .entry)))) ⌝ }
+    ensures written { λ r. ⌜ now (row .exit) ≡ over at (textCell (Texts.text (now (f .entry)))) (now (row .entry)) ⌝ }
+{
+    if texts::is_plain(f) {
+        texts::write_plain(f, row, at);
+        return true;
+    }
+    write_decoded(f, row, at)
 }
 
 // A time in three bytes, or a missing one where the row's own stop type is `word`. The stop type is looked up only where the time has no content.

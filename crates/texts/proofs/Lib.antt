@@ -1,4 +1,5 @@
 pub mod ReadingLaws
 pub mod KeptLaws
+pub mod PlainLaws
 pub mod Claims
 pub mod Determined

@@ -28,6 +28,18 @@ textGiven false t = record { ok = false; bytes = replicate 10 0 }
 abbrev pub isText : List ℕ → Bool
 isText t = both (within 1 10 (length t)) (allText t)
 
+-- b is 32 to 126 and no backslash
+abbrev pub plainByte : ℕ → Bool
+plainByte b = on (eqb b 92) false (within 32 126 b)
+
+abbrev pub allPlain : List ℕ → Bool
+allPlain [] = true
+allPlain (x ∷ xs) = both (plainByte x) (allPlain xs)
+
+-- f is 1 to 10 bytes, each 32 to 126 and none a backslash
+unfoldable pub plain : List ℕ → Bool
+plain f = both (within 1 10 (length f)) (allPlain f)
+
 -- the kept text of f
 unfoldable pub text : List ℕ → Text
 text f = textGiven (isText (decode f)) (decode f)

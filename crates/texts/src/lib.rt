@@ -1,8 +1,11 @@
-// Texts that are kept of a dossier's fields, decoded and padded. A reader is lent the field and gives a copy.
+// Texts that are kept of a dossier's fields, decoded and padded. A reader is lent the field and gives a copy, or, where there is no escape, writes it where it is kept.
 ghost use mathlib.Core.Path.{_≡_};
 ghost use mathlib.Core.Bool.{false};
 ghost use mathlib.Core.List.{[]};
-ghost use Rattle.texts.specs.Texts.{keptStep, stepOf, textGiven, text};
+ghost use Prim.Native.Nat.{_+_, _≤_};
+ghost use lib.ListN.{length};
+ghost use Rattle.lists.specs.Part.{over};
+ghost use Rattle.texts.specs.Texts.{keptStep, stepOf, padded, plain, textGiven, text};
 
 // A text that is kept, padded with zero bytes; all zero where it is not ok.
 pub struct Text {
@@ -89,4 +92,41 @@ pub fn read_text(f: &[u8]) -> Text
         ok: true,
         bytes: out,
     }
+}
+
+// Whether the field is 1 to 10 bytes, each 32 to 126 and no backslash. It is then a text that stands for itself.
+pub fn is_plain(f: &[u8]) -> bool
+    ensures { λ r. ⌜ r ≡ plain (now (f .entry)) ⌝ }
+{
+    if f.len() < 1 {
+        return false;
+    }
+    if 10 < f.len() {
+        return false;
+    }
+    let mut i: usize = 0;
+    while i < f.len() {
+        let c = f[i];
+        if c < 32 {
+            return false;
+        }
+        if 126 < c {
+            return false;
+        }
+        if c == 92 {
+            return false;
+        }
+        i += 1;
+    }
+    true
+}
+
+// The field as it stands, padded with zero bytes to ten. It goes straight into the row: bytes stored in an array one by one and then read as one word would stall.
+pub fn write_plain(f: &[u8], row: &mut [u8], at: usize)
+    requires { ⌜ (at + 10 ≤ length (now row)) × (length (now f) ≤ 10) ⌝ }
+    ensures { λ _. ⌜ now (row .exit) ≡ over at (padded (now (f .entry))) (now (row .entry)) ⌝ }
+{
+    let zeros = [0u8; 10];
+    lists::copy_to(row, at, &zeros);
+    lists::copy_to(row, at, f);
 }
