@@ -132,6 +132,20 @@ fn read_text(f: &[u8]) -> Option<[u8; 10]> {
     (!after && n != 0).then_some(out)
 }
 
+/// 1 to 10 bytes, none of them an escape: copied as they stand.
+fn is_plain(f: &[u8]) -> bool {
+    (1..=10).contains(&f.len()) && f.iter().all(|&b| (32..=126).contains(&b) && b != b'\\')
+}
+
+fn write_text(f: &[u8], row: &mut [u8], at: usize) -> bool {
+    if is_plain(f) {
+        copy_to(row, at, &[0; 10]);
+        copy_to(row, at, f);
+        return true;
+    }
+    read_text(f).map(|kept| copy_to(row, at, &kept)).is_some()
+}
+
 /// The code of a word: compared with one after another.
 fn read_word(f: &[u8], words: &[&[u8]], first: u32) -> Option<u32> {
     words.iter().position(|word| same_bytes(f, word)).map(|code| first + code as u32)
@@ -151,7 +165,7 @@ fn read_time(word: &[u8], line: &[u8], stop: usize, f: &[u8]) -> Option<u32> {
 fn write_cell(kind: u8, line: &[u8], stop: usize, f: &[u8], row: &mut [u8], at: usize) -> bool {
     let mut write = |w: usize, n: Option<u32>| n.map(|n| put_number(row, at, w, n)).is_some();
     match kind {
-        0 => read_text(f).map(|kept| copy_to(row, at, &kept)).is_some(),
+        0 => write_text(f, row, at),
         1 => write(4, read_date(f)),
         2 => write(4, read_number(f, 6)),
         3 => write(1, read_number(f, 2)),
