@@ -1,6 +1,7 @@
 -- What each stage of open makes of the answer: refusals that change nothing, and acceptance. Assumes nothing.
 use mathlib.Core.Path.{_≡_, sym, ap, subst, _∙_}
 use mathlib.Core.Bool.{false}
+use mathlib.Core.Logic.{_⊎_}
 use mathlib.Core.List.{List, []}
 use Prim.Native.Nat.{ℕ, _+_, _*_, _/_, _≤_, _<_}
 use native.Mathlib.Omega.{arith}
@@ -20,6 +21,7 @@ use Rattle.plan.specs.Rules.{joined}
 use Rattle.plan.proofs.PlanLaws.{wide-all}
 use Rattle.book.specs.Entries.{plan-wide}
 use Rattle.book.specs.Rules.{bookRoom}
+use Rattle.book.proofs.SoundLaws.{room-within}
 use Rattle.calls.specs.declared.Answer.{Answer}
 use Rattle.calls.specs.declared.Counts.{Counts}
 use Rattle.calls.specs.declared.Outcome.{Outcome}
@@ -27,17 +29,8 @@ use Rattle.calls.specs.Answers.{isAccepted, unlessRefused}
 use Rattle.calls.specs.Open.{passagesOf, planOf, roomToOpen, openAnswer, openOutcome, openBook, openTable}
 use Rattle.placing.specs.Steps.{outcomeBy, bookBy, tableBy}
 use Rattle.placing.proofs.StageLaws.{Opened, refused-with}
-use Rattle.opening.specs.Steps.{pairs, joinedTo, calendarAnswer}
-
--- ---- areas, by their length
-
--- an area of k bytes has room for n ≤ k
-pub room-for : (n k : ℕ) (area : List ℕ) → length area ≡ k → n ≤ k → n ≤ length area
-room-for n k area e h = omega arith
-
--- n of at most `most` have room in the area and in the book
-pub few-joined : (n most room : ℕ) → n ≤ most → most * body-wide ≤ 290466 → most ≡ room / plan-wide → (n * body-wide ≤ 290466) × (n * plan-wide ≤ room)
-few-joined n most room h f e = (omega arith, omega arith)
+use Rattle.opening.specs.Steps.{fewer, pairs, joinedTo, calendarAnswer}
+use Rattle.opening.proofs.AreaLaws.{enough-room}
 
 -- ---- the joined pairs, at most so many as the book has room for
 
@@ -48,8 +41,13 @@ module _ (J : List (List ℕ)) (most n : ℕ) (e : n ≡ length (take (most + 1)
   pub all-joined : n ≤ most → n ≡ length J
   all-joined h = let k : n ≡ _ = e ∙ length-take (most + 1) J in omega arith
 
-  pub pairs-short : (book : List ℕ) → most ≡ bookRoom book / plan-wide → most < n → bookRoom book < length J * plan-wide
-  pairs-short book m h = let k = more h in omega arith
+  -- an area of k bytes that is enough for all pairs, or for what any book holds, is not what they lack room in
+  pub pairs-short : (book : List ℕ) (q k : ℕ) → length J ≤ q → (q * body-wide ≤ k) ⊎ (4401 * body-wide ≤ k) → most ≡ fewer (bookRoom book / plan-wide) (k / body-wide) → most < n → bookRoom book < length J * plan-wide
+  pairs-short book q k l e m h =
+      let r = room-within book .1 in
+      let j = more h in
+      let z : most ≡ bookRoom book / plan-wide = m ∙ enough-room q (bookRoom book / plan-wide) k (length J) e l (omega arith) (subst (λ (x : ℕ). x < length J) m j) in
+      omega arith
 
   -- all are read back from an area that has room
   pub pairs-read : (st₀ st : List ℕ) → st ≡ over 0 (flat (take most J)) st₀ → Wide body-wide J → n ≤ most → most * body-wide ≤ length st₀ → rowsOf body-wide n st ≡ J

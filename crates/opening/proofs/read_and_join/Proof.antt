@@ -1,7 +1,6 @@
 use mathlib.Core.Path.{_≡_, refl, sym, _∙_}
 use mathlib.Core.List.{List, []}
 use Prim.Native.Nat.{ℕ, _*_, _≤_}
-use native.Mathlib.Omega.{arith}
 use borrow.Author.Needs.{needs}
 use lib.ListN.{length}
 use Rattle.lists.specs.Rows.{rowsOf}
@@ -11,7 +10,8 @@ use Rattle.reader.specs.declared.Answer.the-variants as Readings
 use Rattle.reader.specs.Rules.{readingOf}
 use Rattle.reader.proofs.AnswerLaws.{calendar-few}
 use Rattle.calls.specs.declared.Answer.the-variants.{TooLong, Syntax, Form, Field, Owner}
-use Rattle.opening.proofs.StageLaws.{room-for, calendar-refused, calendar-taken}
+use Rattle.opening.proofs.AreaLaws.{room-for}
+use Rattle.opening.proofs.StageLaws.{calendar-refused, calendar-taken}
 use Rattle.opening.proofs.read_and_join.Statement.{statement}
 use Rattle.opening.proofs.read_and_join.Tie as tie
 
@@ -21,7 +21,7 @@ read-calendar-requires c κs = tt
 -- ---- once it is read
 
 abbrev st : tie.After-read-calendar → tie.Start
-st v = v .before .before .before .before .before .before
+st v = v .before .before .before .before .before .before .before
 
 -- how it reads
 reads : (v : tie.After-read-calendar) (x : Reading) → v .read-calendar .result ≡ x → readingOf Tables.Calendar [] 0 (st v .args .calendar .now) ≡ x
@@ -64,69 +64,78 @@ refused-requires-5 c κs = tt
 enum-known-nv : tie.Need-enum-known-nv
 enum-known-nv c = search needs
 
-returns : tie.Need-returns
-returns c =
-    let v = c .before .before .before in
-    let a = st v .args in
-    calendar-refused (a .calendar .now) (ps (st v)) (a .book .now) (a .table .now) (a .c) Readings.TooLong (TooLong 2) (reads v _ (c .before .enum-told .given .1)) refl refl (c .refused .result) (c .refused .ensures)
-
-returns-2 : tie.Need-returns-2
-returns-2 c =
-    let v = c .before .before .before .before in
-    let a = st v .args in
-    calendar-refused (a .calendar .now) (ps (st v)) (a .book .now) (a .table .now) (a .c) (Readings.Syntax (c .before .before .i .given .0 .0)) (Syntax (c .before .before .i .given .0 .0) 2) (reads v _ (c .before .before .i .given .1)) refl refl (c .refused2 .result) (c .refused2 .ensures)
-
-returns-3 : tie.Need-returns-3
-returns-3 c =
-    let v = c .before .before .before .before in
-    let a = st v .args in
-    calendar-refused (a .calendar .now) (ps (st v)) (a .book .now) (a .table .now) (a .c) (Readings.Form (c .before .before .l .given .0 .0)) (Form (c .before .before .l .given .0 .0) 2) (reads v _ (c .before .before .l .given .1)) refl refl (c .refused3 .result) (c .refused3 .ensures)
-
-returns-4 : tie.Need-returns-4
-returns-4 c =
-    let v = c .before .before .before .before in
-    let a = st v .args in
-    calendar-refused (a .calendar .now) (ps (st v)) (a .book .now) (a .table .now) (a .c) (Readings.Field (c .before .before .l2 .given .0 .0) (c .before .before .l2 .given .0 .1 .0)) (Field (c .before .before .l2 .given .0 .0) (c .before .before .l2 .given .0 .1 .0) 2) (reads v _ (c .before .before .l2 .given .1)) refl refl (c .refused4 .result) (c .refused4 .ensures)
-
-returns-5 : tie.Need-returns-5
-returns-5 c =
-    let v = c .before .before .before .before in
-    let a = st v .args in
-    calendar-refused (a .calendar .now) (ps (st v)) (a .book .now) (a .table .now) (a .c) (Readings.Owner (c .before .before .l3 .given .0 .0)) (Owner (c .before .before .l3 .given .0 .0)) (reads v _ (c .before .before .l3 .given .1)) refl refl (c .refused5 .result) (c .refused5 .ensures)
-
--- the area's length, before and after
-long : (v : tie.After-read-calendar) → length (st v .args .validities .now) ≡ 131064
-long v = let l = v .before .read-calendar-arg .given in omega arith
-
-read-long : (v : tie.After-read-calendar) → length (v .read-calendar .last .1 .0) ≡ 131064
-read-long v = v .read-calendar .kept .1 .0 ∙ long v
-
--- all rows have room
-fits : (n : tie.After-nv) → n .nv .given .0 .0 * 24 ≤ 131064
-fits n =
-    let v = n .before .before in
-    let f = calendar-few (st v .args .calendar .now) _ (reads v _ (n .nv .given .1)) .1 in
-    omega arith
-
-join-all-requires : tie.Need-join-all-requires
-join-all-requires c κs =
-    let n = c .before .before .before .before .before .before in
-    let v = n .before .before in
-    (st v .pre, room-for _ 131064 (v .read-calendar .last .1 .0) (read-long v) (fits n))
-
 same-length : tie.Need-same-length
 same-length c = search needs
+
+returns : tie.Need-returns
+returns c =
+    let v = c .before .before .before .before .before in
+    let a = st v .args in
+    calendar-refused (a .calendar .now) (ps (st v)) (a .book .now) (a .table .now) (a .c) Readings.TooLong (TooLong 2) (reads v _ (c .before .enum-told .given .1)) refl refl (c .refused .result) (c .refused .ensures)
 
 same-length-2 : tie.Need-same-length-2
 same-length-2 c = search needs
 
+returns-2 : tie.Need-returns-2
+returns-2 c =
+    let v = c .before .before .before .before .before .before in
+    let a = st v .args in
+    calendar-refused (a .calendar .now) (ps (st v)) (a .book .now) (a .table .now) (a .c) (Readings.Syntax (c .before .before .i .given .0 .0)) (Syntax (c .before .before .i .given .0 .0) 2) (reads v _ (c .before .before .i .given .1)) refl refl (c .refused2 .result) (c .refused2 .ensures)
+
+same-length-3 : tie.Need-same-length-3
+same-length-3 c = search needs
+
+returns-3 : tie.Need-returns-3
+returns-3 c =
+    let v = c .before .before .before .before .before .before in
+    let a = st v .args in
+    calendar-refused (a .calendar .now) (ps (st v)) (a .book .now) (a .table .now) (a .c) (Readings.Form (c .before .before .l .given .0 .0)) (Form (c .before .before .l .given .0 .0) 2) (reads v _ (c .before .before .l .given .1)) refl refl (c .refused3 .result) (c .refused3 .ensures)
+
+same-length-4 : tie.Need-same-length-4
+same-length-4 c = search needs
+
+returns-4 : tie.Need-returns-4
+returns-4 c =
+    let v = c .before .before .before .before .before .before in
+    let a = st v .args in
+    calendar-refused (a .calendar .now) (ps (st v)) (a .book .now) (a .table .now) (a .c) (Readings.Field (c .before .before .l2 .given .0 .0) (c .before .before .l2 .given .0 .1 .0)) (Field (c .before .before .l2 .given .0 .0) (c .before .before .l2 .given .0 .1 .0) 2) (reads v _ (c .before .before .l2 .given .1)) refl refl (c .refused4 .result) (c .refused4 .ensures)
+
+same-length-5 : tie.Need-same-length-5
+same-length-5 c = search needs
+
+returns-5 : tie.Need-returns-5
+returns-5 c =
+    let v = c .before .before .before .before .before .before in
+    let a = st v .args in
+    calendar-refused (a .calendar .now) (ps (st v)) (a .book .now) (a .table .now) (a .c) (Readings.Owner (c .before .before .l3 .given .0 .0)) (Owner (c .before .before .l3 .given .0 .0)) (reads v _ (c .before .before .l3 .given .1)) refl refl (c .refused5 .result) (c .refused5 .ensures)
+
+-- all rows have room
+fits : (n : tie.After-nv) → n .nv .given .0 .0 * 24 ≤ length (st (n .before .before .before .before) .args .validities .now)
+fits n = let v = n .before .before .before .before in st v .pre .1 _ (reads v _ (n .nv .given .1))
+
+join-fitting-requires : tie.Need-join-fitting-requires
+join-fitting-requires c κs =
+    let n = c .before .before .before .before in
+    let v = n .before .before .before .before in
+    let a = st v .args in
+    (st v .pre .0 .0, room-for _ (length (a .validities .now)) (v .read-calendar .last .1 .0) (v .read-calendar .kept .1 .0) (fits n), st v .pre .0 .1, calendar-few (a .calendar .now) _ (reads v _ (n .nv .given .1)) .1)
+
+same-length-6 : tie.Need-same-length-6
+same-length-6 c = search needs
+
+same-length-7 : tie.Need-same-length-7
+same-length-7 c = search needs
+
+same-length-8 : tie.Need-same-length-8
+same-length-8 c = search needs
+
 returns-6 : tie.Need-returns-6
 returns-6 c =
     let w = c .before .before .before .before in
-    let n = w .before .before .before .before .before .before .before in
-    let v = n .before .before in
+    let n = w .before .before .before .before .before in
+    let v = n .before .before .before .before in
     let a = st v .args in
-    calendar-taken (a .calendar .now) (ps (st v)) (a .book .now) (a .table .now) (a .c) (w .join-all .result) (w .join-all .last .1 .1 .1 .1 .1 .0) (w .join-all .last .1 .1 .1 .1 .1 .1 .0) (a .validities .now) (v .read-calendar .last .1 .0) (n .nv .given .0 .0) (reads v _ (n .nv .given .1)) (v .read-calendar .ensures .1) (room-for _ 131064 (a .validities .now) (long v) (fits n)) (w .join-all .ensures)
+    calendar-taken (a .calendar .now) (ps (st v)) (a .book .now) (a .table .now) (a .c) (w .join-fitting .result) (w .join-fitting .last .1 .1 .1 .1 .0) (w .join-fitting .last .1 .1 .1 .1 .1 .0) (a .validities .now) (v .read-calendar .last .1 .0) (n .nv .given .0 .0) (reads v _ (n .nv .given .1)) (v .read-calendar .ensures .1) (fits n) (w .join-fitting .ensures)
 
 pub read-and-join-spec : {M : Type 1} → statement M
 read-and-join-spec =
@@ -144,12 +153,18 @@ read-and-join-spec =
     enum-known-l-3
     refused-requires-5
     enum-known-nv
-    join-all-requires
-    returns
-    returns-2
-    returns-3
-    returns-4
-    returns-5
+    join-fitting-requires
     same-length
+    returns
     same-length-2
+    returns-2
+    same-length-3
+    returns-3
+    same-length-4
+    returns-4
+    same-length-5
+    returns-5
+    same-length-6
+    same-length-7
+    same-length-8
     returns-6)
