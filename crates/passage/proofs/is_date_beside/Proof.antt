@@ -1,10 +1,13 @@
-use mathlib.Core.Path.{sym}
+use mathlib.Core.Path.{_≡_, sym}
+use native.Mathlib.Omega.{arith}
 use borrow.Author.Needs.{needs}
 use Rattle.passage.proofs.is_date_beside.Statement.{statement}
 use Rattle.passage.proofs.is_date_beside.Tie as tie
 
 returns : tie.Need-returns
-returns c = rw (c .if1 .taken) (sym (c .before .pre))
+returns c =
+    let e : c .before .args .date ≡ c .before .args .known = let h = c .if1 .taken in omega arith in
+    rw e (sym (c .before .pre))
 
 is-date-requires : tie.Need-is-date-requires
 is-date-requires c κs = search needs
