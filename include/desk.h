@@ -3,7 +3,7 @@
    Link the archive that `tools/native-archive desk` writes.
 
    All memory is lent for the time of one call, each piece as a pointer and a length. Nothing is kept and nothing allocated; desk_open takes
-   nearly 1 MB of stack, the others less than half of that. What a call may write (book, table, places, answer) must overlap
+   about 1 MB of stack, the others less than half of that. What a call may write (book, table, places, answer) must overlap
    nothing else that is passed to it; what it only reads may overlap. Where a length is 0, the pointer may be NULL.
 
    Any bytes and any numbers may be passed: a call refuses what it cannot take, and a refused call changes nothing but `answer`.

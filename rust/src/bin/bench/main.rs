@@ -30,6 +30,8 @@ const SENDER: u8 = 3;
 const DATES: usize = 8;
 const STOPS_PER_JOURNEY: usize = 8;
 const FIRST_DATE: u32 = 20_160_301;
+/// A byte more than what the proved library reads into small areas.
+const LONG: usize = 8_193;
 
 fn main() {
     let samples = std::env::args().nth(1).and_then(|word| word.parse().ok()).unwrap_or(1_001);
@@ -209,9 +211,15 @@ fn parts(rows: usize) -> Vec<Case> {
         calendar: b"\\G\r\n".to_vec(),
     };
     vec![
-        case("open, empty dossiers: areas cleared", open_empty(), &blank()),
+        case("open, empty dossiers: small areas cleared", open_faulty(0), &blank()),
+        case("open, long dossiers that fault at once: large areas cleared", open_faulty(LONG), &blank()),
         case("open, 26 columns, no validities: reading", unjoined, &blank()),
-        case("message, empty dossier, book and table: areas cleared", message(b""), &blank()),
+        case("message, empty dossier, book and table: small area cleared", message(b""), &blank()),
+        case(
+            "message, long dossier that faults at once, empty book and table: large area cleared",
+            message(&[b'x'; LONG]),
+            &blank(),
+        ),
         case("message without rows: soundness", message(b"\\G\r\n"), &day.state),
         case(
             "message, wanted columns, no owner registered: soundness, reading",
@@ -253,8 +261,9 @@ fn open(rows: usize, columns: Columns) -> Call {
     Call::Open { planning: planning_dossier(rows / DATES, columns), calendar }
 }
 
-fn open_empty() -> Call {
-    Call::Open { planning: Vec::new(), calendar: Vec::new() }
+/// A planning of so many bytes that is none: nothing is read of it.
+fn open_faulty(size: usize) -> Call {
+    Call::Open { planning: vec![b'x'; size], calendar: Vec::new() }
 }
 
 fn message(dossier: &[u8]) -> Call {

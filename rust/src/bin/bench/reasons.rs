@@ -7,9 +7,9 @@ use zhemdurak::ways::{applying, boards, opening, reading, soundness, withdrawing
 
 use super::*;
 
-/// The areas that the proved library clears, in bytes: of a message, and of an opening.
+/// The areas that the proved library clears before it reads, in bytes: of a long message, and of a long opening.
 const STAGED: usize = 160_182;
-const OPENED: usize = 425_945 + 131_064 + 290_466;
+const OPENED: usize = 425_945 + 131_064;
 
 /// The part in the proved library's way, on a book and a table lent anew.
 type Way = Box<dyn FnMut(&mut [u8], &mut [u8])>;
@@ -78,8 +78,8 @@ fn reasons(rows: usize) -> Vec<Reason> {
     };
     let (mut staging, mut opened) = (vec![0; STAGED], vec![0; OPENED]);
     vec![
-        reason("areas of a message", job(message(b""), &blank()), None, move |_, _| clear(&mut staging)),
-        reason("areas of an opening", job(open_empty(), &blank()), None, move |_, _| clear(&mut opened)),
+        reason("area of a long message", job(message(&[b'x'; LONG]), &blank()), None, move |_, _| clear(&mut staging)),
+        reason("areas of a long opening", job(open_faulty(LONG), &blank()), None, move |_, _| clear(&mut opened)),
         soundness_of(&day),
         reading_of("syntax of 65,536 bytes", &unwanted(&wide)),
         reading_of("reading, 65 columns, fault in the first row", &with_early_fault(&wide)),
@@ -107,7 +107,7 @@ fn unposted(dossier: &[u8]) -> Job {
 
 fn reading_of(name: &'static str, dossier: &[u8]) -> Reason {
     let (dossier, register, mut staging) = (dossier.to_vec(), register(), vec![0; STAGED]);
-    reason(name, unposted(&dossier), Some(unposted(b"")), move |_, _| {
+    reason(name, unposted(&dossier), Some(unposted(&[b'x'; LONG])), move |_, _| {
         let _ = black_box(reading::read_message(&dossier, &register, SENDER, &mut staging));
     })
 }
