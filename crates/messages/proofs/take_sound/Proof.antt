@@ -1,40 +1,59 @@
 -- `take_sound` meets its contract. Assumes nothing.
+use Prim.Native.Nat.{ℕ, _*_, _+_, _≤_}
+use mathlib.Core.Path.{sym, subst}
 use native.Mathlib.Omega.{arith}
-use borrow.Author.Needs.{needs}
+use lib.ListN.{length, replicate, length-replicate}
+use Rattle.passage.specs.Layout.{body-wide}
 use Rattle.messages.proofs.take_sound.Statement.{statement}
 use Rattle.messages.proofs.take_sound.Tie as tie
 
+-- ---- what has room, said out of sight of the areas: there each length would be counted
+
+room : (k m : ℕ) → k ≤ m → k ≤ length (replicate {A = ℕ} m 0)
+room k m h = subst (λ (l : ℕ). k ≤ l) (sym (length-replicate m 0)) h
+
+short-room : (size n : ℕ) → size ≤ 8192 → n * 27 ≤ size + 2 → n * body-wide ≤ 19998
+short-room size n short l = omega arith
+
+any-room : (n : ℕ) → n ≤ 2427 → n * body-wide ≤ 160182
+any-room n few = omega arith
+
+-- ---- a short dossier
+
 slice-aggregate-read-and-take : tie.Need-slice-aggregate-read-and-take
-slice-aggregate-read-and-take c = search needs
+slice-aggregate-read-and-take c = sym (length-replicate {A = ℕ} 19998 0)
 
 read-and-take-requires : tie.Need-read-and-take-requires
 read-and-take-requires c κs =
-    let short = c .before .before .before .if1 .taken in
-    (c .before .before .before .before .before .before .before .before .pre, λ n few l. omega arith)
+    let s = c .before .before .before .before .before .before .before .before in
+    (s .pre, λ n few l. room (n * body-wide) 19998 (short-room (length (s .args .d .now)) n (c .before .before .before .if1 .taken) l))
 
 same-length : tie.Need-same-length
-same-length c = search needs
+same-length c = c .before .before .before .before .before .read-and-take .kept .1 .1 .1 .1 .0
 
 same-length-2 : tie.Need-same-length-2
-same-length-2 c = search needs
+same-length-2 c = c .before .before .before .before .before .read-and-take .kept .1 .1 .1 .1 .1 .0
 
 returns : tie.Need-returns
-returns c = search needs
+returns c = c .before .before .before .before .before .read-and-take .ensures
+
+-- ---- any dossier
 
 slice-aggregate-read-and-take-2 : tie.Need-slice-aggregate-read-and-take-2
-slice-aggregate-read-and-take-2 c = search needs
+slice-aggregate-read-and-take-2 c = sym (length-replicate {A = ℕ} 160182 0)
 
 read-and-take-requires-2 : tie.Need-read-and-take-requires-2
-read-and-take-requires-2 c κs = (c .before .before .before .before .before .before .before .before .pre, λ n few l. omega arith)
+read-and-take-requires-2 c κs =
+    (c .before .before .before .before .before .before .before .before .pre, λ n few l. room (n * body-wide) 160182 (any-room n few))
 
 same-length-3 : tie.Need-same-length-3
-same-length-3 c = search needs
+same-length-3 c = c .before .before .before .before .before .read-and-take2 .kept .1 .1 .1 .1 .0
 
 same-length-4 : tie.Need-same-length-4
-same-length-4 c = search needs
+same-length-4 c = c .before .before .before .before .before .read-and-take2 .kept .1 .1 .1 .1 .1 .0
 
 returns-2 : tie.Need-returns-2
-returns-2 c = search needs
+returns-2 c = c .before .before .before .before .before .read-and-take2 .ensures
 
 pub take-sound-spec : {M : Type 1} → statement M
 take-sound-spec =
