@@ -1,13 +1,8 @@
--- Open in stages: the joined pairs, and what a calendar gives with the pass times. Assumes nothing.
+-- Open in stages: what a calendar gives with the pass times. Assumes nothing.
 use Prim.Native.Nat.{ℕ, _*_, _≤_}
 use mathlib.Core.Path.{_≡_}
-use mathlib.Core.Logic.{_⊎_}
 use mathlib.Core.List.{List, []}
-use lib.Dec.{leb}
-use Rattle.lists.specs.Logic.{on}
-use Rattle.lists.specs.Rows.{rowsOf}
 use Rattle.cells.specs.declared.Table.the-variants as Tables
-use Rattle.passage.specs.Layout.{body-wide}
 use Rattle.reader.specs.declared.Answer.the-variants as Readings
 use Rattle.reader.specs.Rules.{readingOf, rowsUpTo, itemsOf}
 use Rattle.plan.specs.Rules.{pass-wide, validity-wide, joined}
@@ -18,14 +13,7 @@ use Rattle.calls.specs.Answers.{unlessRefused}
 use Rattle.calls.specs.Open.{roomToOpen}
 use Rattle.placing.specs.Steps.{outcomeBy, bookBy, tableBy}
 
--- np pass times and nv validities that are staged, joined
-abbrev pub pairs : ℕ → List ℕ → ℕ → List ℕ → List (List ℕ)
-pairs np passes nv validities = joined (rowsOf pass-wide np passes) (rowsOf validity-wide nv validities)
-
 -- ---- areas, by their length
-
-unfoldable pub fewer : ℕ → ℕ → ℕ
-fewer a b = on (leb a b) a b
 
 -- k bytes hold the rows of this planning, and of this calendar
 abbrev pub HoldsPasses : List ℕ → ℕ → Type 0
@@ -33,10 +21,6 @@ HoldsPasses planning k = (n : ℕ) → readingOf Tables.Planning [] 0 planning �
 
 abbrev pub HoldsValidities : List ℕ → ℕ → Type 0
 HoldsValidities calendar k = (n : ℕ) → readingOf Tables.Calendar [] 0 calendar ≡ Readings.Rows n → n * validity-wide ≤ k
-
--- k bytes hold each pair's body, or as many as any book has room for: 4,401
-abbrev pub Enough : ℕ → ℕ → ℕ → Type 0
-Enough np nv k = (np * nv * body-wide ≤ k) ⊎ (4401 * body-wide ≤ k)
 
 -- ---- of a calendar and the pass times ps: the calendar's refusals first
 

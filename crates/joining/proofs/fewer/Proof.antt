@@ -1,7 +1,7 @@
 use mathlib.Core.Path.{sym}
-use Rattle.opening.proofs.AreaLaws.{fewer-first, fewer-second}
-use Rattle.opening.proofs.fewer.Statement.{statement}
-use Rattle.opening.proofs.fewer.Tie as tie
+use Rattle.joining.proofs.AreaLaws.{fewer-first, fewer-second}
+use Rattle.joining.proofs.fewer.Statement.{statement}
+use Rattle.joining.proofs.fewer.Tie as tie
 
 returns : tie.Need-returns
 returns c = sym (fewer-first _ _ (c .if1 .taken))

@@ -3,7 +3,7 @@ use mathlib.Core.Path.{_≡_, refl, subst}
 use mathlib.Core.Bool.{Bool, true, false, _&&_}
 use mathlib.Core.Logic.{_⊎_, inl, inr}
 use mathlib.Core.List.{List, [], _∷_}
-use Prim.Native.Nat.{ℕ, suc, _+_, _*_, _/_, _≤_, _<_}
+use Prim.Native.Nat.{ℕ, suc, _*_, _/_, _≤_, _<_}
 use native.Mathlib.Nat.{suc-mul, le-trans, mul-le-mul-right}
 use native.Mathlib.Omega.{arith}
 use borrow.Author.Tests.{le-leb, lt-leb, leb-true, leb-false}
@@ -15,7 +15,7 @@ use Rattle.lists.proofs.RowLaws.{length-rowsOf}
 use Rattle.passage.specs.Layout.{body-wide}
 use Rattle.plan.specs.Rules.{matches, planBody, joinedWith, joined}
 use Rattle.book.specs.Entries.{plan-wide}
-use Rattle.opening.specs.Steps.{fewer, pairs}
+use Rattle.joining.specs.Steps.{fewer, pairs}
 
 -- ---- the smaller number
 

@@ -10,12 +10,12 @@ use Rattle.book.specs.Rules.{bookRoom}
 use Rattle.book.proofs.SoundLaws.{room-within}
 use Rattle.calls.specs.declared.Answer.the-variants.{BookShort}
 use Rattle.calls.specs.Open.{roomToOpen}
-use Rattle.opening.specs.Steps.{fewer, pairs}
+use Rattle.joining.specs.Steps.{fewer, pairs}
 use Rattle.placing.proofs.StageLaws.{Opened, refused-with, book-short}
-use Rattle.opening.proofs.AreaLaws.{most-within, few-joined, pairs-few, room-for}
-use Rattle.opening.proofs.StageLaws.{pairs-short, pairs-read, wide-pairs}
-use Rattle.opening.proofs.join_all.Statement.{statement}
-use Rattle.opening.proofs.join_all.Tie as tie
+use Rattle.joining.proofs.AreaLaws.{most-within, few-joined, pairs-few, room-for}
+use Rattle.joining.proofs.PairLaws.{pairs-short, pairs-read, wide-pairs}
+use Rattle.joining.proofs.join_all.Statement.{statement}
+use Rattle.joining.proofs.join_all.Tie as tie
 
 book-room-requires : tie.Need-book-room-requires
 book-room-requires c κs = tt

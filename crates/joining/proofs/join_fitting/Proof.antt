@@ -4,9 +4,9 @@ use Prim.Native.Nat.{ℕ, _*_}
 use native.Mathlib.Nat.{le-refl}
 use native.Mathlib.Omega.{arith}
 use lib.ListN.{length-replicate}
-use Rattle.opening.proofs.AreaLaws.{few-pairs, few-fit, made-room}
-use Rattle.opening.proofs.join_fitting.Statement.{statement}
-use Rattle.opening.proofs.join_fitting.Tie as tie
+use Rattle.joining.proofs.AreaLaws.{few-pairs, few-fit, made-room}
+use Rattle.joining.proofs.join_fitting.Statement.{statement}
+use Rattle.joining.proofs.join_fitting.Tie as tie
 
 mul-if1 : tie.Need-mul-if1
 mul-if1 c =
