@@ -13,7 +13,8 @@ use Rattle.lists.specs.Logic.{on}
 use Rattle.lists.specs.Rows.{rowsOf}
 use Rattle.lists.proofs.RowLaws.{length-rowsOf}
 use Rattle.passage.specs.Layout.{body-wide}
-use Rattle.plan.specs.Rules.{matches, planBody, joinedWith, joined}
+use Rattle.bodies.specs.Rules.{planBody}
+use Rattle.plan.specs.Rules.{matches, joinedWith, joined}
 use Rattle.book.specs.Entries.{plan-wide}
 use Rattle.joining.specs.Steps.{fewer, pairs}
 

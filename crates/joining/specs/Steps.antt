@@ -6,7 +6,8 @@ use lib.Dec.{leb}
 use Rattle.lists.specs.Logic.{on}
 use Rattle.lists.specs.Rows.{rowsOf}
 use Rattle.passage.specs.Layout.{body-wide}
-use Rattle.plan.specs.Rules.{pass-wide, validity-wide, joined}
+use Rattle.bodies.specs.Rules.{pass-wide, validity-wide}
+use Rattle.plan.specs.Rules.{joined}
 
 -- np pass times and nv validities that are staged, joined
 abbrev pub pairs : ℕ → List ℕ → ℕ → List ℕ → List (List ℕ)

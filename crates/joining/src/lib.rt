@@ -5,7 +5,7 @@ use calls::Outcome;
 ghost use mathlib.Core.Path.{_≡_};
 ghost use Prim.Native.Nat.{_*_, _≤_};
 ghost use lib.ListN.{length};
-ghost use Rattle.plan.specs.Rules.{pass-wide, validity-wide};
+ghost use Rattle.bodies.specs.Rules.{pass-wide, validity-wide};
 ghost use Rattle.placing.specs.Steps.{openedOutcome, openedBook, openedTable};
 ghost use Rattle.joining.specs.Steps.{fewer, pairs, Enough};
 

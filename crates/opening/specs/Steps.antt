@@ -5,7 +5,8 @@ use mathlib.Core.List.{List, []}
 use Rattle.cells.specs.declared.Table.the-variants as Tables
 use Rattle.reader.specs.declared.Answer.the-variants as Readings
 use Rattle.reader.specs.Rules.{readingOf, rowsUpTo, itemsOf}
-use Rattle.plan.specs.Rules.{pass-wide, validity-wide, joined}
+use Rattle.bodies.specs.Rules.{pass-wide, validity-wide}
+use Rattle.plan.specs.Rules.{joined}
 use Rattle.calls.specs.declared.Answer.{Answer}
 use Rattle.calls.specs.declared.Counts.{Counts}
 use Rattle.calls.specs.declared.Outcome.{Outcome}

@@ -6,7 +6,7 @@ ghost use mathlib.Core.Path.{_≡_};
 ghost use Prim.Native.Nat.{_*_, _≤_};
 ghost use lib.ListN.{length};
 ghost use Rattle.lists.specs.Rows.{rowsOf};
-ghost use Rattle.plan.specs.Rules.{pass-wide};
+ghost use Rattle.bodies.specs.Rules.{pass-wide};
 ghost use Rattle.calls.specs.Open.{openOutcome, openBook, openTable};
 ghost use Rattle.opening.specs.Steps.{HoldsPasses, HoldsValidities, calendarOutcome, calendarBook, calendarTable};
 

@@ -1,5 +1,4 @@
 pub mod TextLaws
-pub mod BodyLaws
 pub mod FirstLaws
 pub mod MatchLaws
 pub mod JoinLaws

@@ -9,9 +9,10 @@ use Rattle.lists.specs.Text.{same}
 use Rattle.lists.specs.Part.{part}
 use Rattle.lists.specs.Rows.{Wide}
 use Rattle.lists.proofs.PartLaws.{length-part, part-add}
-use Rattle.plan.specs.Rules.{matches, planBody, joinedWith, sharedOf, firstWith}
+use Rattle.bodies.specs.Rules.{planBody, sharedOf}
+use Rattle.bodies.proofs.BodyLaws.{body-length}
+use Rattle.plan.specs.Rules.{matches, joinedWith, firstWith}
 use Rattle.plan.proofs.TextLaws.{same-append}
-use Rattle.plan.proofs.BodyLaws.{body-length}
 
 -- Where the first match is, and that nothing joins before it. Assumes nothing.
 

@@ -20,9 +20,10 @@ use Rattle.passage.specs.Ranges.{paddedText}
 use Rattle.passage.specs.Facts.{PlanFacts, TimeFacts}
 use Rattle.passage.proofs.RangeLaws.{facts-plan}
 use Rattle.reader.specs.Staged.{PassFacts, ValidityFacts}
-use Rattle.plan.specs.Rules.{matches, planKey, planRest, planBody, joinedWith, joined}
+use Rattle.bodies.specs.Rules.{planKey, planRest, planBody}
+use Rattle.bodies.proofs.BodyLaws.{key-length, body-length}
+use Rattle.plan.specs.Rules.{matches, joinedWith, joined}
 use Rattle.plan.specs.Claims.{Passage}
-use Rattle.plan.proofs.BodyLaws.{key-length, body-length}
 
 -- A plan passage has its fields from the pass time and the validity, and so is in range. Assumes nothing.
 

@@ -11,7 +11,8 @@ use Rattle.passage.specs.Layout.{body-wide, keyOf}
 use Rattle.passage.specs.Ranges.{planInRange}
 use Rattle.reader.specs.Rules.{rowsUpTo, itemsOf}
 use Rattle.reader.specs.Staged.{PassFacts, ValidityFacts}
-use Rattle.plan.specs.Rules.{matches, planKey, planBody, joined}
+use Rattle.bodies.specs.Rules.{planKey, planBody}
+use Rattle.plan.specs.Rules.{matches, joined}
 
 -- P holds of one element at least
 abbrev pub Some : {A : Type 0} → (A → Type 0) → List A → Type 0

@@ -5,8 +5,9 @@ ghost use lib.ListN.{length, take, drop};
 ghost use Rattle.lists.specs.Text.{same};
 ghost use Rattle.lists.specs.Part.{part, over};
 ghost use Rattle.lists.specs.Rows.{flat, rowsOf};
-ghost use Rattle.passage.specs.Layout.{key-wide, body-wide};
-ghost use Rattle.plan.specs.Rules.{pass-wide, validity-wide, planKey, planRest, planBody, joinedWith, joined, sharedOf, firstWith};
+ghost use Rattle.passage.specs.Layout.{body-wide};
+ghost use Rattle.bodies.specs.Rules.{pass-wide, validity-wide, sharedOf};
+ghost use Rattle.plan.specs.Rules.{joinedWith, joined, firstWith};
 
 // The bytes of a pass time, and of a validity.
 pub const PASS_WIDE: usize = 65;
@@ -15,45 +16,6 @@ pub const VALIDITY_WIDE: usize = 24;
 
 // What pass times and validities share: owner and service level.
 const SHARED_WIDE: usize = 20;
-
-// The n bytes of s from p on are written from `at` on.
-fn copy_part(out: &mut [u8], at: usize, s: &[u8], p: usize, n: usize)
-    requires { ⌜ (at + n ≤ length (now out)) × (p + n ≤ length (now s)) ⌝ }
-    ensures { λ _. ⌜ now (out .exit) ≡ over at (part p n (now (s .entry))) (now (out .entry)) ⌝ }
-{
-    lists::copy_to(out, at, &s[p..p + n]);
-}
-
-// The key of the pass time at p on the date of the validity at q, from `at` on.
-fn write_key(out: &mut [u8], at: usize, passes: &[u8], p: usize, validities: &[u8], q: usize)
-    requires { ⌜ (at + key-wide ≤ length (now out)) × (p + pass-wide ≤ length (now passes)) × (q + validity-wide ≤ length (now validities)) ⌝ }
-    ensures { λ _. ⌜ now (out .exit) ≡ over at (planKey (part p pass-wide (now (passes .entry))) (part q validity-wide (now (validities .entry)))) (now (out .entry)) ⌝ }
-{
-    copy_part(out, at, passes, p, 10);
-    copy_part(out, at + 10, validities, q + 20, 4);
-    copy_part(out, at + 14, passes, p + 10, 27);
-}
-
-// What follows the key, from `at` on.
-fn write_rest(out: &mut [u8], at: usize, passes: &[u8], p: usize)
-    requires { ⌜ (at + 25 ≤ length (now out)) × (p + pass-wide ≤ length (now passes)) ⌝ }
-    ensures { λ _. ⌜ now (out .exit) ≡ over at (planRest (part p pass-wide (now (passes .entry)))) (now (out .entry)) ⌝ }
-{
-    let flags = [1, passes[p + 64], 0];
-    copy_part(out, at, passes, p + 47, 10);
-    lists::clear(out, at + 10, 5);
-    copy_part(out, at + 15, passes, p + 57, 7);
-    lists::copy_to(out, at + 22, &flags);
-}
-
-// The plan passage of the pass time at p on the date of the validity at q, from `at` on.
-fn write_body(out: &mut [u8], at: usize, passes: &[u8], p: usize, validities: &[u8], q: usize)
-    requires { ⌜ (at + body-wide ≤ length (now out)) × (p + pass-wide ≤ length (now passes)) × (q + validity-wide ≤ length (now validities)) ⌝ }
-    ensures { λ _. ⌜ now (out .exit) ≡ over at (planBody (part p pass-wide (now (passes .entry))) (part q validity-wide (now (validities .entry)))) (now (out .entry)) ⌝ }
-{
-    write_key(out, at, passes, p, validities, q);
-    write_rest(out, at + passage::KEY_WIDE, passes, p);
-}
 
 // Whether the validity at q begins with these bytes. No branch in the loop, so that it compiles to a few vector instructions.
 fn begins_with(shared: &[u8], validities: &[u8], q: usize) -> bool
@@ -84,15 +46,6 @@ fn next_with(shared: &[u8], validities: &[u8], n: usize, j: usize) -> usize
     n
 }
 
-// The owner and the service level of the pass time at p.
-fn read_shared(shared: &mut [u8], passes: &[u8], p: usize)
-    requires { ⌜ (length (now shared) ≡ 20) × (p + pass-wide ≤ length (now passes)) ⌝ }
-    ensures { λ _. ⌜ now (shared .exit) ≡ sharedOf (part p pass-wide (now (passes .entry))) ⌝ }
-{
-    copy_part(shared, 0, passes, p, 10);
-    copy_part(shared, 10, passes, p + 37, 10);
-}
-
 // The pass time at p, with its owner and service level, against all validities: its plan passages go behind the k that are there, up to `most`
 // in all; one more is counted where there are more, and then the search ends.
 fn join_all(
@@ -115,7 +68,7 @@ fn join_all(
         if m == most {
             return m + 1;
         }
-        write_body(
+        bodies::write_body(
             out,
             m * passage::BODY_WIDE,
             passes,
@@ -144,7 +97,7 @@ fn join_one(
     ensures bodies { λ _. ⌜ now (out .exit) ≡ over (k * body-wide) (flat (take (most - k) (joinedWith (part p pass-wide (now (passes .entry))) (rowsOf validity-wide n (now (validities .entry)))))) (now (out .entry)) ⌝ }
 {
     let mut shared = [0u8; SHARED_WIDE];
-    read_shared(&mut shared, passes, p);
+    bodies::read_shared(&mut shared, passes, p);
     join_all(&shared, passes, p, validities, n, out, k, most)
 }
 

@@ -7,7 +7,7 @@ use lib.ListN.{length, getD, replicate, length-append, drop-of-length-le}
 use Rattle.lists.specs.Part.{part, over}
 use Rattle.lists.proofs.OverLaws.{onto-fits, over-then}
 use Rattle.lists.proofs.PartLaws.{length-part, part-part, part-at}
-use Rattle.plan.specs.Rules.{planKey, planRest, planBody, sharedOf}
+use Rattle.bodies.specs.Rules.{planKey, planRest, planBody, sharedOf}
 
 -- A plan passage is written piece by piece. Assumes nothing.
 

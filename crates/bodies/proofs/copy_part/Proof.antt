@@ -6,8 +6,8 @@ use lib.ListN.{take, drop}
 use Rattle.lists.specs.Part.{over}
 use Rattle.lists.proofs.PartLaws.{part-is}
 use borrow.Author.Needs.{needs}
-use Rattle.plan.proofs.copy_part.Statement.{statement}
-use Rattle.plan.proofs.copy_part.Tie as tie
+use Rattle.bodies.proofs.copy_part.Statement.{statement}
+use Rattle.bodies.proofs.copy_part.Tie as tie
 
 add-copy-to : tie.Need-add-copy-to
 add-copy-to c = search needs

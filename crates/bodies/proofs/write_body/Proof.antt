@@ -1,7 +1,7 @@
-use Rattle.plan.proofs.BodyLaws.{body-written}
+use Rattle.bodies.proofs.BodyLaws.{body-written}
 use borrow.Author.Needs.{needs}
-use Rattle.plan.proofs.write_body.Statement.{statement}
-use Rattle.plan.proofs.write_body.Tie as tie
+use Rattle.bodies.proofs.write_body.Statement.{statement}
+use Rattle.bodies.proofs.write_body.Tie as tie
 
 write-key-requires : tie.Need-write-key-requires
 write-key-requires c κs = search needs

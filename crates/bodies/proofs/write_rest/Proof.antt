@@ -1,7 +1,7 @@
-use Rattle.plan.proofs.BodyLaws.{rest-written}
+use Rattle.bodies.proofs.BodyLaws.{rest-written}
 use borrow.Author.Needs.{needs}
-use Rattle.plan.proofs.write_rest.Statement.{statement}
-use Rattle.plan.proofs.write_rest.Tie as tie
+use Rattle.bodies.proofs.write_rest.Statement.{statement}
+use Rattle.bodies.proofs.write_rest.Tie as tie
 
 add-t6 : tie.Need-add-t6
 add-t6 c = search needs

@@ -1,7 +1,7 @@
-use Rattle.plan.proofs.BodyLaws.{shared-written}
+use Rattle.bodies.proofs.BodyLaws.{shared-written}
 use borrow.Author.Needs.{needs}
-use Rattle.plan.proofs.read_shared.Statement.{statement}
-use Rattle.plan.proofs.read_shared.Tie as tie
+use Rattle.bodies.proofs.read_shared.Statement.{statement}
+use Rattle.bodies.proofs.read_shared.Tie as tie
 
 copy-part-requires : tie.Need-copy-part-requires
 copy-part-requires c κs = search needs

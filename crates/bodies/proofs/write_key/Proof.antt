@@ -1,7 +1,7 @@
-use Rattle.plan.proofs.BodyLaws.{key-written}
+use Rattle.bodies.proofs.BodyLaws.{key-written}
 use borrow.Author.Needs.{needs}
-use Rattle.plan.proofs.write_key.Statement.{statement}
-use Rattle.plan.proofs.write_key.Tie as tie
+use Rattle.bodies.proofs.write_key.Statement.{statement}
+use Rattle.bodies.proofs.write_key.Tie as tie
 
 copy-part-requires : tie.Need-copy-part-requires
 copy-part-requires c κs = search needs
