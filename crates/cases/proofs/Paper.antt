@@ -12,6 +12,7 @@ use Rattle.syntax.specs.Cases as Syntax
 use Rattle.turbo.specs.Split.{until, past, linesFrom, markOf, afterMark}
 use Rattle.turbo.specs.Cases as Turbo
 use Rattle.fields.specs.Cases as Fields
+use Rattle.stamps.specs.Cases as Stamps
 use Rattle.passage.specs.Layout.{row-wide}
 use Rattle.cells.specs.declared.Table.the-variants as Tables
 use Rattle.reader.specs.declared.Answer.the-variants.{Rows, Syntax as SyntaxAt}
@@ -80,4 +81,4 @@ p11 register book table sender c s =
     ∙ rw bodies
 
 pub cases : All
-cases = (Fields.P1, Fields.P2, Fields.P3, (Turbo.P4, Syntax.P4), p5, Runs.P6, Runs.P7, (Board.at-the-end, Board.past-the-end), Runs.P9, p10, p11)
+cases = (Fields.P1, Fields.P2, Stamps.P3, (Turbo.P4, Syntax.P4), p5, Runs.P6, Runs.P7, (Board.at-the-end, Board.past-the-end), Runs.P9, p10, p11)

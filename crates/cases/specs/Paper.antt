@@ -11,7 +11,7 @@ use Rattle.fields.specs.declared.Time.the-variants as Times
 use Rattle.fields.specs.declared.Number.the-variants.{Is, Wrong}
 use Rattle.fields.specs.Times.{time}
 use Rattle.fields.specs.Dates.{date}
-use Rattle.fields.specs.Stamps.{stamp}
+use Rattle.stamps.specs.Stamps.{stamp}
 use Rattle.passage.specs.Layout.{orderOf}
 use Rattle.keys.specs.Replay.{takenAll}
 use Rattle.update.specs.Rule.{statusAfter, rowRule}

@@ -22,7 +22,7 @@ use Rattle.fields.specs.declared.Time.the-variants as Times
 use Rattle.fields.specs.Digits as Digits
 use Rattle.fields.specs.Dates as Dates
 use Rattle.fields.specs.Times.{time}
-use Rattle.fields.specs.Stamps as Stamps
+use Rattle.stamps.specs.Stamps as Stamps
 use Rattle.words.specs.Names as Names
 use Rattle.texts.specs.Texts.{allText}
 use Rattle.texts.specs.Texts as Texts

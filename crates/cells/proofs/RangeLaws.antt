@@ -21,13 +21,15 @@ use Rattle.fields.specs.declared.Time.{Time}
 use Rattle.fields.specs.declared.Time.the-variants as Times
 use Rattle.fields.specs.Digits as Digits
 use Rattle.fields.specs.Times.{time}
-use Rattle.fields.specs.Stamps.{inStampRange}
-use Rattle.fields.specs.Stamps as Stamps
+use Rattle.stamps.specs.Stamps.{inStampRange}
+use Rattle.stamps.specs.Stamps as Stamps
 use Rattle.words.specs.Names as Names
 use Rattle.texts.specs.Texts.{padded, isText}
 use Rattle.texts.specs.Texts as Texts
-use Rattle.fields.specs.Claims.{NumbersOnly, TimesOnly, DatesOnly, StampsGiven, NoContentOutside}
+use Rattle.fields.specs.Claims.{NumbersOnly, TimesOnly, DatesOnly}
 use Rattle.fields.proofs.Claims as Fields
+use Rattle.stamps.specs.Claims.{StampsGiven, NoContentOutside}
+use Rattle.stamps.proofs.Claims as StampClaims
 use Rattle.texts.proofs.Claims as TextClaims
 use Rattle.words.specs.Claims as WordClaims
 use Rattle.words.specs.Claims.{Words, WordsWithin}
@@ -52,7 +54,7 @@ dates-only : DatesOnly
 dates-only = Fields.claims .5
 
 stamps-given : StampsGiven
-stamps-given = Fields.claims .7
+stamps-given = StampClaims.claims .1
 
 words : Words
 words = WordsTold.claims .0
@@ -163,7 +165,7 @@ missing-exactly stop = (missing-there (bytes "FIRST") stop, missing-there (bytes
 -- ---- fields without content, and stop types
 
 outside : NoContentOutside
-outside = Fields.claims .10
+outside = StampClaims.claims .4
 
 no-word : WordClaims.NoContentOutside
 no-word = WordsTold.claims .2

@@ -14,7 +14,7 @@ use Rattle.texts.specs.declared.Text.{Text}
 use Rattle.fields.specs.Digits as Digits
 use Rattle.fields.specs.Dates as Dates
 use Rattle.fields.specs.Times as Clock
-use Rattle.fields.specs.Stamps as Stamps
+use Rattle.stamps.specs.Stamps as Stamps
 use Rattle.words.specs.Names as Names
 use Rattle.texts.specs.Texts as Texts
 

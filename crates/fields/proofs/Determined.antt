@@ -3,26 +3,21 @@ use mathlib.Core.Path.{sym, _∙_}
 use Rattle.lists.proofs.Promise.{OneResult}
 use Rattle.fields.proofs.read_number.Kinds as read-number
 use Rattle.fields.proofs.read_number.Reads as read-number-reads
+use Rattle.fields.proofs.read_clock.Kinds as read-clock
+use Rattle.fields.proofs.read_clock.Reads as read-clock-reads
 use Rattle.fields.proofs.read_date.Kinds as read-date
 use Rattle.fields.proofs.read_date.Reads as read-date-reads
 use Rattle.fields.proofs.read_time.Kinds as read-time
 use Rattle.fields.proofs.read_time.Reads as read-time-reads
-use Rattle.fields.proofs.read_stamp.Kinds as read-stamp
-use Rattle.fields.proofs.read_stamp.Reads as read-stamp-reads
-use Rattle.fields.proofs.in_stamp_range.Kinds as in-stamp-range
-use Rattle.fields.proofs.in_stamp_range.Reads as in-stamp-range-reads
 
 pub read-number-determined : OneResult 1 read-number.ps read-number.r read-number-reads.Post
 read-number-determined κs a x y s t p q = p ∙ sym q
+
+pub read-clock-determined : OneResult 1 read-clock.ps read-clock.r read-clock-reads.Post
+read-clock-determined κs a x y s t p q = p ∙ sym q
 
 pub read-date-determined : OneResult 1 read-date.ps read-date.r read-date-reads.Post
 read-date-determined κs a x y s t p q = p ∙ sym q
 
 pub read-time-determined : OneResult 1 read-time.ps read-time.r read-time-reads.Post
 read-time-determined κs a x y s t p q = p ∙ sym q
-
-pub read-stamp-determined : OneResult 1 read-stamp.ps read-stamp.r read-stamp-reads.Post
-read-stamp-determined κs a x y s t p q = p ∙ sym q
-
-pub in-stamp-range-determined : OneResult 0 in-stamp-range.ps in-stamp-range.r in-stamp-range-reads.Post
-in-stamp-range-determined κs a x y s t p q = p ∙ sym q

@@ -1,7 +1,5 @@
 pub mod DigitLaws
 pub mod TripleLaws
-pub mod StampLaws
 pub mod WrittenLaws
-pub mod RangeLaws
 pub mod Claims
 pub mod Determined

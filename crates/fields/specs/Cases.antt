@@ -8,7 +8,6 @@ use Rattle.fields.specs.declared.Time.the-variants as Times
 use Rattle.fields.specs.Digits.{number, triple}
 use Rattle.fields.specs.Times.{clock, time}
 use Rattle.fields.specs.Dates.{date}
-use Rattle.fields.specs.Stamps.{offset, stampSeconds, stamp}
 
 -- P1: 31:59:59 is 115,199; 32:00:00 is refused
 pub P1 : (time (bytes "31:59:59") ≡ Times.Is (record { 0 = 115199 })) × (time (bytes "32:00:00") ≡ Times.Wrong)
@@ -19,11 +18,6 @@ P1 = (refl, refl)
 pub P2 : (date (bytes "2000-02-29") ≡ Is 20000229) × (date (bytes "2023-02-29") ≡ Wrong)
 unfolding date isDate daysIn triple number
 P2 = (refl, refl)
-
--- P3: a stamp an hour east of UTC
-pub P3 : stamp (bytes "2016-03-01T15:15:30+01:00") ≡ Is 1456841730
-unfolding stamp stampSeconds monthStart dayCount offset clock date isDate daysIn triple number
-P3 = refl
 
 -- 25:20:00 on 2017-01-01 is 01:20:00 on 2017-01-02
 pub next-day : momentOf 20170101 (record { 0 = 91200 }) ≡ momentOf 20170102 (record { 0 = 4800 })
@@ -40,11 +34,3 @@ next-day-times = (refl, refl)
 pub zeros-read : (number 6 (bytes "007") ≡ Is 7) × (number 6 (bytes "0000001") ≡ Wrong)
 unfolding number
 zeros-read = (refl, refl)
-
--- an offset up to 14:00 and no further; west of UTC is later there
-pub offsets-read :
-    (stamp (bytes "2000-01-01T00:00:00+14:00") ≡ Is 946634400)
-    × (stamp (bytes "2099-12-31T23:59:59-14:00") ≡ Is 4102495199)
-    × (stamp (bytes "2016-03-01T15:15:30+14:01") ≡ Wrong)
-unfolding stamp stampSeconds monthStart dayCount offset clock date isDate daysIn triple number
-offsets-read = (refl, refl, refl)

@@ -1,6 +1,5 @@
 pub mod Digits
 pub mod Times
 pub mod Dates
-pub mod Stamps
 pub mod Cases
 pub mod Claims

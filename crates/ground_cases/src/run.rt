@@ -45,7 +45,7 @@ fn of_a_field(r: u8, v: &[u8]) {
         b'B' => say::read(words::read_bit(v)),
         b'D' => say::read(fields::read_date(v)),
         b'T' => types::time(v),
-        b'U' => say::read(fields::read_stamp(v)),
+        b'U' => say::read(stamps::read_stamp(v)),
         b'S' => say::read(words::read_status(v)),
         b'J' => say::read(words::read_stop_type(v)),
         b'V' => say::read(words::read_flexible(v)),

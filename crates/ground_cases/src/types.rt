@@ -24,7 +24,7 @@ pub fn text(v: &[u8]) {
 }
 
 pub fn range(v: &[u8]) {
-    if fields::in_stamp_range(parts::large(v)) {
+    if stamps::in_stamp_range(parts::large(v)) {
         say::words(b" in range");
     } else {
         say::words(b" out of range");

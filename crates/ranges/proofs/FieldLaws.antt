@@ -10,7 +10,7 @@ use Rattle.lists.specs.Logic.{within}
 use Rattle.lists.specs.Part.{part}
 use Rattle.lists.specs.BigEndian.{number}
 use Rattle.lists.proofs.PartLaws.{part-part, part-at}
-use Rattle.fields.specs.Stamps.{inStampRange}
+use Rattle.stamps.specs.Stamps.{inStampRange}
 use Rattle.passage.specs.Layout.{stamp-wide, stamp-at, status-at, show-cancelled-at, flexible-at, monitored-at, body-wide, heard-at, row-wide, kept}
 use Rattle.passage.specs.Ranges.{commonInRange, isBit, updateInRange, planInRange, heardInRange, rowInRange}
 use Rattle.passage.proofs.FieldLaws.{common-at}

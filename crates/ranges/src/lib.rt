@@ -17,7 +17,7 @@ pub fn update_in_range(s: &[u8], at: usize) -> bool
     let show = s[at + passage::SHOW_CANCELLED_AT];
     let flexible = s[at + passage::FLEXIBLE_AT];
     let monitored = s[at + passage::MONITORED_AT];
-    fields::in_stamp_range(stamp)
+    stamps::in_stamp_range(stamp)
         & (s[at + passage::STATUS_AT] <= 5)
         & ((show <= 1) | (show == passage::KEPT))
         & ((1 <= flexible) & (flexible <= 3) | (flexible == passage::KEPT))
@@ -42,7 +42,7 @@ pub fn plan_in_range(s: &[u8], at: usize) -> bool
 fn heard_in_range(heard: u8, stamp: u32) -> bool
     ensures { λ r. ⌜ r ≡ heardInRange heard stamp ⌝ }
 {
-    (heard == 0) & (stamp == 0) | (heard == 1) & fields::in_stamp_range(stamp)
+    (heard == 0) & (stamp == 0) | (heard == 1) & stamps::in_stamp_range(stamp)
 }
 
 // Whether a row stands from `at` on, every field in its range, where what is common is.

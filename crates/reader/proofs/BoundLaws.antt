@@ -16,7 +16,7 @@ use Rattle.lists.proofs.LogicLaws.{both-false}
 use Rattle.lists.proofs.TextLaws.{same-equal}
 use Rattle.fields.specs.Dates.{date}
 use Rattle.fields.specs.Times.{time}
-use Rattle.fields.specs.Stamps.{stamp}
+use Rattle.stamps.specs.Stamps.{stamp}
 use Rattle.fields.proofs.TripleLaws.{triple-length, clock-other}
 use Rattle.turbo.specs.declared.Mark.{Mark}
 use Rattle.turbo.specs.declared.Mark.the-variants as Marks

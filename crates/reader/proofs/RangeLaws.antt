@@ -6,7 +6,7 @@ use mathlib.Core.List.{List}
 use Rattle.lists.specs.Text.{bytes}
 use Rattle.lists.specs.Each.{Each}
 use Rattle.clock.specs.Date.{isDate}
-use Rattle.fields.specs.Stamps.{inStampRange}
+use Rattle.stamps.specs.Stamps.{inStampRange}
 use Rattle.cells.specs.declared.Table.the-variants.{Message}
 use Rattle.cells.specs.Cell as Cell
 use Rattle.cells.specs.Cell.{width}

@@ -17,7 +17,7 @@ use Rattle.labels.specs.Columns.{count, place, anyTwice}
 use Rattle.fields.specs.Digits.{number, triple}
 use Rattle.fields.specs.Times.{clock, time}
 use Rattle.fields.specs.Dates.{date}
-use Rattle.fields.specs.Stamps.{offset, stampSeconds, stamp}
+use Rattle.stamps.specs.Stamps.{offset, stampSeconds, stamp}
 use Rattle.words.specs.Names.{bit, status, stopType, flexible}
 use Rattle.texts.specs.Texts.{text}
 use Rattle.cells.specs.declared.Table.the-variants.{Message, Calendar}

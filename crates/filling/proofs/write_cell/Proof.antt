@@ -6,7 +6,7 @@ use Rattle.lists.specs.Text.{bytes}
 use Rattle.turbo.specs.Split.{fieldAt}
 use Rattle.fields.specs.Digits as Digits
 use Rattle.fields.specs.Dates as Dates
-use Rattle.fields.specs.Stamps as Stamps
+use Rattle.stamps.specs.Stamps as Stamps
 use Rattle.words.specs.Names as Names
 use Rattle.cells.specs.Cell.{width, numberCell, timeAt, cell}
 use Rattle.filling.proofs.WriteLaws.{Kept, kept-as, wide-as, kind-as, last-kind}

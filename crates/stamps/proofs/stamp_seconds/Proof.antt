@@ -1,9 +1,9 @@
 use native.Mathlib.Omega.{arith}
-use Rattle.fields.specs.Stamps.{stampSeconds}
+use Rattle.stamps.specs.Stamps.{stampSeconds}
 use Rattle.clock.proofs.MonthLaws.{day-below}
 use borrow.Author.Needs.{needs}
-use Rattle.fields.proofs.stamp_seconds.Statement.{statement}
-use Rattle.fields.proofs.stamp_seconds.Tie as tie
+use Rattle.stamps.proofs.stamp_seconds.Statement.{statement}
+use Rattle.stamps.proofs.stamp_seconds.Tie as tie
 
 day-count-requires : tie.Need-day-count-requires
 day-count-requires c κs = search needs

@@ -7,14 +7,14 @@ use borrow.Author.Needs.{needs}
 use borrow.Author.Tests.{not-true, not-false}
 use lib.ListN.{length, take, drop}
 use denote.Ref.{now}
 use Rattle.fields.specs.declared.Number.the-variants.{Is}
 use Rattle.fields.specs.Dates.{date}
 use Rattle.fields.specs.Times.{clock}
-use Rattle.fields.specs.Stamps.{stampShape, offset}
+use Rattle.stamps.specs.Stamps.{stampShape, offset}
 use Rattle.fields.proofs.TripleLaws.{date-real, clock-below}
-use Rattle.fields.proofs.StampLaws.{offset-most, shape-length, stamp-shapeless, stamp-no-date, stamp-no-clock, stamp-no-offset, stamp-is}
-use Rattle.fields.proofs.read_stamp.Statement.{statement}
-use Rattle.fields.proofs.read_stamp.Tie as tie
+use Rattle.stamps.proofs.StampLaws.{offset-most, shape-length, stamp-shapeless, stamp-no-date, stamp-no-clock, stamp-no-offset, stamp-is}
+use Rattle.stamps.proofs.read_stamp.Statement.{statement}
+use Rattle.stamps.proofs.read_stamp.Tie as tie
 
 -- the field, once its shape is known, and its length
 abbrev field : tie.Else1 → List ℕ

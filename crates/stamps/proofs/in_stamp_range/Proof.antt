@@ -1,8 +1,8 @@
 use mathlib.Core.Path.{sym}
 use borrow.Author.Tests.{le-leb}
 use Rattle.lists.proofs.LogicLaws.{below-range}
-use Rattle.fields.proofs.in_stamp_range.Statement.{statement}
-use Rattle.fields.proofs.in_stamp_range.Tie as tie
+use Rattle.stamps.proofs.in_stamp_range.Statement.{statement}
+use Rattle.stamps.proofs.in_stamp_range.Tie as tie
 
 returns : tie.Need-returns
 returns c = sym (below-range _ _ _ (c .if1 .taken))

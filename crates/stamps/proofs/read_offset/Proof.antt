@@ -3,12 +3,12 @@ use native.Mathlib.Omega.{arith}
 use borrow.Author.Needs.{needs}
 use lib.ListN.{take, drop}
 use denote.Ref.{now}
 use Rattle.fields.specs.declared.Number.the-variants.{Is}
 use Rattle.fields.specs.Digits.{number}
 use Rattle.fields.proofs.DigitLaws.{number-told}
-use Rattle.fields.proofs.StampLaws.{offset-length, offset-colon, offset-no-hour, offset-no-minute, offset-minute, offset-over, offset-is}
-use Rattle.fields.proofs.read_offset.Statement.{statement}
-use Rattle.fields.proofs.read_offset.Tie as tie
+use Rattle.stamps.proofs.StampLaws.{offset-length, offset-colon, offset-no-hour, offset-no-minute, offset-minute, offset-over, offset-is}
+use Rattle.stamps.proofs.read_offset.Statement.{statement}
+use Rattle.stamps.proofs.read_offset.Tie as tie
 
 -- the hour as read
 hour :

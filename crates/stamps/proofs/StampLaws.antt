@@ -9,12 +9,12 @@ use lib.Dec.{eqb, leb}
 use lib.ListN.{length, getD, take, drop}
 use Rattle.lists.specs.Logic.{both}
 use Rattle.lists.proofs.LogicLaws.{both-false, both-true}
 use Rattle.fields.specs.declared.Number.the-variants.{Is, Wrong}
 use Rattle.fields.specs.Digits.{number}
 use Rattle.fields.specs.Times.{clock}
 use Rattle.fields.specs.Dates.{date}
-use Rattle.fields.specs.Stamps.{offsetShape, offset, stampSeconds, stampShape, stamp}
+use Rattle.stamps.specs.Stamps.{offsetShape, offset, stampSeconds, stampShape, stamp}
 use Rattle.fields.proofs.DigitLaws.{given-wrong, given-is, then-is, same-is}
 
 module _ (f : List ℕ) where
   pub offset-length : (length f ≡ 5 → ⊥) → Wrong ≡ offset f

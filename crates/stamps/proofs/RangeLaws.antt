@@ -11,14 +11,14 @@ use Rattle.clock.specs.Date.{isDate}
 use Rattle.clock.specs.Moment.{dayCount}
 use Rattle.clock.proofs.MonthLaws.{day-below}
 use Rattle.clock.proofs.DayLaws.{reached}
 use Rattle.fields.specs.declared.Number.the-variants.{Is}
 use Rattle.fields.specs.Times.{clock}
 use Rattle.fields.specs.Dates.{date}
-use Rattle.fields.specs.Stamps.{offset, stampSeconds, stampShape, stamp, writtenStamp}
+use Rattle.stamps.specs.Stamps.{offset, stampSeconds, stampShape, stamp, writtenStamp}
 use Rattle.fields.proofs.DigitLaws.{given-is, then-is, same-is}
 use Rattle.fields.proofs.TripleLaws.{clock-below, date-real}
-use Rattle.fields.proofs.StampLaws.{offset-most}
-use Rattle.fields.proofs.WrittenLaws.{stamp-written}
+use Rattle.stamps.proofs.StampLaws.{offset-most}
+use Rattle.stamps.proofs.WrittenLaws.{stamp-written}
 
 -- n is in the range, and some field gives n
 abbrev InRange : ℕ → Type 0

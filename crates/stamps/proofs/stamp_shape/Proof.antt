@@ -4,8 +4,8 @@ use lib.ListN.{length}
 use denote.Ref.{now}
 use Rattle.lists.proofs.LogicLaws.{both-false}
 use borrow.Author.Needs.{needs}
-use Rattle.fields.proofs.stamp_shape.Statement.{statement}
-use Rattle.fields.proofs.stamp_shape.Tie as tie
+use Rattle.stamps.proofs.stamp_shape.Statement.{statement}
+use Rattle.stamps.proofs.stamp_shape.Tie as tie
 
 returns : tie.Need-returns
 returns c = rw (ne-eqb _ 25 (c .if1 .taken))

@@ -1,0 +1,5 @@
+pub mod StampLaws
+pub mod WrittenLaws
+pub mod RangeLaws
+pub mod Claims
+pub mod Determined
