@@ -4,16 +4,11 @@ use denote.Ref.{now}
 use Rattle.lists.proofs.Promise.{Determined, OneResult}
 use Rattle.filling.proofs.blank.Kinds as blank
 use Rattle.filling.proofs.blank.Reads as blank-reads
-use Rattle.filling.proofs.is_null.Kinds as is-null
-use Rattle.filling.proofs.is_null.Reads as is-null-reads
 use Rattle.filling.proofs.write_cell.Kinds as write-cell
 use Rattle.filling.proofs.write_cell.Reads as write-cell-reads
 
 pub blank-determined : OneResult 0 blank.ps blank.r blank-reads.Post
 blank-determined κs a x y s t p q = p ∙ sym q
-
-pub is-null-determined : OneResult 1 is-null.ps is-null.r is-null-reads.Post
-is-null-determined κs a x y s t p q = p ∙ sym q
 
 pub write-cell-answer-determined : OneResult 3 write-cell.ps write-cell.r write-cell-reads.Post
 write-cell-answer-determined κs a x y s t p q = p .0 ∙ sym (q .0)

@@ -1,15 +1,11 @@
-// The cell that a field gives, written into a row: the bytes that are kept of it.
+// The cell that a field gives, written into a row: the bytes that are kept of it. How a number, a text and a time are written stands in `values`.
 use cells::Table;
-use fields::Number;
-use fields::Time;
 ghost use mathlib.Core.Path.{_≡_};
 ghost use Prim.Native.Nat.{_+_, _≤_, _<_};
 ghost use lib.ListN.{length};
-ghost use Rattle.lists.specs.Text.{same};
 ghost use Rattle.lists.specs.Part.{over};
 ghost use Rattle.turbo.specs.Split.{fieldAt};
-ghost use Rattle.texts.specs.Texts as Texts;
-ghost use Rattle.cells.specs.Cell.{null, width, cell, some, numberCell, textCell, timeAt};
+ghost use Rattle.cells.specs.Cell.{width, cell, some};
 ghost use Rattle.cells.specs.Layout.{blankRow};
 
 // A row before its cells are written: what is kept of absent columns, and zero bytes.
@@ -29,79 +25,6 @@ pub fn blank(t: Table) -> [u8; 80]
     }
 }
 
-// Whether a field has no content.
-pub fn is_null(f: &[u8]) -> bool
-    ensures { λ r. ⌜ r ≡ same (now (f .entry)) null ⌝ }
-{
-    lists::same_bytes(f, b"\\0")
-}
-
-// A number in w bytes.
-fn write_number(n: Number, w: usize, row: &mut [u8], at: usize) -> bool
-    requires { ⌜ (0 < w) × (at + w ≤ length (now row)) ⌝ }
-    ensures some { λ r. ⌜ r ≡ some (numberCell w n) ⌝ }
-    ensures written { λ r. ⌜ now (row .exit) ≡ over at (numberCell w n) (now (row .entry)) ⌝ }
-{
-    match n {
-        Number::Is(v) => {
-            lists::put_number(row, at, w, v);
-            true
-        }
-        Number::Wrong => false,
-    }
-}
-
-// A text in ten bytes, decoded.
-fn write_decoded(f: &[u8], row: &mut [u8], at: usize) -> bool
-    requires { ⌜ at + 10 ≤ length (now row) ⌝ }
-    ensures some { λ r. ⌜ r ≡ some (textCell (Texts.text (now (f .entry)))) ⌝ }
-    ensures written { λ r. ⌜ now (row .exit) ≡ over at (textCell (Texts.text (now (f .entry)))) (now (row .entry)) ⌝ }
-{
-    let t = texts::read_text(f);
-    if t.ok {
-        let kept = t.bytes;
-        lists::copy_to(row, at, &kept);
-        return true;
-    }
-    false
-}
-
-// A text in ten bytes. Most fields have no escape and are copied as they stand.
-fn write_text(f: &[u8], row: &mut [u8], at: usize) -> bool
-    requires { ⌜ at + 10 ≤ length (now row) ⌝ }
-    ensures some { λ r. ⌜ r ≡ some (textCell (Texts.text (now (f .entry)))) ⌝ }
-    ensures written { λ r. ⌜ now (row .exit) ≡ over at (textCell (Texts.text (now (f .entry)))) (now (row .entry)) ⌝ }
-{
-    if texts::is_plain(f) {
-        texts::write_plain(f, row, at);
-        return true;
-    }
-    write_decoded(f, row, at)
-}
-
-// A time in three bytes, or a missing one where the row's own stop type is `word`. The stop type is looked up only where the time has no content.
-fn write_time(word: &[u8], line: &[u8], stop: usize, f: &[u8], row: &mut [u8], at: usize) -> bool
-    requires { ⌜ at + 3 ≤ length (now row) ⌝ }
-    ensures some { λ r. ⌜ r ≡ some (timeAt (now (word .entry)) (fieldAt stop (now (line .entry))) (now (f .entry))) ⌝ }
-    ensures written { λ r. ⌜ now (row .exit) ≡ over at (timeAt (now (word .entry)) (fieldAt stop (now (line .entry))) (now (f .entry))) (now (row .entry)) ⌝ }
-{
-    if is_null(f) {
-        let here = turbo::field_of(line, stop);
-        if lists::same_bytes(here, word) {
-            lists::put_number(row, at, 3, 16777215);
-            return true;
-        }
-        return false;
-    }
-    match fields::read_time(f) {
-        Time::Is(s) => {
-            lists::put_number(row, at, 3, s.0);
-            true
-        }
-        Time::Wrong => false,
-    }
-}
-
 // The cell of field f, of a column of this kind, is written from `at` on; nothing where the field is outside its type.
 pub fn write_cell(kind: u8, line: &[u8], stop: usize, f: &[u8], row: &mut [u8], at: usize) -> bool
     requires { ⌜ (kind < 12) × (at + width kind ≤ length (now row)) ⌝ }
@@ -109,17 +32,17 @@ pub fn write_cell(kind: u8, line: &[u8], stop: usize, f: &[u8], row: &mut [u8], 
     ensures written { λ r. ⌜ now (row .exit) ≡ over at (cell kind (fieldAt stop (now (line .entry))) (now (f .entry))) (now (row .entry)) ⌝ }
 {
     match kind {
-        0 => write_text(f, row, at),
-        1 => write_number(fields::read_date(f), 4, row, at),
-        2 => write_number(fields::read_number(f, 6), 4, row, at),
-        3 => write_number(fields::read_number(f, 2), 1, row, at),
-        4 => write_number(fields::read_number(f, 3), 2, row, at),
-        5 => write_number(stamps::read_stamp(f), 4, row, at),
-        6 => write_number(words::read_status(f), 1, row, at),
-        7 => write_time(b"FIRST", line, stop, f, row, at),
-        8 => write_time(b"LAST", line, stop, f, row, at),
-        9 => write_number(words::read_stop_type(f), 1, row, at),
-        10 => write_number(words::read_bit(f), 1, row, at),
-        _ => write_number(words::read_flexible(f), 1, row, at),
+        0 => values::write_text(f, row, at),
+        1 => values::write_number(fields::read_date(f), 4, row, at),
+        2 => values::write_number(fields::read_number(f, 6), 4, row, at),
+        3 => values::write_number(fields::read_number(f, 2), 1, row, at),
+        4 => values::write_number(fields::read_number(f, 3), 2, row, at),
+        5 => values::write_number(stamps::read_stamp(f), 4, row, at),
+        6 => values::write_number(words::read_status(f), 1, row, at),
+        7 => values::write_time(b"FIRST", line, stop, f, row, at),
+        8 => values::write_time(b"LAST", line, stop, f, row, at),
+        9 => values::write_number(words::read_stop_type(f), 1, row, at),
+        10 => values::write_number(words::read_bit(f), 1, row, at),
+        _ => values::write_number(words::read_flexible(f), 1, row, at),
     }
 }

@@ -9,7 +9,8 @@ use Rattle.fields.specs.Dates as Dates
 use Rattle.stamps.specs.Stamps as Stamps
 use Rattle.words.specs.Names as Names
 use Rattle.cells.specs.Cell.{width, numberCell, timeAt, cell}
-use Rattle.filling.proofs.WriteLaws.{Kept, kept-as, wide-as, kind-as, last-kind}
+use Rattle.values.proofs.WriteLaws.{Kept, kept-as}
+use Rattle.filling.proofs.KindLaws.{wide-as, kind-as, last-kind}
 use Rattle.filling.proofs.write_cell.Statement.{statement}
 use Rattle.filling.proofs.write_cell.Tie as tie
 

@@ -3,8 +3,8 @@ use borrow.Author.Needs.{needs}
 use denote.Ref.{now}
 use Rattle.lists.specs.Text.{same}
 use Rattle.cells.specs.Cell.{null}
-use Rattle.filling.proofs.is_null.Statement.{statement}
-use Rattle.filling.proofs.is_null.Tie as tie
+use Rattle.values.proofs.is_null.Statement.{statement}
+use Rattle.values.proofs.is_null.Tie as tie
 
 slice-aggregate-same-bytes : tie.Need-slice-aggregate-same-bytes
 slice-aggregate-same-bytes c = search needs

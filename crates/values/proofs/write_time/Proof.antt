@@ -8,9 +8,9 @@ use Rattle.lists.specs.Text.{same}
 use Rattle.lists.specs.BigEndian.{spelled}
 use Rattle.turbo.specs.Split.{fieldAt}
 use Rattle.cells.specs.Cell.{missing, timeCell}
-use Rattle.filling.proofs.WriteLaws.{kept-none, kept-spelled, time-missing, time-none, time-told}
-use Rattle.filling.proofs.write_time.Statement.{statement}
-use Rattle.filling.proofs.write_time.Tie as tie
+use Rattle.values.proofs.WriteLaws.{kept-none, kept-spelled, time-missing, time-none, time-told}
+use Rattle.values.proofs.write_time.Statement.{statement}
+use Rattle.values.proofs.write_time.Tie as tie
 
 missing-spelled : spelled 3 16777215 ≡ missing
 unfolding spelled

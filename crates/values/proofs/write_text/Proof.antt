@@ -7,9 +7,9 @@ use Rattle.texts.specs.Texts.{plain}
 use Rattle.texts.proofs.KeptLaws.{padded-length}
 use Rattle.texts.proofs.PlainLaws.{plain-is, plain-text}
 use Rattle.cells.specs.Cell.{textCell}
-use Rattle.filling.proofs.WriteLaws.{kept-long}
-use Rattle.filling.proofs.write_text.Statement.{statement}
-use Rattle.filling.proofs.write_text.Tie as tie
+use Rattle.values.proofs.WriteLaws.{kept-long}
+use Rattle.values.proofs.write_text.Statement.{statement}
+use Rattle.values.proofs.write_text.Tie as tie
 
 is-plain-requires : tie.Need-is-plain-requires
 is-plain-requires c κs = search needs

@@ -2,9 +2,9 @@ use mathlib.Core.Path.{sym, ap}
 use borrow.Author.Needs.{needs}
 use denote.Ref.{now}
 use Rattle.cells.specs.Cell.{numberCell}
-use Rattle.filling.proofs.WriteLaws.{kept-none, kept-spelled}
-use Rattle.filling.proofs.write_number.Statement.{statement}
-use Rattle.filling.proofs.write_number.Tie as tie
+use Rattle.values.proofs.WriteLaws.{kept-none, kept-spelled}
+use Rattle.values.proofs.write_number.Statement.{statement}
+use Rattle.values.proofs.write_number.Tie as tie
 
 enum-known-n : tie.Need-enum-known-n
 enum-known-n c = search needs

@@ -6,9 +6,9 @@ use lib.ListN.{length}
 use Rattle.texts.specs.declared.Text.{Text}
 use Rattle.texts.proofs.KeptLaws.{text-length}
 use Rattle.cells.specs.Cell.{textCell}
-use Rattle.filling.proofs.WriteLaws.{kept-none, kept-long, text-kept, text-refused}
-use Rattle.filling.proofs.write_decoded.Statement.{statement}
-use Rattle.filling.proofs.write_decoded.Tie as tie
+use Rattle.values.proofs.WriteLaws.{kept-none, kept-long, text-kept, text-refused}
+use Rattle.values.proofs.write_decoded.Statement.{statement}
+use Rattle.values.proofs.write_decoded.Tie as tie
 
 read-text-requires : tie.Need-read-text-requires
 read-text-requires c κs = search needs
