@@ -19,7 +19,7 @@ use Rattle.reader.specs.declared.Answer.the-variants.{Rows, Syntax as SyntaxAt}
 use Rattle.reader.specs.Items.{items}
 use Rattle.reader.specs.Rules.{firstLine, firstColumn, rowsUpTo, answerTo, readingOf, itemsOf}
 use Rattle.keys.specs.Replay.{takenAll}
-use Rattle.update.specs.Rule.{mayMove, table17}
+use Rattle.moves.specs.Moves.{mayMove, table17}
 use Rattle.table.specs.Rules.{room}
 use Rattle.table.proofs.SoundLaws.{sound-within}
 use Rattle.book.specs.Entries.{entry-wide}

@@ -14,7 +14,8 @@ use Rattle.fields.specs.Dates.{date}
 use Rattle.stamps.specs.Stamps.{stamp}
 use Rattle.passage.specs.Layout.{orderOf}
 use Rattle.keys.specs.Replay.{takenAll}
-use Rattle.update.specs.Rule.{statusAfter, rowRule}
+use Rattle.moves.specs.Moves.{statusAfter}
+use Rattle.update.specs.Rule.{rowRule}
 use Rattle.book.specs.Rules.{planRows}
 use Rattle.calls.specs.declared.Counts.{Counts}
 use Rattle.calls.specs.Answers.{numbers}

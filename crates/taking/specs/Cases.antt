@@ -8,7 +8,8 @@ use Rattle.passage.specs.Layout.{key-wide, kept}
 use Rattle.keys.specs.Keys.{cmp}
 use Rattle.keys.specs.Sorted.{get, put}
 use Rattle.keys.specs.Replay.{taken, takenAll}
-use Rattle.update.specs.Rule.{table17, mayMove, applyRow, beginning, rowRule}
+use Rattle.moves.specs.Moves.{table17, mayMove}
+use Rattle.update.specs.Rule.{applyRow, beginning, rowRule}
 
 -- of a key of bytes k: other bytes x, the status, and what stands behind the stop type
 of : ℕ → ℕ → ℕ → List ℕ → List ℕ

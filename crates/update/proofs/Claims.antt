@@ -1,43 +1,17 @@
 -- The claims on the row rule, proved. Assumes nothing.
-use mathlib.Core.Path.{_≡_, refl, sym, ap, _∙_}
-use mathlib.Core.Bool.{Bool}
-use mathlib.Core.List.{List, [], map}
-use Prim.Native.Nat.{ℕ}
-use lib.Dec.{eqb}
-use lib.ListN.{getD, List·getD-map}
-use Rattle.update.specs.Rule.{table17, mayMove, statusAfter, beginning}
-use Rattle.update.specs.Claims.{moves, MovesByTable, BeginsPlanned, ArrivedStays, All}
+use mathlib.Core.Path.{refl, _∙_}
+use Rattle.moves.proofs.Claims as moved
+use Rattle.update.specs.Rule.{beginning}
+use Rattle.update.specs.Claims.{BeginsPlanned, ArrivedStays, All}
 use Rattle.update.proofs.RuleLaws.{rule-wide, rule-key, rule-destination, rule-stamp, rule-arrival, rule-departure, rule-stop-type, rule-heard, rule-status, rule-show, rule-flexible, rule-monitored}
 use Rattle.update.proofs.InRangeLaws.{rule-in-range}
-
-isJ : ℕ → Bool
-isJ b = eqb b 74
-
--- the letters read as tests are the table of tests
-moves-is : moves ≡ map (map isJ) table17
-unfolding isJ table17
-moves-is = refl
-
-moves-by-table : MovesByTable
-unfolding isJ mayMove
-moves-by-table held said =
-    sym (List·getD-map isJ (getD table17 held []) said 0)
-    ∙ ap (λ (l : List Bool). getD l said (isJ 0)) (sym (List·getD-map (map isJ) table17 held []) ∙ ap (λ (t : List (List Bool)). getD t held []) (sym moves-is))
 
 begins-planned : BeginsPlanned
 unfolding beginning
 begins-planned = (refl, refl, refl, refl)
 
-arrived : statusAfter 4 3 ≡ 4
-unfolding mayMove table17
-arrived = refl
-
-passed : statusAfter 5 4 ≡ 4
-unfolding mayMove table17
-passed = refl
-
 arrived-stays : ArrivedStays
-arrived-stays h u wide = (λ e f. rule-status h u wide ∙ rw (e, f) arrived, λ e f. rule-status h u wide ∙ rw (e, f) passed)
+arrived-stays h u wide = (λ e f. rule-status h u wide ∙ rw (e, f) (moved.claims .1 .0), λ e f. rule-status h u wide ∙ rw (e, f) (moved.claims .1 .1))
 
 pub claims : All
 claims = (
@@ -52,7 +26,6 @@ claims = (
     rule-stop-type h u wide,
   ),
   rule-status,
-  moves-by-table,
   λ h u wide. (rule-show h u wide, rule-flexible h u wide, rule-monitored h u wide),
   begins-planned,
   rule-in-range,

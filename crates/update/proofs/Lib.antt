@@ -1,4 +1,3 @@
-pub mod TableLaws
 pub mod SetLaws
 pub mod ApplyLaws
 pub mod RuleLaws

@@ -1,13 +1,14 @@
 -- What is claimed of the row rule, for a held row h, [] for none, and an update u. Assumes nothing.
 use mathlib.Core.Path.{_≡_}
-use mathlib.Core.Bool.{Bool, true, false}
-use mathlib.Core.List.{List, [], _∷_}
+use mathlib.Core.Bool.{true}
+use mathlib.Core.List.{List, []}
 use mathlib.Core.Logic.{_⊎_}
 use Prim.Native.Nat.{ℕ}
-use lib.ListN.{length, getD}
+use lib.ListN.{length}
 use Rattle.passage.specs.Layout.{body-wide, row-wide, keyOf, destinationOf, stampOf, statusOf, arrivalOf, departureOf, stopTypeOf, showCancelledOf, flexibleOf, monitoredOf, heardOf}
 use Rattle.passage.specs.Ranges.{updateInRange, rowInRange}
-use Rattle.update.specs.Rule.{mayMove, statusAfter, keeps, begun, rowRule}
+use Rattle.moves.specs.Moves.{statusAfter, keeps}
+use Rattle.update.specs.Rule.{begun, rowRule}
 
 -- The update changes no key: the row that it makes has the update's.
 abbrev pub KeepsKey : Type 0
@@ -35,27 +36,6 @@ ReplacesRest =
 -- The status moves where the table says so, and else stays.
 abbrev pub StatusByTable : Type 0
 StatusByTable = (h u : List ℕ) → length u ≡ body-wide → statusOf (rowRule h u) ≡ statusAfter (statusOf (begun h)) (statusOf u)
-
-abbrev J : Bool
-J = true
-
-abbrev N : Bool
-N = false
-
--- From and to PLANNED, CANCEL, UNKNOWN, DRIVING, ARRIVED, PASSED: where the status moves.
-abbrev pub moves : List (List Bool)
-moves =
-    (N ∷ J ∷ J ∷ J ∷ J ∷ J ∷ [])
-    ∷ (J ∷ J ∷ N ∷ J ∷ J ∷ J ∷ [])
-    ∷ (N ∷ J ∷ J ∷ J ∷ J ∷ J ∷ [])
-    ∷ (N ∷ J ∷ J ∷ J ∷ J ∷ J ∷ [])
-    ∷ (N ∷ J ∷ J ∷ N ∷ J ∷ J ∷ [])
-    ∷ (N ∷ N ∷ N ∷ N ∷ J ∷ J ∷ [])
-    ∷ []
-
--- The status moves where that table has J, and nowhere else, whatever two numbers are asked.
-abbrev pub MovesByTable : Type 0
-MovesByTable = (held said : ℕ) → mayMove held said ≡ getD (getD moves held []) said N
 
 -- An optional that the update gives is the row's; one that is absent leaves the held content.
 abbrev pub OptionalsKeep : Type 0
@@ -99,7 +79,6 @@ All =
     × Heard
     × ReplacesRest
     × StatusByTable
-    × MovesByTable
     × OptionalsKeep
     × BeginsPlanned
     × InRange

@@ -1,35 +1,9 @@
 -- The row rule: what an update makes of a passage. Assumes nothing.
 use Prim.Native.Nat.{ℕ}
-use mathlib.Core.Bool.{Bool}
 use mathlib.Core.List.{List, [], _∷_, _++_}
-use lib.Dec.{eqb}
-use lib.ListN.{getD, set, replicate}
-use Rattle.lists.specs.Logic.{on}
-use Rattle.lists.specs.Text.{bytes}
-use Rattle.passage.specs.Layout.{row-wide, kept, status-at, show-cancelled-at, flexible-at, monitored-at, statusOf, showCancelledOf, flexibleOf, monitoredOf}
-
--- 003's table 17: a line for each status held, a letter for each status said, in the order PLANNED, CANCEL, UNKNOWN, DRIVING, ARRIVED, PASSED
-unfoldable pub table17 : List (List ℕ)
-table17 =
-    bytes "NJJJJJ"
-    ∷ bytes "JJNJJJ"
-    ∷ bytes "NJJJJJ"
-    ∷ bytes "NJJJJJ"
-    ∷ bytes "NJJNJJ"
-    ∷ bytes "NNNNJJ"
-    ∷ []
-
--- the status moves where the table has J
-unfoldable pub mayMove : ℕ → ℕ → Bool
-mayMove held said = eqb (getD (getD table17 held []) said 0) 74
-
--- N keeps the held status
-abbrev pub statusAfter : ℕ → ℕ → ℕ
-statusAfter held said = on (mayMove held said) said held
-
--- an optional that is absent keeps the held content
-abbrev pub keeps : ℕ → ℕ → ℕ
-keeps held said = on (eqb said kept) held said
+use lib.ListN.{set, replicate}
+use Rattle.passage.specs.Layout.{row-wide, status-at, show-cancelled-at, flexible-at, monitored-at, statusOf, showCancelledOf, flexibleOf, monitoredOf}
+use Rattle.moves.specs.Moves.{statusAfter, keeps}
 
 -- the update u replaces all but the key, and heard becomes 1; the status moves by table 17
 unfoldable pub applyRow : List ℕ → List ℕ → List ℕ

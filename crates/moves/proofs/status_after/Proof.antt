@@ -1,7 +1,7 @@
 use mathlib.Core.Path.{sym, _∙_}
 use borrow.Author.Needs.{needs}
-use Rattle.update.proofs.status_after.Statement.{statement}
-use Rattle.update.proofs.status_after.Tie as tie
+use Rattle.moves.proofs.status_after.Statement.{statement}
+use Rattle.moves.proofs.status_after.Tie as tie
 
 may-move-requires : tie.Need-may-move-requires
 may-move-requires c κs = search needs

@@ -1,8 +1,8 @@
 use mathlib.Core.Path.{sym}
 use borrow.Author.Needs.{needs}
-use Rattle.update.proofs.TableLaws.{move-letter, none-held, none-said}
-use Rattle.update.proofs.may_move.Statement.{statement}
-use Rattle.update.proofs.may_move.Tie as tie
+use Rattle.moves.proofs.TableLaws.{move-letter, none-held, none-said}
+use Rattle.moves.proofs.may_move.Statement.{statement}
+use Rattle.moves.proofs.may_move.Tie as tie
 
 returns : tie.Need-returns
 returns c = sym (none-held _ _ (c .if1 .taken))

@@ -1,6 +1,6 @@
 use borrow.Author.Tests.{eq-eqb, ne-eqb}
-use Rattle.update.proofs.kept_or.Statement.{statement}
-use Rattle.update.proofs.kept_or.Tie as tie
+use Rattle.moves.proofs.kept_or.Statement.{statement}
+use Rattle.moves.proofs.kept_or.Tie as tie
 
 returns : tie.Need-returns
 returns c = rw (eq-eqb _ _ (c .if1 .taken))

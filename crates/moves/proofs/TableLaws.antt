@@ -8,7 +8,7 @@ use lib.Dec.{eqb, eqb→eq}
 use lib.ListN.{length, getD, List·getD-eq-default}
 use Rattle.lists.specs.Text.{bytes}
 use Rattle.clock.proofs.BelowLaws.{below-at}
-use Rattle.update.specs.Rule.{table17, mayMove}
+use Rattle.moves.specs.Moves.{table17, mayMove}
 
 -- the letters of the code, line behind line
 abbrev pub letters : List ℕ
