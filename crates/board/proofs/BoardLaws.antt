@@ -15,9 +15,9 @@ use Rattle.board.specs.declared.Answer.{Answer}
 use Rattle.board.specs.declared.Answer.the-variants.{Listed, Unsound, OutOfRange}
 use Rattle.shows.specs.Show.{momentAt}
 use Rattle.shows.specs.Look.{showing}
-use Rattle.shows.specs.Ask.{asksInRange}
+use Rattle.asks.specs.Ask.{asksInRange}
 use Rattle.board.specs.Rules.{listed, boardOf, boardAnswer, boardPlaces}
-use Rattle.shows.proofs.AskLaws.{asks-date, asks-second, asks-horizon}
+use Rattle.asks.proofs.AskLaws.{asks-date, asks-second, asks-horizon}
 use Rattle.shows.proofs.ShowLaws.{showing-is}
 
 module _ (owner stop : List ℕ) (date second horizon : ℕ) (table : List ℕ) (n : ℕ) (places : List ℕ) where

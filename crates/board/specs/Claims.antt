@@ -15,7 +15,7 @@ use Rattle.keys.specs.Keys.{cmp}
 use Rattle.table.specs.Rules.{tableSound}
 use Rattle.board.specs.declared.Answer.the-variants.{Listed, Unsound, OutOfRange}
 use Rattle.shows.specs.Show.{departs, momentAt, shows}
-use Rattle.shows.specs.Ask.{asksInRange}
+use Rattle.asks.specs.Ask.{asksInRange}
 use Rattle.board.specs.Rules.{boardOf, boardAnswer, boardPlaces}
 
 -- ---- which rows

@@ -13,7 +13,7 @@ use Rattle.calls.specs.Open.{openOutcome}
 use Rattle.calls.proofs.RefusalLaws.{acceptance-is-zero, refusals-give-back, numbers-listed}
 use Rattle.board.specs.declared.Answer.{Answer as Board}
 use Rattle.board.specs.declared.Answer.the-variants.{Listed, Unsound, OutOfRange}
-use Rattle.shows.specs.Ask.{asksInRange}
+use Rattle.asks.specs.Ask.{asksInRange}
 use Rattle.board.specs.Rules.{numbers as boardNumbers, byAnswer, boardAnswer, boardPlaces}
 use Rattle.table.specs.Rules.{tableSound}
 use Rattle.answers.specs.Answered.{counted, numberOf, answered, boardNumber, boardAnswered}

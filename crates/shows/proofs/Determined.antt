@@ -1,15 +1,10 @@
 -- The promise of each public function allows one outcome: its answer follows from what was passed. Assumes nothing.
 use mathlib.Core.Path.{sym, _∙_}
 use Rattle.lists.proofs.Promise.{OneResult}
-use Rattle.shows.proofs.asks_in_range.Kinds as asks-in-range
-use Rattle.shows.proofs.asks_in_range.Reads as asks-in-range-reads
 use Rattle.shows.proofs.is_owned.Kinds as is-owned
 use Rattle.shows.proofs.is_owned.Reads as is-owned-reads
 use Rattle.shows.proofs.shown_at.Kinds as shown-at
 use Rattle.shows.proofs.shown_at.Reads as shown-at-reads
-
-pub asks-in-range-determined : OneResult 2 asks-in-range.ps asks-in-range.r asks-in-range-reads.Post
-asks-in-range-determined κs a x y s t p q = p ∙ sym q
 
 pub is-owned-determined : OneResult 2 is-owned.ps is-owned.r is-owned-reads.Post
 is-owned-determined κs a x y s t p q = p ∙ sym q

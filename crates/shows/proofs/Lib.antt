@@ -1,4 +1,3 @@
-pub mod AskLaws
 pub mod TextLaws
 pub mod ShowLaws
 pub mod Determined

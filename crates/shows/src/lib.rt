@@ -1,4 +1,4 @@
-// What a board may be asked, and the show rule: whether a passage is shown at a stop, and at which moment it departs.
+// The show rule: whether a passage is shown at a stop, and at which moment it departs.
 use clock::OperatingSeconds;
 ghost use mathlib.Core.Path.{_≡_};
 ghost use mathlib.Core.Bool.{true};
@@ -6,47 +6,14 @@ ghost use Prim.Native.Nat.{_+_, _≤_};
 ghost use lib.ListN.{length};
 ghost use Rattle.lists.specs.Part.{part};
 ghost use Rattle.lists.specs.Text.{same};
-ghost use Rattle.texts.specs.Texts.{isText};
 ghost use Rattle.passage.specs.Layout.{text-wide, row-wide, ownerOf};
 ghost use Rattle.passage.specs.Ranges.{rowInRange};
-ghost use Rattle.shows.specs.Ask.{asksInRange};
 ghost use Rattle.shows.specs.Look.{shownAt, mayBe};
 
 // Whether a row is shown, and if so its departure moment.
 pub enum Shown {
     At(u32),
     Hidden,
-}
-
-// Whether t is 1 to 10 bytes of 32 to 126.
-fn is_text(t: &[u8]) -> bool
-    ensures { λ r. ⌜ r ≡ isText (now (t .entry)) ⌝ }
-{
-    if t.len() < 1 {
-        return false;
-    }
-    if 10 < t.len() {
-        return false;
-    }
-    let mut i = 0;
-    while i < t.len() {
-        let b = t[i];
-        if b < 32 {
-            return false;
-        }
-        if 126 < b {
-            return false;
-        }
-        i += 1;
-    }
-    true
-}
-
-// Whether what is asked is in its range.
-pub fn asks_in_range(owner: &[u8], stop: &[u8], date: u32, second: u32, horizon: u32) -> bool
-    ensures { λ r. ⌜ r ≡ asksInRange (now (owner .entry)) (now (stop .entry)) date second horizon ⌝ }
-{
-    is_text(owner) & is_text(stop) & clock::is_date(date) & (second < 86400) & (horizon <= 86400)
 }
 
 // Whether the padded text stands from `at` on. No branch, and few loads.
