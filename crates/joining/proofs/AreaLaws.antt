@@ -1,4 +1,4 @@
--- Areas, by their length: how many rows and pairs there can be, and that the areas lent have room for them. Assumes nothing.
+-- How many rows and pairs there can be, and how long an area holds them. Assumes nothing.
 use mathlib.Core.Path.{_≡_, refl, subst}
 use mathlib.Core.Bool.{Bool, true, false, _&&_}
 use mathlib.Core.Logic.{_⊎_, inl, inr}
@@ -8,7 +8,7 @@ use native.Mathlib.Nat.{suc-mul, le-trans, mul-le-mul-right}
 use native.Mathlib.Omega.{arith}
 use borrow.Author.Tests.{le-leb, lt-leb, leb-true, leb-false}
 use lib.Dec.{leb}
-use lib.ListN.{length, length-append, replicate, length-replicate}
+use lib.ListN.{length, length-append}
 use Rattle.lists.specs.Logic.{on}
 use Rattle.lists.specs.Rows.{rowsOf}
 use Rattle.lists.proofs.RowLaws.{length-rowsOf}
@@ -101,13 +101,3 @@ few-pairs np nv p v = le-trans (mul-le-mul-right nv p) (omega arith)
 
 pub few-fit : (q : ℕ) → q ≤ 640 → q * 66 ≤ 42240
 few-fit q h = omega arith
-
--- ---- areas that are made, and that are kept
-
--- one that is as long as it was has room for n
-pub room-for : (n k : ℕ) (area : List ℕ) → length area ≡ k → n ≤ k → n ≤ length area
-room-for n k area e h = omega arith
-
--- one of k bytes has room for n ≤ k
-pub made-room : (n k : ℕ) → n ≤ k → n ≤ length (replicate {A = ℕ} k 0)
-made-room n k h = rw (length-replicate {A = ℕ} k 0) h

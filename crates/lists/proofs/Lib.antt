@@ -5,6 +5,7 @@ pub mod PartLaws
 pub mod OverLaws
 pub mod ReadLaws
 pub mod TurnLaws
+pub mod AreaLaws
 pub mod RowLaws
 pub mod WideLaws
 pub mod StoreLaws

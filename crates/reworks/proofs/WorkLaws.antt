@@ -4,7 +4,7 @@ use mathlib.Core.Bool.{true}
 use mathlib.Core.List.{List, map, map-map}
 use Prim.Native.Nat.{ℕ, _+_, _*_, _-_, _/_, _≤_, _<_}
 use native.Mathlib.Omega.{arith}
-use lib.ListN.{length, take, drop, replicate, length-take, length-drop, length-replicate}
+use lib.ListN.{length, take, drop, length-take, length-drop}
 use Rattle.lists.specs.Each.{Each}
 use Rattle.lists.specs.Part.{part, over}
 use Rattle.lists.specs.Rows.{rowsOf, flat}
@@ -23,10 +23,6 @@ use Rattle.slots.specs.Slots.{slot-wide, slotsOf, keyIn}
 use Rattle.slots.specs.Worked.{begunSlot, heardIn, namesAt}
 use Rattle.reworks.specs.Steps.{namesIn, workedOut}
 use Rattle.slots.proofs.BeginLaws.{names-wide, begun-keys, begun-read}
-
--- room that was just made is as long as was said: by a law, since to count it takes long
-pub made-room : (n k : ℕ) → n ≤ k → n ≤ length (replicate {A = ℕ} k 0)
-made-room n k h = rw (length-replicate {A = ℕ} k 0) h
 
 -- the m entries from `at` on, as the code lends them, and the places that they are sorted by
 abbrev pub lent : ℕ → ℕ → List ℕ → List ℕ

@@ -1,9 +1,10 @@
-use mathlib.Core.Path.{sym, subst}
+use mathlib.Core.Path.{sym}
 use Prim.Native.Nat.{ℕ, _+_, _*_, _≤_}
 use native.Mathlib.Nat.{mul-le-mul-right}
 use native.Mathlib.Omega.{arith}
 use borrow.Author.Needs.{needs}
-use lib.ListN.{length, replicate, length-replicate}
+use lib.ListN.{length-replicate}
+use Rattle.lists.proofs.AreaLaws.{made-room}
 use Rattle.passage.specs.Layout.{row-wide}
 use Rattle.fitting.proofs.TrialLaws.{all-fit}
 use Rattle.fitting.proofs.fits_after.Statement.{statement}
@@ -25,9 +26,7 @@ trial-fits-requires c κs =
     let p = c .before .before .before .before .pre in
     let most = c .before .before .before .before .args .most in
     let fits : most + 1 ≤ 2049 = omega arith in
-    let room : (most + 1) * row-wide ≤ length (replicate {A = ℕ} 137283 0) =
-    subst (λ (k : ℕ). (most + 1) * row-wide ≤ k) (sym (length-replicate {A = ℕ} 137283 0)) (mul-le-mul-right row-wide fits) in
-    ((p .0 .0, p .0 .1, p .0 .2, room), p .1)
+    ((p .0 .0, p .0 .1, p .0 .2, made-room ((most + 1) * row-wide) 137283 (mul-le-mul-right row-wide fits)), p .1)
 
 returns-2 : tie.Need-returns-2
 returns-2 c = c .before .trial-fits .ensures

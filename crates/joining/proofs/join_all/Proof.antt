@@ -12,7 +12,8 @@ use Rattle.calls.specs.declared.Answer.the-variants.{BookShort}
 use Rattle.calls.specs.Open.{roomToOpen}
 use Rattle.joining.specs.Steps.{fewer, pairs}
 use Rattle.placing.proofs.StageLaws.{Opened, refused-with, book-short}
-use Rattle.joining.proofs.AreaLaws.{most-within, few-joined, pairs-few, room-for}
+use Rattle.lists.proofs.AreaLaws.{room-for}
+use Rattle.joining.proofs.AreaLaws.{most-within, few-joined, pairs-few}
 use Rattle.joining.proofs.PairLaws.{pairs-short, pairs-read, wide-pairs}
 use Rattle.joining.proofs.join_all.Statement.{statement}
 use Rattle.joining.proofs.join_all.Tie as tie

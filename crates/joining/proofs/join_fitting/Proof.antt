@@ -4,7 +4,8 @@ use Prim.Native.Nat.{ℕ, _*_}
 use native.Mathlib.Nat.{le-refl}
 use native.Mathlib.Omega.{arith}
 use lib.ListN.{length-replicate}
-use Rattle.joining.proofs.AreaLaws.{few-pairs, few-fit, made-room}
+use Rattle.lists.proofs.AreaLaws.{made-room}
+use Rattle.joining.proofs.AreaLaws.{few-pairs, few-fit}
 use Rattle.joining.proofs.join_fitting.Statement.{statement}
 use Rattle.joining.proofs.join_fitting.Tie as tie
 

@@ -1,16 +1,14 @@
 -- `take_sound` meets its contract. Assumes nothing.
 use Prim.Native.Nat.{ℕ, _*_, _+_, _≤_}
-use mathlib.Core.Path.{sym, subst}
+use mathlib.Core.Path.{sym}
 use native.Mathlib.Omega.{arith}
-use lib.ListN.{length, replicate, length-replicate}
+use lib.ListN.{length, length-replicate}
+use Rattle.lists.proofs.AreaLaws.{made-room}
 use Rattle.passage.specs.Layout.{body-wide}
 use Rattle.messages.proofs.take_sound.Statement.{statement}
 use Rattle.messages.proofs.take_sound.Tie as tie
 
 -- ---- what has room, said out of sight of the areas: there each length would be counted
-
-room : (k m : ℕ) → k ≤ m → k ≤ length (replicate {A = ℕ} m 0)
-room k m h = subst (λ (l : ℕ). k ≤ l) (sym (length-replicate m 0)) h
 
 short-room : (size n : ℕ) → size ≤ 8192 → n * 27 ≤ size + 2 → n * body-wide ≤ 19998
 short-room size n short l = omega arith
@@ -26,7 +24,7 @@ slice-aggregate-read-and-take c = sym (length-replicate {A = ℕ} 19998 0)
 read-and-take-requires : tie.Need-read-and-take-requires
 read-and-take-requires c κs =
     let s = c .before .before .before .before .before .before .before .before in
-    (s .pre, λ n few l. room (n * body-wide) 19998 (short-room (length (s .args .d .now)) n (c .before .before .before .if1 .taken) l))
+    (s .pre, λ n few l. made-room (n * body-wide) 19998 (short-room (length (s .args .d .now)) n (c .before .before .before .if1 .taken) l))
 
 same-length : tie.Need-same-length
 same-length c = c .before .before .before .before .before .read-and-take .kept .1 .1 .1 .1 .0
@@ -44,7 +42,7 @@ slice-aggregate-read-and-take-2 c = sym (length-replicate {A = ℕ} 160182 0)
 
 read-and-take-requires-2 : tie.Need-read-and-take-requires-2
 read-and-take-requires-2 c κs =
-    (c .before .before .before .before .before .before .before .before .pre, λ n few l. room (n * body-wide) 160182 (any-room n few))
+    (c .before .before .before .before .before .before .before .before .pre, λ n few l. made-room (n * body-wide) 160182 (any-room n few))
 
 same-length-3 : tie.Need-same-length-3
 same-length-3 c = c .before .before .before .before .before .read-and-take2 .kept .1 .1 .1 .1 .0

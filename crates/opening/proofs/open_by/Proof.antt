@@ -9,7 +9,7 @@ use Rattle.reader.specs.declared.Answer.the-variants as Readings
 use Rattle.reader.specs.Rules.{readingOf}
 use Rattle.reader.proofs.AnswerLaws.{planning-few}
 use Rattle.calls.specs.declared.Answer.the-variants.{TooLong, Syntax, Form, Field, Owner}
-use Rattle.joining.proofs.AreaLaws.{room-for}
+use Rattle.lists.proofs.AreaLaws.{room-for}
 use Rattle.opening.proofs.StageLaws.{planning-refused, planning-taken}
 use Rattle.opening.proofs.open_by.Statement.{statement}
 use Rattle.opening.proofs.open_by.Tie as tie

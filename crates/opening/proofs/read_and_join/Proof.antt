@@ -10,7 +10,7 @@ use Rattle.reader.specs.declared.Answer.the-variants as Readings
 use Rattle.reader.specs.Rules.{readingOf}
 use Rattle.reader.proofs.AnswerLaws.{calendar-few}
 use Rattle.calls.specs.declared.Answer.the-variants.{TooLong, Syntax, Form, Field, Owner}
-use Rattle.joining.proofs.AreaLaws.{room-for}
+use Rattle.lists.proofs.AreaLaws.{room-for}
 use Rattle.opening.proofs.StageLaws.{calendar-refused, calendar-taken}
 use Rattle.opening.proofs.read_and_join.Statement.{statement}
 use Rattle.opening.proofs.read_and_join.Tie as tie

@@ -2,7 +2,7 @@ use Prim.Native.Nat.{_*_}
 use native.Mathlib.Omega.{arith}
 use borrow.Author.Needs.{needs}
 use Rattle.slots.specs.Slots.{slot-wide}
-use Rattle.reworks.proofs.WorkLaws.{made-room}
+use Rattle.lists.proofs.AreaLaws.{made-room}
 use Rattle.reworks.proofs.rework_few.Statement.{statement}
 use Rattle.reworks.proofs.rework_few.Tie as tie
 
