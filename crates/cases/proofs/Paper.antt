@@ -9,7 +9,8 @@ use Rattle.lists.specs.Text.{bytes}
 use Rattle.lists.proofs.RowLaws.{length-rowsOf}
 use Rattle.syntax.specs.Machine.{field, escape, firstEscape, nul, ret, opened, marked, step, accepting, run, fault}
 use Rattle.syntax.specs.Cases as Syntax
-use Rattle.turbo.specs.Split.{until, past, linesFrom, markOf, afterMark}
+use Rattle.turbo.specs.Split.{until, past}
+use Rattle.lines.specs.Lines.{linesFrom, markOf, afterMark}
 use Rattle.turbo.specs.Cases as Turbo
 use Rattle.fields.specs.Cases as Fields
 use Rattle.stamps.specs.Cases as Stamps

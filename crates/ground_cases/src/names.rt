@@ -25,7 +25,7 @@ fn places(p: &[usize; 20]) {
 pub fn columns(v: &[u8]) {
     let wanted = parts::head(v);
     let labels = parts::tail(v);
-    if 20 < turbo::count_fields(wanted) {
+    if 20 < bars::count_fields(wanted) {
         say::words(b" more than 20 names");
         return;
     }

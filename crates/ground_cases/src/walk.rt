@@ -1,22 +1,22 @@
 // Lines, marks and fields of a dossier.
 use crate::parts;
 use crate::say;
-use turbo::Mark;
+use lines::Mark;
 
 pub fn mark(line: &[u8]) {
-    match turbo::mark_of(line) {
+    match lines::mark_of(line) {
         Mark::Group => say::words(b" Group"),
         Mark::Table => say::words(b" Table"),
         Mark::Labels => say::words(b" Labels"),
         Mark::Data => say::words(b" Data"),
     }
-    let rest = turbo::after_mark(line);
+    let rest = lines::after_mark(line);
     say::text(rest);
 }
 
 // How many fields, and each.
 pub fn fields(line: &[u8]) {
-    let n = turbo::count_fields(line);
+    let n = bars::count_fields(line);
     say::size(n);
     let mut k: usize = 0;
     while k < n {
@@ -28,14 +28,14 @@ pub fn fields(line: &[u8]) {
 
 // How many lines, and each with its mark.
 pub fn lines(d: &[u8]) {
-    let n = turbo::count_lines(d);
+    let n = lines::count_lines(d);
     say::size(n);
     let mut t = d;
     let mut left = n;
     while 0 < left {
-        let l = turbo::first_line(t);
+        let l = lines::first_line(t);
         mark(l);
-        let u = turbo::rest_after_line(t);
+        let u = lines::rest_after_line(t);
         t = u;
         left -= 1;
     }
@@ -43,7 +43,7 @@ pub fn lines(d: &[u8]) {
 
 // The tails after 0, 1, 2, .. bars, and one past the last.
 pub fn tails(line: &[u8]) {
-    let n = turbo::count_fields(line);
+    let n = bars::count_fields(line);
     let mut k: usize = 0;
     while k < n {
         let t = turbo::rest_after_bars(line, k);
@@ -57,7 +57,7 @@ pub fn tails(line: &[u8]) {
 // The fields in a row, each with its size, its bytes, and the tail that it hands on.
 pub fn row(line: &[u8]) {
     let mut t = line;
-    let mut left = turbo::count_fields(line);
+    let mut left = bars::count_fields(line);
     while 0 < left {
         let f = turbo::first_field(t);
         let mut n: usize = 0;

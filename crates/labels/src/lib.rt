@@ -90,7 +90,7 @@ fn search_columns(wanted: &[u8], labels: &[u8], sizes: &[usize]) -> Columns
     requires { ⌜ (length (fields (now wanted)) ≤ most) × Measured (now labels) (now sizes) ⌝ }
     ensures { λ r. ⌜ r ≡ columnsOf (fields (now (wanted .entry))) (fields (now (labels .entry))) ⌝ }
 {
-    let none = turbo::count_fields(labels);
+    let none = bars::count_fields(labels);
     let mut twice = false;
     let mut places = [0usize; 20];
     let mut i: usize = 0;

@@ -16,9 +16,9 @@ use Rattle.syntax.specs.declared.Verdict.the-variants as Verdicts
 use Rattle.syntax.specs.Machine.{fault}
 use Rattle.grammar.specs.Grammar.{WellFormed}
 use Rattle.syntax.proofs.GrammarLaws.{fine, formed}
-use Rattle.turbo.specs.declared.Mark.{Mark}
-use Rattle.turbo.specs.declared.Mark.the-variants as Marks
-use Rattle.turbo.specs.Split.{lines, markOf}
+use Rattle.lines.specs.declared.Mark.{Mark}
+use Rattle.lines.specs.declared.Mark.the-variants as Marks
+use Rattle.lines.specs.Lines.{lines, markOf}
 use Rattle.cells.specs.declared.Table.{Table}
 use Rattle.cells.specs.declared.Table.the-variants.{Message, Planning, Calendar}
 use Rattle.cells.specs.Tables.{rowOf}

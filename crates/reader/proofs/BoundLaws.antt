@@ -18,11 +18,13 @@ use Rattle.fields.specs.Dates.{date}
 use Rattle.fields.specs.Times.{time}
 use Rattle.stamps.specs.Stamps.{stamp}
 use Rattle.fields.proofs.TripleLaws.{triple-length, clock-other}
-use Rattle.turbo.specs.declared.Mark.{Mark}
-use Rattle.turbo.specs.declared.Mark.the-variants as Marks
-use Rattle.turbo.specs.Split.{until, past, tailAt, fields, fieldAt, lines, markOf, afterMark}
+use Rattle.lines.specs.declared.Mark.{Mark}
+use Rattle.lines.specs.declared.Mark.the-variants as Marks
+use Rattle.turbo.specs.Split.{until, past, tailAt, fields, fieldAt}
+use Rattle.lines.specs.Lines.{lines, markOf, afterMark}
 use Rattle.labels.specs.Columns.{place}
-use Rattle.turbo.proofs.SplitLaws.{until-le, past-drop, field-tail, lines-cons, lines-none}
+use Rattle.turbo.proofs.SplitLaws.{until-le, past-drop, field-tail}
+use Rattle.lines.proofs.LineLaws.{lines-cons, lines-none}
 use Rattle.cells.specs.declared.Table.{Table}
 use Rattle.cells.specs.declared.Table.the-variants.{Message, Planning, Calendar}
 use Rattle.cells.specs.Cell.{null, missing, cell, numberCell, timeCell, timeAt, some}

@@ -12,10 +12,11 @@ use Rattle.lists.specs.Logic.{on}
 use Rattle.lists.specs.Part.{over}
 use Rattle.lists.specs.Rows.{flat, Wide}
 use Rattle.lists.proofs.OverLaws.{over-nil, length-over}
-use Rattle.turbo.specs.declared.Mark.{Mark}
-use Rattle.turbo.specs.declared.Mark.the-variants as Marks
-use Rattle.turbo.specs.Split.{until, past, fields, lines, markOf, afterMark}
-use Rattle.turbo.proofs.SplitLaws.{lines-cons, lines-none, after-line-shorter}
+use Rattle.lines.specs.declared.Mark.{Mark}
+use Rattle.lines.specs.declared.Mark.the-variants as Marks
+use Rattle.turbo.specs.Split.{until, past, fields}
+use Rattle.lines.specs.Lines.{lines, markOf, afterMark}
+use Rattle.lines.proofs.LineLaws.{lines-cons, lines-none, after-line-shorter}
 use Rattle.cells.specs.declared.Table.{Table}
 use Rattle.cells.specs.Tables.{rowWidth}
 use Rattle.steps.specs.declared.State.{State}

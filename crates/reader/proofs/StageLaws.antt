@@ -17,9 +17,10 @@ use Rattle.lists.proofs.EachLaws.{each-append}
 use Rattle.lists.proofs.OverLaws.{length-over, over-then}
 use Rattle.lists.proofs.RowLaws.{flat-append}
 use Rattle.lists.proofs.WideLaws.{length-flat}
-use Rattle.turbo.specs.declared.Mark.{Mark}
-use Rattle.turbo.specs.declared.Mark.the-variants as Marks
-use Rattle.turbo.specs.Split.{until, fields, markOf, afterMark}
+use Rattle.lines.specs.declared.Mark.{Mark}
+use Rattle.lines.specs.declared.Mark.the-variants as Marks
+use Rattle.turbo.specs.Split.{until, fields}
+use Rattle.lines.specs.Lines.{markOf, afterMark}
 use Rattle.cells.specs.declared.Table.{Table}
 use Rattle.cells.specs.Tables.{tableName, rowOf, rowWidth, wrongColumn}
 use Rattle.shapes.specs.declared.Shape.{Shape}

@@ -12,7 +12,8 @@ use Rattle.clock.specs.Date.{daysIn, isDate}
 use Rattle.clock.specs.Moment.{monthStart, dayCount}
 use Rattle.syntax.specs.Machine.{field, escape, firstEscape, nul, ret, opened, marked, step, accepting, run, fault}
 use Rattle.turbo.specs.Escape.{escaped, decode}
-use Rattle.turbo.specs.Split.{until, past, fields, fieldAt, linesFrom, markOf, afterMark}
+use Rattle.turbo.specs.Split.{until, past, fields, fieldAt}
+use Rattle.lines.specs.Lines.{linesFrom, markOf, afterMark}
 use Rattle.labels.specs.Columns.{count, place, anyTwice}
 use Rattle.fields.specs.Digits.{number, triple}
 use Rattle.fields.specs.Times.{clock, time}

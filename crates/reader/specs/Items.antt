@@ -4,9 +4,10 @@ use mathlib.Core.Bool.{Bool, true, false}
 use mathlib.Core.List.{List, [], _∷_}
 use Rattle.lists.specs.Logic.{on}
 use Rattle.lists.specs.Text.{same}
-use Rattle.turbo.specs.declared.Mark.{Mark}
-use Rattle.turbo.specs.declared.Mark.the-variants as Marks
-use Rattle.turbo.specs.Split.{until, fields, markOf, afterMark}
+use Rattle.lines.specs.declared.Mark.{Mark}
+use Rattle.lines.specs.declared.Mark.the-variants as Marks
+use Rattle.turbo.specs.Split.{until, fields}
+use Rattle.lines.specs.Lines.{markOf, afterMark}
 use Rattle.cells.specs.declared.Table.{Table}
 use Rattle.cells.specs.Tables.{tableName}
 

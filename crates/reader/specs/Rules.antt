@@ -10,7 +10,8 @@ use Rattle.lists.specs.Rows.{flat}
 use Rattle.syntax.specs.declared.Verdict.{Verdict}
 use Rattle.syntax.specs.declared.Verdict.the-variants as Verdicts
 use Rattle.syntax.specs.Machine.{fault}
-use Rattle.turbo.specs.Split.{fields, lines}
+use Rattle.turbo.specs.Split.{fields}
+use Rattle.lines.specs.Lines.{lines}
 use Rattle.cells.specs.declared.Table.{Table}
 use Rattle.cells.specs.Tables.{rowWidth, rowOf, wrongColumn}
 use Rattle.shapes.specs.Shape.{labelFault}

@@ -41,7 +41,7 @@ fn read_lines(t: Table, d: &[u8], register: &[u8], sender: u8, staging: &mut [u8
     let mut rest = d;
     while 0 < rest.len() {
         let mut size: usize = 0;
-        let next = turbo::read_line(rest, &mut size);
+        let next = lines::read_line(rest, &mut size);
         s = steps::line_step(t, s, &rest[..size], register, sender, staging);
         if s.form != 0 {
             return Answer::Form(s.form);

@@ -3,8 +3,9 @@ use mathlib.Core.Path.{_≡_, refl, ap, _∙_}
 use mathlib.Core.List.{List}
 use borrow.Author.Tests.{eq-eqb, ne-eqb}
 use lib.ListN.{length}
-use Rattle.turbo.specs.declared.Mark.the-variants.{Group, Table, Labels, Data}
-use Rattle.turbo.specs.Split.{until, fields, markOf, afterMark}
+use Rattle.lines.specs.declared.Mark.the-variants.{Group, Table, Labels, Data}
+use Rattle.turbo.specs.Split.{until, fields}
+use Rattle.lines.specs.Lines.{markOf, afterMark}
 use Rattle.cells.specs.declared.Table as Tables
 use Rattle.shapes.specs.declared.Shape.{Shape}
 use Rattle.shapes.specs.Shape.{noShape, shapeOf}

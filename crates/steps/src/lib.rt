@@ -1,8 +1,8 @@
 // One line of a dossier at a time: what is kept of the lines so far, and what a line changes in it and in the staging area. It asks for no line before or behind, so lines may come one by one.
 use cells::Table;
+use lines::Mark;
 use rows::Read;
 use shapes::Shape;
-use turbo::Mark;
 ghost use mathlib.Core.Path.{_≡_};
 ghost use Prim.Native.Nat.{_≤_, _<_};
 ghost use lib.ListN.{length};
@@ -162,7 +162,7 @@ fn data_step(
     ensures area { λ _. ⌜ now (staging .exit) ≡ dataStaged t (now (register .entry)) sender s (now (line .entry)) (now (staging .entry)) ⌝ }
 {
     let h = s.shape;
-    if turbo::count_fields(line) != h.count {
+    if bars::count_fields(line) != h.count {
         return form_fault(s);
     }
     if s.wrong != 0 {
@@ -206,15 +206,15 @@ pub fn line_step(
     ensures area { λ _. ⌜ now (staging .exit) ≡ stageBy t (now (register .entry)) sender s (now (line .entry)) (now (staging .entry)) ⌝ }
 {
     let place = s.place;
-    match turbo::mark_of(line) {
+    match lines::mark_of(line) {
         Mark::Group => moved_to(s, 0),
         Mark::Table => {
-            let name = turbo::first_field(turbo::after_mark(line));
+            let name = turbo::first_field(lines::after_mark(line));
             moved_to(s, named_place(t, name))
         }
         Mark::Labels => {
             if place == 1 {
-                let h = shapes::read_labels(t, turbo::after_mark(line));
+                let h = shapes::read_labels(t, lines::after_mark(line));
                 return label_step(s, h);
             }
             moved_to(s, 0)

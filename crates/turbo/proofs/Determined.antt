@@ -1,5 +1,5 @@
 -- The promise of each public function allows one outcome: its result, the bytes of a part that it hands back, and what it leaves behind a `&mut` follow from what was passed. Assumes nothing.
-use mathlib.Core.Path.{_≡_, sym, ap, _∙_}
+use mathlib.Core.Path.{sym, _∙_}
 use denote.Ref.{now}
 use Rattle.lists.proofs.Promise.{Determined, OneResult}
 use Rattle.turbo.proofs.escaped.Kinds as escaped
@@ -8,20 +8,6 @@ use Rattle.turbo.proofs.find.Kinds as find
 use Rattle.turbo.proofs.find.Reads as find-reads
 use Rattle.turbo.proofs.find_far.Kinds as find-far
 use Rattle.turbo.proofs.find_far.Reads as find-far-reads
-use Rattle.turbo.proofs.first_line.Kinds as first-line
-use Rattle.turbo.proofs.first_line.Reads as first-line-reads
-use Rattle.turbo.proofs.rest_after_line.Kinds as rest-after-line
-use Rattle.turbo.proofs.rest_after_line.Reads as rest-after-line-reads
-use Rattle.turbo.proofs.read_line.Kinds as read-line
-use Rattle.turbo.proofs.read_line.Reads as read-line-reads
-use Rattle.turbo.proofs.count_lines.Kinds as count-lines
-use Rattle.turbo.proofs.count_lines.Reads as count-lines-reads
-use Rattle.turbo.proofs.mark_of.Kinds as mark-of
-use Rattle.turbo.proofs.mark_of.Reads as mark-of-reads
-use Rattle.turbo.proofs.after_mark.Kinds as after-mark
-use Rattle.turbo.proofs.after_mark.Reads as after-mark-reads
-use Rattle.turbo.proofs.count_fields.Kinds as count-fields
-use Rattle.turbo.proofs.count_fields.Reads as count-fields-reads
 use Rattle.turbo.proofs.first_field.Kinds as first-field
 use Rattle.turbo.proofs.first_field.Reads as first-field-reads
 use Rattle.turbo.proofs.rest_after_bar.Kinds as rest-after-bar
@@ -42,24 +28,6 @@ find-determined κs a x y s t p q = p .0 ∙ sym (q .0)
 pub find-far-determined : OneResult 1 find-far.ps find-far.r find-far-reads.Post
 find-far-determined κs a x y s t p q = p .0 ∙ sym (q .0)
 
-pub first-line-determined : Determined 1 first-line.ps first-line.r first-line-reads.Post (λ κs x s. now x)
-first-line-determined κs a x y s t p q = p ∙ sym q
-
-pub rest-after-line-determined : Determined 1 rest-after-line.ps rest-after-line.r rest-after-line-reads.Post (λ κs x s. now x)
-rest-after-line-determined κs a x y s t p q = p ∙ sym q
-
-pub count-lines-determined : OneResult 1 count-lines.ps count-lines.r count-lines-reads.Post
-count-lines-determined κs a x y s t p q = p ∙ sym q
-
-pub mark-of-determined : OneResult 1 mark-of.ps mark-of.r mark-of-reads.Post
-mark-of-determined κs a x y s t p q = p ∙ sym q
-
-pub after-mark-determined : Determined 1 after-mark.ps after-mark.r after-mark-reads.Post (λ κs x s. now x)
-after-mark-determined κs a x y s t p q = p ∙ sym q
-
-pub count-fields-determined : OneResult 1 count-fields.ps count-fields.r count-fields-reads.Post
-count-fields-determined κs a x y s t p q = p ∙ sym q
-
 pub first-field-determined : Determined 1 first-field.ps first-field.r first-field-reads.Post (λ κs x s. now x)
 first-field-determined κs a x y s t p q = p ∙ sym q
 
@@ -77,9 +45,3 @@ read-field-size-determined κs a x y s t p q = p .1 ∙ sym (q .1)
 
 pub field-of-determined : Determined 1 field-of.ps field-of.r field-of-reads.Post (λ κs x s. now x)
 field-of-determined κs a x y s t p q = p ∙ sym q
-
-pub read-line-tail-determined : Determined 2 read-line.ps read-line.r read-line-reads.Post (λ κs x s. now x)
-read-line-tail-determined κs a x y s t p q = p .0 ∙ sym (q .0)
-
-pub read-line-size-determined : Determined 2 read-line.ps read-line.r read-line-reads.Post (λ κs x s. now (s .1 .0))
-read-line-size-determined κs a x y s t p q = p .1 ∙ sym (q .1)

@@ -1,5 +1,4 @@
 pub mod SplitLaws
-pub mod MarkLaws
 pub mod GrammarLaws
 pub mod Claims
 pub mod Determined

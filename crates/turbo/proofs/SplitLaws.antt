@@ -4,16 +4,15 @@ use native.Mathlib.Omega.{arith}
 use mathlib.Core.Path.{_≡_, refl, sym, ap, _∙_}
 use mathlib.Core.Bool.{Bool, true, false}
 use mathlib.Core.List.{List, [], _∷_}
-use borrow.Author.Tests.{ltb-true, ltb-false, eqb-true, eqb-false, eq-eqb, ne-eqb}
-use lib.ListN.{length, getD, take, drop, drop-of-length-le, length-drop}
-use lib.Seq.{drop-cons, take-all, drop-drop}
+use borrow.Author.Tests.{ltb-true, ltb-false, eq-eqb, ne-eqb}
+use lib.ListN.{length, getD, take, drop, drop-of-length-le}
+use lib.Seq.{drop-cons, take-all}
 use lib.Dec.{eqb, ltb}
-use mir.Val.{boolByte}
 use Rattle.lists.specs.Logic.{on}
 use Rattle.lists.proofs.PartLaws.{tail-all}
-use Rattle.turbo.specs.Split.{until, past, onto, fields, fieldAt, tailAt, linesFrom, lines}
+use Rattle.turbo.specs.Split.{until, past, onto, fields, fieldAt, tailAt}
 
--- Laws of lines and fields: by the first of them, and what the walk over them cites. Assumes nothing.
+-- Laws of fields: by the first of them, and what the walk over them cites. Assumes nothing.
 
 -- `until` is the first so many bytes
 pub until-take : (x : ℕ) (l : List ℕ) → take (length (until x l)) l ≡ until x l
@@ -122,46 +121,6 @@ fields-cons l n e h = rw (rest-is 124 n l e, upto-is 124 n l e) (fields-more l (
 pub fields-last : (l : List ℕ) (n : ℕ) → n ≡ length (until 124 l) → n ≡ length l → fields l ≡ take n l ∷ []
 fields-last l n e h = rw (take-all n l (omega arith)) (fields-one l (omega arith))
 
--- what is left after a line's CR LF, at n where its CR was found
-pub after-line : (n : ℕ) (l : List ℕ) → n ≡ length (until 13 l) → drop (n + 2) l ≡ drop 1 (past 13 l)
-after-line n l e =
-    let q : n + 2 ≡ suc (length (until 13 l)) + 1 = omega arith in
-    rw (past-drop 13 l, q) (sym (drop-drop 1 (suc (length (until 13 l))) l))
-
-pub after-line-tail : (n : ℕ) (l : List ℕ) → n ≡ length (until 13 l) → take (length l - (n + 2)) (drop (n + 2) l) ≡ drop 1 (past 13 l)
-after-line-tail n l e = tail-all (n + 2) l ∙ after-line n l e
-
-pub after-line-none : (n : ℕ) (l : List ℕ) → n ≡ length (until 13 l) → length l - n < 2 → take (length l - length l) (drop (length l) l) ≡ drop 1 (past 13 l)
-after-line-none n l e h = tail-all (length l) l ∙ drop-of-length-le l {i = length l} (omega arith) ∙ sym (drop-of-length-le l {i = n + 2} (omega arith)) ∙ after-line n l e
-
-skip-line : (l : List ℕ) → linesFrom true l ≡ linesFrom false (drop 1 l)
-unfolding linesFrom
-skip-line [] = refl
-skip-line (b ∷ l) = refl
-
--- the lines by their first
-pub lines-cons : (l : List ℕ) → 0 < length l → lines l ≡ until 13 l ∷ lines (drop 1 (past 13 l))
-unfolding linesFrom until past
-lines-cons [] h = absurd (omega arith)
-lines-cons (b ∷ []) h = go (eqb b 13)
-  where
-    go : (t : Bool) → on t ([] ∷ []) (onto b []) ≡ on t [] (b ∷ []) ∷ linesFrom false (drop 1 (on t [] []))
-    go true = refl
-    go false = refl
-lines-cons (b ∷ c ∷ l) h = go (eqb b 13) (lines-cons (c ∷ l) (omega arith))
-  where
-    go : (t : Bool) → lines (c ∷ l) ≡ until 13 (c ∷ l) ∷ lines (drop 1 (past 13 (c ∷ l))) → on t ([] ∷ linesFrom true (c ∷ l)) (onto b (lines (c ∷ l))) ≡ on t [] (b ∷ until 13 (c ∷ l)) ∷ lines (drop 1 (on t (c ∷ l) (past 13 (c ∷ l))))
-    go true e = refl
-    go false e = rw e refl
-
-pub lines-none : (l : List ℕ) → length l ≤ 0 → lines l ≡ []
-unfolding linesFrom
-lines-none [] h = refl
-lines-none (b ∷ l) h = absurd (omega arith)
-
-pub after-line-shorter : (l : List ℕ) → 0 < length l → length (drop 1 (past 13 l)) < length l
-after-line-shorter l h = rw (← after-line (length (until 13 l)) l refl) (omega (arith, length-drop (length (until 13 l) + 2) l))
-
 -- the fields of a tail
 pub field-tail : (k : ℕ) (l : List ℕ) → until 124 (tailAt k l) ≡ fieldAt k l
 unfolding tailAt
@@ -181,8 +140,8 @@ pub tail-past : (k : ℕ) (l : List ℕ) → past 124 (tailAt k l) ≡ tailAt (s
 tail-past zero l = ap (past 124) (tail-zero l) ∙ sym (tail-next 0 l ∙ tail-zero (past 124 l))
 tail-past (suc k) l = ap (past 124) (tail-next k l) ∙ tail-past k (past 124 l) ∙ sym (tail-next (suc k) l)
 
--- how many fields there are, byte by byte
-onto-length : (b : ℕ) (fs : List (List ℕ)) → 0 < length fs → length (onto b fs) ≡ length fs
+-- how many fields there are
+pub onto-length : (b : ℕ) (fs : List (List ℕ)) → 0 < length fs → length (onto b fs) ≡ length fs
 onto-length b [] h = absurd (omega arith)
 onto-length b (f ∷ fs) h = refl
 
@@ -195,19 +154,6 @@ fields-some (b ∷ l) = go (eqb b 124) (fields-some l)
     go true h = omega arith
     go false h = omega (arith, onto-length b (fields l) h)
 
-module _ (l : List ℕ) (i : ℕ) (h : i < length l) where
-  pub fields-bar : getD l i 0 ≡ 124 → length (fields (drop i l)) ≡ suc (length (fields (drop (i + 1) l)))
-  unfolding fields
-  fields-bar e = rw (add-one, drop-cons l i 0 h) (rw (eq-eqb _ _ e))
-
-  pub fields-byte : (getD l i 0 ≡ 124 → ⊥) → length (fields (drop i l)) ≡ length (fields (drop (i + 1) l))
-  unfolding fields
-  fields-byte e = rw (add-one, drop-cons l i 0 h) (rw (ne-eqb _ _ e) (onto-length (getD l i 0) (fields (drop (suc i) l)) (fields-some (drop (suc i) l))))
-
-pub fields-end : (l : List ℕ) (i : ℕ) → length l ≤ i → length (fields (drop i l)) ≡ 1
-unfolding fields
-fields-end l i h = rw (drop-of-length-le l h)
-
 -- a block without x
 pub until-free : (x : ℕ) (l : List ℕ) (i n : ℕ) → i + n ≤ length l → ((m : ℕ) → m < n → getD l (i + m) 0 ≡ x → ⊥) → length (until x (drop i l)) ≡ n + length (until x (drop (i + n) l))
 until-free x l i zero h f = let e : i + 0 ≡ i = omega arith in rw e (omega arith)
@@ -216,14 +162,6 @@ until-free x l i (suc n) h f =
     let a = until-free x l i n (omega arith) (λ m w. f m (omega arith)) in
     let b = until-miss x l (i + n) (omega arith) (f n (omega arith)) in
     rw e (omega arith)
-
--- one byte more in the count of fields
-pub fields-turn : (l : List ℕ) (i : ℕ) → i < length l → length (fields (drop i l)) ≡ boolByte (eqb (getD l i 0) 124) + length (fields (drop (i + 1) l))
-fields-turn l i h = go (eqb (getD l i 0) 124) refl
-  where
-    go : (t : Bool) → eqb (getD l i 0) 124 ≡ t → length (fields (drop i l)) ≡ boolByte t + length (fields (drop (i + 1) l))
-    go true e = omega (arith, fields-bar l i h (eqb-true _ _ e))
-    go false e = omega (arith, fields-byte l i h (eqb-false _ _ e))
 
 -- there are at most as many fields as bytes, and one
 pub fields-most : (l : List ℕ) → length (fields l) ≤ suc (length l)

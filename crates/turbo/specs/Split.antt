@@ -1,13 +1,10 @@
--- A dossier's lines and a line's fields. In a well-formed dossier CR stands only in line ends and a bar only between fields, so both are found by one byte.
+-- What stands before and after a byte, and a line's fields. In a well-formed dossier a bar stands only between fields, so they are found by one byte.
 -- Assumes nothing.
 use Prim.Native.Nat.{ℕ, zero, suc}
-use mathlib.Core.Bool.{Bool, true, false}
 use mathlib.Core.List.{List, [], _∷_}
-use lib.ListN.{getD, drop}
+use lib.ListN.{getD}
 use lib.Dec.{eqb}
 use Rattle.lists.specs.Logic.{on}
-use Rattle.turbo.specs.declared.Mark.{Mark}
-use Rattle.turbo.specs.declared.Mark.the-variants.{Group, Table, Labels, Data}
 
 -- what stands before the first x, and after it
 unfoldable pub until : ℕ → List ℕ → List ℕ
@@ -36,32 +33,3 @@ fieldAt k l = getD (fields l) k []
 unfoldable pub tailAt : ℕ → List ℕ → List ℕ
 tailAt zero l = l
 tailAt (suc k) l = tailAt k (past 124 l)
-
--- the lines of a dossier: CR ends a line, and the byte after it goes with it
-unfoldable pub linesFrom : Bool → List ℕ → List (List ℕ)
-linesFrom true [] = []
-linesFrom true (b ∷ l) = linesFrom false l
-linesFrom false [] = []
-linesFrom false (b ∷ l) = on (eqb b 13) ([] ∷ linesFrom true l) (onto b (linesFrom false l))
-
-abbrev pub lines : List ℕ → List (List ℕ)
-lines d = linesFrom false d
-
--- a line's mark, by the letter behind a first backslash
-abbrev pub letter : ℕ → Mark
-letter b = on (eqb b 71) Group (on (eqb b 84) Table (on (eqb b 76) Labels Data))
-
-unfoldable pub markOf : List ℕ → Mark
-markOf [] = Data
-markOf (a ∷ []) = Data
-markOf (a ∷ b ∷ l) = on (eqb a 92) (letter b) Data
-
--- the bytes of a line behind its mark
-abbrev pub behind : Mark → List ℕ → List ℕ
-behind Group l = drop 2 l
-behind Table l = drop 2 l
-behind Labels l = drop 2 l
-behind Data l = l
-
-unfoldable pub afterMark : List ℕ → List ℕ
-afterMark l = behind (markOf l) l
