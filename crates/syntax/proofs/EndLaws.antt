@@ -8,6 +8,7 @@ use borrow.Author.Tests.{ne-eqb, eqb-true}
 use lib.ListN.{length, getD, drop}
 use lib.Dec.{eqb, ltb}
 use Rattle.lists.specs.Logic.{on, either}
+use Rattle.skips.specs.Quiet.{loud}
 use Rattle.syntax.specs.declared.Kind.{Kind}
 use Rattle.syntax.specs.declared.Kind.the-variants.{Nothing, Group, Table, Rows}
 use Rattle.syntax.specs.declared.State.{State}
@@ -16,7 +17,7 @@ use Rattle.syntax.specs.declared.Next.the-variants.{To, Bad}
 use Rattle.syntax.specs.declared.Verdict.the-variants.{FaultAt}
 use Rattle.syntax.specs.declared.Started.the-variants.{In, Never}
 use Rattle.syntax.specs.Machine.{field, escape, firstEscape, nul, ret, opened, marked, step, accepting, run}
-use Rattle.syntax.specs.Scan.{loud, inText, markedStart, plainStart, fromStart, Begun}
+use Rattle.syntax.specs.Scan.{inText, markedStart, plainStart, fromStart, Begun}
 use Rattle.syntax.proofs.RunLaws.{run-to, run-bad, run-short, run-alike}
 
 -- Where the machine goes from a loud byte of a field's text, and from a line's start. Assumes nothing.

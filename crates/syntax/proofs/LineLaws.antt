@@ -4,6 +4,8 @@ use mathlib.Core.Path.{_≡_, refl, sym, ap, _∙_}
 use mathlib.Core.Bool.{Bool, true, false}
 use mathlib.Core.List.{List}
 use lib.ListN.{length, getD, drop}
+use Rattle.skips.specs.Quiet.{loud, quietFor, freshAt}
+use Rattle.skips.proofs.QuietLaws.{quiet-within, quiet-stop}
 use Rattle.syntax.specs.declared.Kind.{Kind}
 use Rattle.syntax.specs.declared.State.the-variants.{Open, First}
 use Rattle.syntax.specs.declared.Verdict.the-variants.{FaultAt}
@@ -12,9 +14,9 @@ use Rattle.syntax.specs.declared.Reached.the-variants.{On, Stuck}
 use Rattle.syntax.specs.declared.Started.{Started}
 use Rattle.syntax.specs.declared.Started.the-variants.{In, Never}
 use Rattle.syntax.specs.Machine.{run, accepting, fault}
-use Rattle.syntax.specs.Scan.{loud, quietFor, inText, freshAt, Ahead, Begun, Passed, fromLine, fromEscape, fromStart, fromNext}
+use Rattle.syntax.specs.Scan.{inText, Ahead, Begun, Passed, fromLine, fromEscape, fromStart, fromNext}
 use Rattle.syntax.proofs.RunLaws.{run-short}
-use Rattle.syntax.proofs.ScanLaws.{quiet-run, quiet-within, quiet-stop}
+use Rattle.syntax.proofs.ScanLaws.{quiet-run}
 
 -- The loop over a line's fields: what holds at its start, after a turn, and at each way out. Assumes nothing.
 

@@ -1,11 +1,11 @@
--- What the loops over a dossier's bytes go by, in terms of the machine: quiet bytes, and the verdict from a place on.
+-- What the loops over a dossier's bytes go by, in terms of the machine: how a line begins, and the verdict from a place on.
 -- Assumes nothing.
-use Prim.Native.Nat.{ℕ, suc, _+_, _-_, _≤_, _<_}
+use Prim.Native.Nat.{ℕ, _+_, _≤_, _<_}
 use mathlib.Core.Bool.{Bool, true, false}
-use mathlib.Core.List.{List, [], _∷_}
-use lib.Dec.{eqb, ltb}
-use lib.ListN.{drop, getD}
-use Rattle.lists.specs.Logic.{on, either}
+use mathlib.Core.List.{List}
+use lib.Dec.{eqb}
+use lib.ListN.{drop}
+use Rattle.lists.specs.Logic.{on}
 use Rattle.syntax.specs.declared.Kind.{Kind}
 use Rattle.syntax.specs.declared.Kind.the-variants.{Nothing, Group, Table, Rows}
 use Rattle.syntax.specs.declared.State.{State}
@@ -18,23 +18,10 @@ use Rattle.syntax.specs.declared.Started.{Started}
 use Rattle.syntax.specs.declared.Started.the-variants.{In, Never}
 use Rattle.syntax.specs.Machine.{run}
 
--- a loud byte ends a run of text: below 32, or a backslash. A quiet one changes only whether a field begins behind it
-unfoldable pub loud : ℕ → Bool
-loud b = either (ltb b 32) (eqb b 92)
-
--- how many bytes stand before the first loud one
-unfoldable pub quietFor : List ℕ → ℕ
-quietFor [] = 0
-quietFor (b ∷ l) = on (loud b) 0 (suc (quietFor l))
-
 -- in a field's text: at its first byte, or behind it
 abbrev pub inText : Bool → Kind → State
 inText true k = First k
 inText false k = Inside k
-
--- whether a field begins at j, where the bytes from i to j are quiet and f says it of i
-abbrev pub freshAt : List ℕ → ℕ → ℕ → Bool → Bool
-freshAt d i j f = on (ltb i j) (eqb (getD d (j - 1) 0) 124) f
 
 -- what a line behind one of kind k is, that begins with a backslash and b at i
 unfoldable pub markedStart : Kind → ℕ → ℕ → Started

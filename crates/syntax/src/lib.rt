@@ -1,12 +1,13 @@
-// The form of a turbo dossier: the states of a machine that reads it, and a check of a whole dossier that goes by runs of quiet bytes.
+// The form of a turbo dossier: the states of a machine that reads it, and a check of a whole dossier that looks closely at loud bytes alone.
 ghost use mathlib.Core.Path.{_≡_};
 ghost use mathlib.Core.Bool.{Bool, true, false};
 ghost use Prim.Native.Nat.{_+_, _≤_, _<_};
 ghost use lib.ListN.{length, drop, getD};
+ghost use Rattle.skips.specs.Quiet.{loud};
 ghost use Rattle.syntax.specs.declared.Kind.{Kind};
 ghost use Rattle.syntax.specs.declared.State.the-variants.{Open, First};
 ghost use Rattle.syntax.specs.Machine.{mayEnd, run, fault};
-ghost use Rattle.syntax.specs.Scan.{loud, quietFor, inText, freshAt, markedStart, plainStart, Ahead, Begun, Passed, fromLine, fromEscape, fromStart, fromNext};
+ghost use Rattle.syntax.specs.Scan.{inText, markedStart, plainStart, Ahead, Begun, Passed, fromLine, fromEscape, fromStart, fromNext};
 
 // The kind of line that is being read, or at a line's start the kind of the line before. Rows: labels and data.
 pub enum Kind {
@@ -60,68 +61,6 @@ enum Reached {
 enum Started {
     In(Kind, usize),
     Never(usize),
-}
-
-fn is_loud(x: u8) -> bool
-    ensures { λ r. ⌜ r ≡ loud x ⌝ }
-{
-    (x < 32) | (x == 92)
-}
-
-// Whether one of sixteen bytes from i on may be loud. No branch in the loop, so that it compiles to a few vector instructions.
-fn loud_block(d: &[u8], i: usize) -> bool
-    requires { ⌜ i + 16 ≤ length (now d) ⌝ }
-    ensures { λ r. ⌜ (r ≡ false → 16 ≤ quietFor (drop i (now (d .entry)))) ⌝ }
-{
-    let mut any = false;
-    let mut j = 0;
-    while j < 16 {
-        any = any | is_loud(d[i + j]);
-        j += 1;
-    }
-    any
-}
-
-// Past the whole quiet blocks from i on.
-fn quiet_blocks(d: &[u8], i: usize) -> usize
-    requires { ⌜ i ≤ length (now d) ⌝ }
-    ensures within { λ r. ⌜ r ≤ length (now (d .entry)) ⌝ }
-    ensures left { λ r. ⌜ r + quietFor (drop r (now (d .entry))) ≡ i + quietFor (drop i (now (d .entry))) ⌝ }
-{
-    let mut p = i;
-    while 16 <= d.len() - p {
-        if loud_block(d, p) {
-            return p;
-        }
-        p += 16;
-    }
-    p
-}
-
-// The first loud byte from i on, or the length.
-fn quiet_end(d: &[u8], i: usize) -> usize
-    requires { ⌜ i ≤ length (now d) ⌝ }
-    ensures { λ r. ⌜ r ≡ i + quietFor (drop i (now (d .entry))) ⌝ }
-{
-    let mut p = quiet_blocks(d, i);
-    while p < d.len() {
-        if is_loud(d[p]) {
-            return p;
-        }
-        p += 1;
-    }
-    p
-}
-
-// Whether a field begins at j, where the bytes from i to j are quiet.
-fn begins(d: &[u8], i: usize, j: usize, fresh: bool) -> bool
-    requires { ⌜ (i ≤ j) × (j ≤ length (now d)) ⌝ }
-    ensures { λ r. ⌜ r ≡ freshAt (now (d .entry)) i j fresh ⌝ }
-{
-    if i < j {
-        return d[j - 1] == 124;
-    }
-    fresh
 }
 
 // From `\0` at j, which begins a field: nothing else may stand in the field.
@@ -192,8 +131,8 @@ fn line_end(d: &[u8], i: usize) -> Reached
     let mut p = i;
     let mut fresh = true;
     loop {
-        let j = quiet_end(d, p);
-        fresh = begins(d, p, j, fresh);
+        let j = skips::quiet_end(d, p);
+        fresh = skips::begins(d, p, j, fresh);
         if d.len() <= j {
             return Reached::Stuck(j);
         }

@@ -1,9 +1,9 @@
 use Prim.Native.Nat.{_-_}
 use lib.Dec.{eqb, ltb}
 use Rattle.lists.proofs.LogicLaws.{or-either}
-use Rattle.syntax.specs.Scan.{loud}
-use Rattle.syntax.proofs.is_loud.Statement.{statement}
-use Rattle.syntax.proofs.is_loud.Tie as tie
+use Rattle.skips.specs.Quiet.{loud}
+use Rattle.skips.proofs.is_loud.Statement.{statement}
+use Rattle.skips.proofs.is_loud.Tie as tie
 
 returns : tie.Need-returns
 unfolding loud

@@ -1,7 +1,7 @@
 use borrow.Author.Tests.{lt-ltb, le-ltb}
 use borrow.Author.Needs.{needs}
-use Rattle.syntax.proofs.begins.Statement.{statement}
-use Rattle.syntax.proofs.begins.Tie as tie
+use Rattle.skips.proofs.begins.Statement.{statement}
+use Rattle.skips.proofs.begins.Tie as tie
 
 sub-result : tie.Need-sub-result
 sub-result c = search needs

@@ -5,10 +5,10 @@ use lib.ListN.{drop}
 use mathlib.Core.Bool.{false}
 use borrow.Author.Needs.{needs}
 use Rattle.lists.proofs.LogicLaws.{or-false}
-use Rattle.syntax.specs.Scan.{quietFor}
-use Rattle.syntax.proofs.ScanLaws.{quiet-more}
-use Rattle.syntax.proofs.loud_block.Statement.{statement}
-use Rattle.syntax.proofs.loud_block.Tie as tie
+use Rattle.skips.specs.Quiet.{quietFor}
+use Rattle.skips.proofs.QuietLaws.{quiet-more}
+use Rattle.skips.proofs.loud_block.Statement.{statement}
+use Rattle.skips.proofs.loud_block.Tie as tie
 
 abbrev Inv-loop : tie.InvT-loop
 Inv-loop d i any₀ j₀ any j = (j ≤ 16) × (any ≡ false → j ≤ quietFor (drop i d))
