@@ -64,7 +64,7 @@ fn locate_all(t: &[u8], n: usize, s: &[u8], m: usize, places: &mut [usize]) -> u
     let mut missing = 0;
     let mut k = 0;
     while k < m {
-        let f = table::find(t, n, s, k * passage::BODY_WIDE);
+        let f = seeking::find(t, n, s, k * passage::BODY_WIDE);
         match f {
             keys::Found::At(i) => {
                 places[k] = i;

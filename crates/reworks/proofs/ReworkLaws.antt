@@ -21,7 +21,7 @@ use Rattle.update.specs.Rule.{rowRule}
 use Rattle.update.proofs.RuleLaws.{rule-key}
 use Rattle.table.specs.Rules.{rows, room, tableSound}
 use Rattle.table.proofs.SoundLaws.{sound-fits, sound-sorted, room-fits}
-use Rattle.table.proofs.RunLaws.{wide-filled}
+use Rattle.changing.proofs.RunLaws.{wide-filled}
 use Rattle.sorting.specs.Rules.{keyAt, sortedPlaces}
 use Rattle.sorting.proofs.PlaceLaws.{own-keyAt, length-keysOf}
 use Rattle.sorting.proofs.SortedPlacesLaws.{places-below, places-most, places-sorted}

@@ -17,8 +17,8 @@ use Rattle.keys.specs.Sorted.{sortedRows, put, remove}
 use Rattle.keys.proofs.PutLaws.{sorted-remove}
 use Rattle.keys.proofs.CountLaws.{wide-put, wide-remove}
 use Rattle.table.specs.Rules.{rows}
-use Rattle.table.proofs.RunLaws.{Holds, holds-rows, holds-fits, holds-sorted, holds-length}
-use Rattle.table.proofs.StoreTwiceLaws.{store-comes}
+use Rattle.changing.proofs.RunLaws.{Holds, holds-rows, holds-fits, holds-sorted, holds-length}
+use Rattle.changing.proofs.StoreTwiceLaws.{store-comes}
 use Rattle.slots.specs.Slots.{slot-wide, slotsOf, hasRow, keyIn, removeOne, removals, putOne, puts, settled}
 use Rattle.slots.proofs.TableLaws.{remove-least, puts-least}
 

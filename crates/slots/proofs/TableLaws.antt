@@ -23,7 +23,7 @@ use Rattle.keys.specs.Sorted.{sortedRows, lookup, get, put, remove}
 use Rattle.keys.proofs.PutLaws.{get-at, lookup-within}
 use Rattle.keys.proofs.CountLaws.{put-least, remove-most}
 use Rattle.table.specs.Rules.{rows}
-use Rattle.table.proofs.RunLaws.{Holds, holds-start, holds-length, holds-rows, holds-put, holds-remove}
+use Rattle.changing.proofs.RunLaws.{Holds, holds-start, holds-length, holds-rows, holds-put, holds-remove}
 use Rattle.book.proofs.PlaceLaws.{first-at}
 use Rattle.book.proofs.WriteLaws.{rowsOf-snoc}
 use Rattle.slots.specs.Slots.{slot-wide, slotsOf, hasRow, keyIn, rowIn, removeOne, removals, putOne, puts, weight, weights}

@@ -91,7 +91,7 @@ fn weigh(t: &[u8], n: usize, slots: &[u8], at: usize, near: &mut usize) -> usize
     ensures { λ r. ⌜ r ≡ weight (get (keyIn (part at slot-wide (now (slots .entry)))) (rows n (now (t .entry)))) (rowIn (part at slot-wide (now (slots .entry)))) ⌝ }
 {
     let has = slots[at];
-    let f = table::find_near(t, n, slots, at + 1, *near);
+    let f = seeking::find_near(t, n, slots, at + 1, *near);
     match f {
         Found::At(place) => {
             *near = place + 1;
@@ -150,7 +150,7 @@ fn remove_one(t: &mut [u8], n: usize, slots: &[u8], at: usize) -> usize
     if slots[at] == 1 {
         return n;
     }
-    table::remove_key(t, n, slots, at + 1)
+    changing::remove_key(t, n, slots, at + 1)
 }
 
 // The slots without a row, one after another; the new count.
@@ -176,16 +176,16 @@ fn put_near(t: &mut [u8], n: usize, r: &[u8], near: &mut usize) -> usize
     ensures { λ m. ⌜ m ≡ length (put (now (r .entry)) (rows n (now (t .entry)))) ⌝ }
     ensures { λ _. ⌜ now (t .exit) ≡ store row-wide n (put (now (r .entry)) (rows n (now (t .entry)))) (now (t .entry)) ⌝ }
 {
-    let f = table::find_near(t, n, r, 0, *near);
+    let f = seeking::find_near(t, n, r, 0, *near);
     match f {
         Found::At(place) => {
             *near = place + 1;
-            table::replace_row(t, n, place, r);
+            changing::replace_row(t, n, place, r);
             n
         }
         Found::Missing(place) => {
             *near = place + 1;
-            table::insert_row(t, n, place, r);
+            changing::insert_row(t, n, place, r);
             n + 1
         }
     }

@@ -1,7 +1,3 @@
-pub mod RowKeyLaws
-pub mod RowMoveLaws
 pub mod SoundLaws
-pub mod StoreTwiceLaws
-pub mod RunLaws
 pub mod Claims
 pub mod Determined

@@ -4,11 +4,10 @@ use mathlib.Core.Bool.{true, false}
 use mathlib.Core.List.{List, [], _∷_}
 use Prim.Native.Nat.{ℕ}
 use lib.ListN.{replicate}
-use Rattle.lists.specs.Part.{part, onto}
-use Rattle.lists.specs.Rows.{rowsOf, flat, store}
-use Rattle.keys.specs.declared.Found.the-variants.{At, Missing}
+use Rattle.lists.specs.Part.{part}
+use Rattle.lists.specs.Rows.{rowsOf}
 use Rattle.keys.specs.Keys.{cmp}
-use Rattle.keys.specs.Sorted.{risesFrom, sortedRows, lookupFrom, lookup, get, put, remove}
+use Rattle.keys.specs.Sorted.{risesFrom, sortedRows}
 use Rattle.table.specs.Rules.{room, allInRange, tableSound}
 
 -- three bytes are no room for a row; two rows and some bytes are room for two
@@ -22,26 +21,6 @@ unfolding tableSound room allInRange sortedRows rowsOf
 none-case = (refl, refl)
 
 -- short rows stand for rows here: each is its own key
-short : List (List ℕ)
-short = (1 ∷ 2 ∷ []) ∷ (3 ∷ 0 ∷ []) ∷ []
-
-sorted-case : (sortedRows short ≡ true) × (sortedRows ((3 ∷ []) ∷ (3 ∷ []) ∷ []) ≡ false)
-unfolding sortedRows risesFrom cmp part short
+sorted-case : (sortedRows ((1 ∷ 2 ∷ []) ∷ (3 ∷ 0 ∷ []) ∷ []) ≡ true) × (sortedRows ((3 ∷ []) ∷ (3 ∷ []) ∷ []) ≡ false)
+unfolding sortedRows risesFrom cmp part
 sorted-case = (refl, refl)
-
-lookup-case : (lookup (3 ∷ 0 ∷ []) short ≡ At 1) × (lookup (2 ∷ 9 ∷ []) short ≡ Missing 1)
-unfolding lookup lookupFrom cmp part short
-lookup-case = (refl, refl)
-
-put-case : put (2 ∷ 9 ∷ []) short ≡ (1 ∷ 2 ∷ []) ∷ (2 ∷ 9 ∷ []) ∷ (3 ∷ 0 ∷ []) ∷ []
-unfolding put cmp part short
-put-case = refl
-
-get-case : (get (3 ∷ 0 ∷ []) short ≡ 3 ∷ 0 ∷ []) × (get (2 ∷ []) short ≡ [])
-unfolding get cmp part short
-get-case = (refl, refl)
-
--- the row leaves, what stands behind it moves up, its old place becomes zero and the byte behind the rows stays
-remove-case : store 2 2 (remove (1 ∷ 2 ∷ []) (rowsOf 2 2 (1 ∷ 2 ∷ 3 ∷ 0 ∷ 5 ∷ []))) (1 ∷ 2 ∷ 3 ∷ 0 ∷ 5 ∷ []) ≡ 3 ∷ 0 ∷ 0 ∷ 0 ∷ 5 ∷ []
-unfolding remove cmp part rowsOf store onto flat
-remove-case = refl

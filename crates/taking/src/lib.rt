@@ -19,7 +19,7 @@ fn insert_new(t: &mut [u8], n: usize, i: usize, s: &[u8], at: usize)
     let mut row = [0u8; passage::ROW_WIDE];
     update::begin_row(&mut row, 0);
     update::apply_row(&mut row, 0, s, at);
-    table::insert_row(t, n, i, &row);
+    changing::insert_row(t, n, i, &row);
 }
 
 // The update whose body stands at `at` of s is taken into the n rows of t, where its key is found as f says; the new count.
@@ -50,7 +50,7 @@ pub fn take_row(t: &mut [u8], n: usize, s: &[u8], at: usize) -> usize
     ensures { λ r. ⌜ r ≡ length (taken rowRule (part at body-wide (now (s .entry))) (rowsOf row-wide n (now (t .entry)))) ⌝ }
     ensures { λ _. ⌜ now (t .exit) ≡ store row-wide n (taken rowRule (part at body-wide (now (s .entry))) (rowsOf row-wide n (now (t .entry)))) (now (t .entry)) ⌝ }
 {
-    let f = table::find(t, n, s, at);
+    let f = seeking::find(t, n, s, at);
     take_found(t, n, s, at, f)
 }
 
@@ -62,7 +62,7 @@ fn take_near(t: &mut [u8], n: usize, s: &[u8], at: usize, hint: usize) -> usize
     ensures { λ r. ⌜ r ≡ length (taken rowRule (part at body-wide (now (s .entry))) (rowsOf row-wide n (now (t .entry)))) ⌝ }
     ensures { λ _. ⌜ now (t .exit) ≡ store row-wide n (taken rowRule (part at body-wide (now (s .entry))) (rowsOf row-wide n (now (t .entry)))) (now (t .entry)) ⌝ }
 {
-    let f = table::find_near(t, n, s, at, hint);
+    let f = seeking::find_near(t, n, s, at, hint);
     take_found(t, n, s, at, f)
 }
 

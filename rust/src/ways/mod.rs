@@ -80,7 +80,7 @@ fn compare_key(a: &[u8], p: usize, b: &[u8], q: usize) -> Ordering {
     a[KEY - 1].cmp(&b[KEY - 1])
 }
 
-// `table`, `finding` and `sorting`: halving, over anything that has keys at places
+// `seeking`, `finding` and `sorting`: halving, over anything that has keys at places
 
 /// Where the key at q of k stands among n keys, or would be put.
 fn find(n: usize, s: &[u8], at: impl Fn(usize) -> usize, k: &[u8], q: usize) -> Result<usize, usize> {

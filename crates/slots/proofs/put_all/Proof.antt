@@ -4,7 +4,7 @@ use native.Mathlib.Omega.{arith}
 use borrow.Author.Needs.{needs}
 use lib.ListN.{length}
 use Rattle.table.specs.Rules.{rows}
-use Rattle.table.proofs.RunLaws.{holds-length, holds-fits, holds-sorted}
+use Rattle.changing.proofs.RunLaws.{holds-length, holds-fits, holds-sorted}
 use Rattle.passage.specs.Layout.{row-wide}
 use Rattle.slots.specs.Slots.{slot-wide, slotsOf, puts}
 use Rattle.slots.proofs.TableLaws.{Put, put-start, put-room, put-turn, puts-rises}

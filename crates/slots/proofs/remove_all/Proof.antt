@@ -3,7 +3,7 @@ use Prim.Native.Nat.{_-_, _≤_}
 use native.Mathlib.Omega.{arith}
 use borrow.Author.Needs.{needs}
 use Rattle.table.specs.Rules.{rows}
-use Rattle.table.proofs.RunLaws.{holds-length, holds-fits, holds-sorted}
+use Rattle.changing.proofs.RunLaws.{holds-length, holds-fits, holds-sorted}
 use Rattle.slots.specs.Slots.{slotsOf, removals}
 use Rattle.slots.proofs.TableLaws.{Removed, removed-start, removed-turn}
 use Rattle.slots.proofs.remove_all.Statement.{statement}

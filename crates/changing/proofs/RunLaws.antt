@@ -15,8 +15,8 @@ use Rattle.keys.specs.Sorted.{sortedRows, put, remove}
 use Rattle.keys.proofs.PutLaws.{sorted-put, sorted-remove}
 use Rattle.keys.proofs.EqualLaws.{Filled}
 use Rattle.keys.proofs.CountLaws.{put-least, remove-most, wide-put, wide-remove}
 use Rattle.table.specs.Rules.{rows}
-use Rattle.table.proofs.StoreTwiceLaws.{store-comes, store-leaves}
+use Rattle.changing.proofs.StoreTwiceLaws.{store-comes, store-leaves}
 
 -- rows of the table's width are not empty
 pub wide-filled : (rs : List (List ℕ)) → Wide row-wide rs → Filled rs

@@ -10,10 +10,10 @@ use Rattle.passage.specs.Layout.{key-wide, row-wide}
 use Rattle.keys.specs.declared.Found.the-variants.{At}
 use Rattle.keys.specs.Sorted.{lookup}
 use Rattle.keys.proofs.PutLaws.{remove-at, found-below}
 use Rattle.table.specs.Rules.{rows}
 use borrow.Author.Needs.{needs}
-use Rattle.table.proofs.remove_key.Statement.{statement}
-use Rattle.table.proofs.remove_key.Tie as tie
+use Rattle.changing.proofs.remove_key.Statement.{statement}
+use Rattle.changing.proofs.remove_key.Tie as tie
 
 find-requires : tie.Need-find-requires
 find-requires c κs = search needs

@@ -8,10 +8,10 @@ use Rattle.lists.specs.Part.{part}
 use Rattle.passage.specs.Layout.{keyOf, key-wide}
 use Rattle.keys.specs.Keys.{cmp}
 use Rattle.keys.proofs.FindLaws.{Seek, seek-end, seek-here, seek-up, seek-down}
 use Rattle.table.specs.Rules.{rows}
-use Rattle.table.proofs.RowKeyLaws.{key-at, seek-rows}
-use Rattle.table.proofs.find.Statement.{statement}
-use Rattle.table.proofs.find.Tie as tie
+use Rattle.seeking.proofs.RowKeyLaws.{key-at, seek-rows}
+use Rattle.seeking.proofs.find.Statement.{statement}
+use Rattle.seeking.proofs.find.Tie as tie
 
 abbrev Inv-loop : tie.InvT-loop
 Inv-loop t n k q lo₀ hi₀ lo hi = (hi ≤ n) × Seek (rows n t) (part q key-wide k) lo hi

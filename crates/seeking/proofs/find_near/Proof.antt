@@ -8,10 +8,10 @@ use Rattle.lists.specs.Part.{part}
 use Rattle.passage.specs.Layout.{keyOf, key-wide}
 use Rattle.keys.specs.Keys.{cmp}
 use Rattle.keys.proofs.FindLaws.{Seek, seek-end, seek-here, seek-up, seek-down}
 use Rattle.table.specs.Rules.{rows}
-use Rattle.table.proofs.RowKeyLaws.{key-at, seek-rows}
-use Rattle.table.proofs.find_near.Statement.{statement}
-use Rattle.table.proofs.find_near.Tie as tie
+use Rattle.seeking.proofs.RowKeyLaws.{key-at, seek-rows}
+use Rattle.seeking.proofs.find_near.Statement.{statement}
+use Rattle.seeking.proofs.find_near.Tie as tie
 
 abbrev Inv-loop : tie.InvT-loop
 Inv-loop t n k q hint low₀ high₀ wish₀ leap₀ next₀ low high wish leap next = (high ≤ n) × (leap ≤ n + 64) × (next ≤ n + 64) × Seek (rows n t) (part q key-wide k) low high

@@ -2,8 +2,8 @@ use mathlib.Core.Path.{_∙_}
 use Rattle.passage.specs.Layout.{row-wide}
 use Rattle.lists.proofs.RowWriteLaws.{store-replace}
 use borrow.Author.Needs.{needs}
-use Rattle.table.proofs.replace_row.Statement.{statement}
-use Rattle.table.proofs.replace_row.Tie as tie
+use Rattle.changing.proofs.replace_row.Statement.{statement}
+use Rattle.changing.proofs.replace_row.Tie as tie
 
 mul-copy-to : tie.Need-mul-copy-to
 mul-copy-to c = search needs

@@ -1,9 +1,9 @@
-use Rattle.table.proofs.RowMoveLaws.{move-in}
+use Rattle.changing.proofs.RowMoveLaws.{move-in}
 use mathlib.Core.Path.{_∙_}
 use native.Mathlib.Omega.{arith}
 use borrow.Author.Needs.{needs}
-use Rattle.table.proofs.insert_row.Statement.{statement}
-use Rattle.table.proofs.insert_row.Tie as tie
+use Rattle.changing.proofs.insert_row.Statement.{statement}
+use Rattle.changing.proofs.insert_row.Tie as tie
 
 mul-place : tie.Need-mul-place
 mul-place c = search needs

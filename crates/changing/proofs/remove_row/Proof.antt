@@ -1,8 +1,8 @@
-use Rattle.table.proofs.RowMoveLaws.{move-out}
+use Rattle.changing.proofs.RowMoveLaws.{move-out}
 use mathlib.Core.Path.{_∙_}
 use borrow.Author.Needs.{needs}
-use Rattle.table.proofs.remove_row.Statement.{statement}
-use Rattle.table.proofs.remove_row.Tie as tie
+use Rattle.changing.proofs.remove_row.Statement.{statement}
+use Rattle.changing.proofs.remove_row.Tie as tie
 
 mul-a : tie.Need-mul-a
 mul-a c = search needs

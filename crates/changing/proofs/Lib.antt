@@ -1,0 +1,5 @@
+pub mod RowMoveLaws
+pub mod StoreTwiceLaws
+pub mod RunLaws
+pub mod Claims
+pub mod Determined

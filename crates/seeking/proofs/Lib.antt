@@ -1,0 +1,3 @@
+pub mod RowKeyLaws
+pub mod Claims
+pub mod Determined
