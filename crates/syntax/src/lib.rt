@@ -1,6 +1,6 @@
 // The form of a turbo dossier: the states of a machine that reads it, and a check of a whole dossier that looks closely at loud bytes alone.
 ghost use mathlib.Core.Path.{_≡_};
-ghost use mathlib.Core.Bool.{Bool, true, false};
+ghost use mathlib.Core.Bool.{Bool, true};
 ghost use Prim.Native.Nat.{_+_, _≤_, _<_};
 ghost use lib.ListN.{length, drop, getD};
 ghost use Rattle.skips.specs.Quiet.{loud};
