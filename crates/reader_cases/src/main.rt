@@ -1,26 +1,18 @@
-// Runs dossiers, good and at fault, through the readers, and prints what is answered and what is staged.
-mod large;
-mod run;
+// Runs the dossiers of standard input, good and at fault, through the readers, and prints what is answered and what is staged.
+mod lines;
+mod rows;
 mod say;
 mod spell;
-mod vectors;
+mod text;
+
+// The buffers come as arrays of known size: so no proof has to count one through.
+fn run(input: &mut [u8; 40000], desk: &mut [u8; 66000]) {
+    let n = io::read_full(libc::STDIN_FILENO, input);
+    lines::run(text::part(input, 0, n), desk);
+}
 
 fn main() {
-    say::words(
-        b"\
-        In a vector / is CR LF, # is \\TDATEDPASSTIME with its line end, @xy the columns x to y of a list: with capitals of these names,\n\
-        A DataOwnerCode, B OperationDate, C LinePlanningNumber, D VehicleJourneyNumber, E FortifyOrderNumber, F UserStopCode,\n\
-        G UserStopOrderNumber, H DestinationCode, I LastUpdateTimeStamp, J TripStopStatus, K ExpectedArrivalTime,\n\
-        L ExpectedDepartureTime, M JourneyStopType, N ShowCancelledTrip, O ShowFlexibleTrip, P Monitored,\n\
-        Q LocalServiceLevelCode, R TargetArrivalTime, S TargetDepartureTime, with small letters of these fields,\n\
-        a CXX, b 2016-03-01, c A031, d 122, e 0, f S1, g 15, h CIOS, i 2016-03-01T15:15:30+01:00, j CANCEL, k 24:10:00,\n\
-        l 24:10:30, m INTERMEDIATE, n 1, o TRUE, p 0, q WEEK, r 24:05:00, s 24:05:30.\n\
-        A number before ^ is the size of the staging area; in the groups on senders it is a byte of sender and the register.\n",
-    );
-    vectors::form();
-    vectors::fields();
-    vectors::order();
-    vectors::senders();
-    vectors::plan();
-    large::sizes();
+    let mut input = [0u8; 40000];
+    let mut desk = [0u8; 66000];
+    run(&mut input, &mut desk);
 }

@@ -1,4 +1,4 @@
-// How answers are printed. Bytes outside 32 to 126 are written \xHH.
+// What is printed.
 use libc::STDOUT_FILENO;
 use reader::Answer;
 
@@ -15,41 +15,41 @@ pub fn hex(b: u8) {
     io::print_hex(STDOUT_FILENO, b as u64, 2);
 }
 
-fn byte(b: u8) {
-    if (b < 32) | (126 < b) {
-        words(b"\\x");
-        hex(b);
-        return;
-    }
-    let one = [b];
-    words(&one);
-}
-
-pub fn quoted(s: &[u8]) {
-    words(b"\"");
-    let mut i: usize = 0;
-    while i < s.len() {
-        byte(s[i]);
-        i += 1;
-    }
-    words(b"\"");
-}
-
 pub fn count(what: &[u8], n: usize) {
     words(what);
     io::print_decimal(STDOUT_FILENO, n as u64);
 }
 
-pub fn answer(a: Answer) {
+struct Three {
+    word: usize,
+    a: usize,
+    column: usize,
+}
+
+fn of(word: usize, a: usize, column: usize) -> Three {
+    Three { word, a, column }
+}
+
+// Which word, the number behind it, and a column if any.
+fn told(a: Answer) -> Three {
     match a {
-        Answer::TooLong => words(b" -> 2"),
-        Answer::Syntax(i) => count(b" -> 3 at ", i),
-        Answer::Form(l) => count(b" -> 4 line ", l),
-        Answer::Field(l, c) => {
-            count(b" -> 5 line ", l);
-            count(b" column ", c);
-        }
-        Answer::Owner(l) => count(b" -> 6 line ", l),
-        Answer::Rows(n) => count(b" -> rows ", n),
+        Answer::TooLong => of(0, 2, 0),
+        Answer::Syntax(i) => of(1, i, 0),
+        Answer::Form(l) => of(2, l, 0),
+        Answer::Field(l, c) => of(3, l, c),
+        Answer::Owner(l) => of(4, l, 0),
+        Answer::Rows(n) => of(5, n, 0),
+    }
+}
+
+pub fn answer(a: Answer) {
+    let t = told(a);
+    let word = turbo::field_of(
+        b" -> | -> 3 at | -> 4 line | -> 5 line | -> 6 line | -> rows ",
+        t.word,
+    );
+    count(word, t.a);
+    if 0 < t.column {
+        count(b" column ", t.column);
     }
 }

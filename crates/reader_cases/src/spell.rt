@@ -1,10 +1,10 @@
-// How a vector is spelled out to a dossier: `/` is CR LF, `#` the line of a message's table, `@xy` the columns x to y of a list.
-use crate::say;
+// How a vector is spelled out: `@xy` is the columns x to y of a list, `/` CR LF, `#` the line of a message's table, `%HH` a byte.
+use crate::text;
 ghost use Prim.Native.Nat.{_≤_, _<_};
 ghost use lib.ListN.{length};
 
 // What is put at n, where it fits; the place behind it.
-pub fn put(d: &mut [u8], n: usize, s: &[u8]) -> usize {
+fn put(d: &mut [u8], n: usize, s: &[u8]) -> usize {
     if d.len() < n {
         return n;
     }
@@ -15,92 +15,55 @@ pub fn put(d: &mut [u8], n: usize, s: &[u8]) -> usize {
     n + s.len()
 }
 
-// Columns a to b of a list, b left out, each with its bar.
-fn some(d: &mut [u8], n: usize, list: &[u8], a: usize, b: usize) -> usize {
-    let t = turbo::rest_after_bars(list, a);
-    let u = turbo::rest_after_bars(list, b);
-    if t.len() < u.len() {
-        return n;
-    }
-    let k = t.len() - u.len();
-    put(d, n, &t[0..k])
+fn byte(d: &mut [u8], n: usize, b: u8) -> usize {
+    let one = [b];
+    put(d, n, &one)
 }
 
-fn names(d: &mut [u8], n: usize, a: usize, b: usize) -> usize {
-    some(
-        d,
-        n,
-        b"\
+// Columns a to b of a list, b left out, with the bars between them.
+fn columns(list: &[u8], a: usize, b: usize) -> &[u8] {
+    let t = turbo::rest_after_bars(list, a);
+    let u = turbo::rest_after_bars(list, b);
+    if t.len() <= u.len() {
+        return &t[0..0];
+    }
+    text::part(t, 0, t.len() - u.len() - 1)
+}
+
+// The list has a column for each character from `#` on: `/` and `#` too, A to S are names, a to s are fields.
+fn listed(d: &mut [u8], n: usize, x: u8, y: u8) -> usize {
+    let a = (x as usize + 221) % 256;
+    let b = (y as usize + 222) % 256;
+    let all = b"\
+        \\TDATEDPASSTIME\r\n||||||||||||\r\n||||||||||||||||||\
         DataOwnerCode|OperationDate|LinePlanningNumber|VehicleJourneyNumber|FortifyOrderNumber|UserStopCode|\
         UserStopOrderNumber|DestinationCode|LastUpdateTimeStamp|TripStopStatus|ExpectedArrivalTime|\
         ExpectedDepartureTime|JourneyStopType|ShowCancelledTrip|ShowFlexibleTrip|Monitored|\
-        LocalServiceLevelCode|TargetArrivalTime|TargetDepartureTime|",
-        a,
-        b,
-    )
-}
-
-fn values(d: &mut [u8], n: usize, a: usize, b: usize) -> usize {
-    some(
-        d,
-        n,
-        b"\
+        LocalServiceLevelCode|TargetArrivalTime|TargetDepartureTime||||||||||||||\
         CXX|2016-03-01|A031|122|0|S1|15|CIOS|2016-03-01T15:15:30+01:00|CANCEL|24:10:00|24:10:30|INTERMEDIATE|1|TRUE|0|\
-        WEEK|24:05:00|24:05:30|",
-        a,
-        b,
-    )
+        WEEK|24:05:00|24:05:30|";
+    put(d, n, columns(all, a, b))
 }
 
-fn columns(d: &mut [u8], n: usize, x: u8, y: u8) -> usize {
-    let a = x as usize;
-    let b = y as usize;
-    if a < 65 {
-        return n;
-    }
-    if b < a {
-        return n;
-    }
-    if a < 97 {
-        return names(d, n, a - 65, b - 64);
-    }
-    values(d, n, a - 97, b - 96)
+// The byte of two hexadecimal digits.
+fn both(x: u8, y: u8) -> u8 {
+    (x % 16 + x / 64 * 9) % 16 * 16 + (y % 16 + y / 64 * 9) % 16
 }
 
-// The same without the last bar.
-fn between(d: &mut [u8], n: usize, x: u8, y: u8) -> usize {
-    let e = columns(d, n, x, y);
-    if n < e {
-        return e - 1;
+fn unit(d: &mut [u8], n: usize, b: u8, x: u8, y: u8) -> usize {
+    match b {
+        b'@' => listed(d, n, x, y),
+        b'/' | b'#' => listed(d, n, b, b),
+        b'%' => byte(d, n, both(x, y)),
+        _ => byte(d, n, b),
     }
-    n
 }
 
-// How many bytes of the vector go together.
-fn next(t: &[u8]) -> usize
-    requires { ⌜ 0 < length (now t) ⌝ }
-    ensures some { λ r. ⌜ 0 < r ⌝ }
-    ensures within { λ r. ⌜ r ≤ length (now (t .entry)) ⌝ }
-{
-    if t[0] == b'@' {
-        if 2 < t.len() {
-            return 3;
-        }
-    }
-    1
-}
-
-fn part(d: &mut [u8], n: usize, p: &[u8]) -> usize {
-    if 2 < p.len() {
-        return between(d, n, p[1], p[2]);
-    }
-    if p.len() < 1 {
-        return n;
-    }
-    match p[0] {
-        b'/' => put(d, n, b"\r\n"),
-        b'#' => put(d, n, b"\\TDATEDPASSTIME\r\n"),
-        _ => put(d, n, p),
+// How many bytes belong to the first.
+fn more(b: u8) -> usize {
+    match b {
+        b'@' | b'%' => 2,
+        _ => 0,
     }
 }
 
@@ -109,37 +72,10 @@ pub fn out(d: &mut [u8], from: usize, v: &[u8]) -> usize {
     let mut n = from;
     let mut t = v;
     while 0 < t.len() {
-        let k = next(t);
-        n = part(d, n, &t[0..k]);
-        t = &t[k..];
+        let b = t[0];
+        n = unit(d, n, b, text::at(t, 1), text::at(t, 2));
+        let u = text::after(t, more(b));
+        t = u;
     }
     n
-}
-
-// A message of one row, in which the field of the column with this letter is another. The first and the last column are unwanted.
-pub fn with_field(d: &mut [u8], letter: u8, field: &[u8]) -> usize {
-    let x = letter as usize;
-    if x < 97 {
-        return 0;
-    }
-    let c = x - 97;
-    let labels = out(d, 0, b"\\G/#\\L|@AP|/|");
-    let before = values(d, labels, 0, c);
-    let here = put(d, before, field);
-    let bar = put(d, here, b"|");
-    let after = values(d, bar, c + 1, 16);
-    put(d, after, b"\r\n")
-}
-
-// The name of the column with this letter.
-pub fn name(c: u8) {
-    let mut d = [0u8; 64];
-    if c < 97 {
-        return;
-    }
-    let n = between(&mut d, 0, c - 32, c - 32);
-    if 64 < n {
-        return;
-    }
-    say::words(&d[0..n]);
 }

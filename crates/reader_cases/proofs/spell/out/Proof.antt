@@ -16,29 +16,23 @@ abbrev μ-loop : tie.MeasureT-loop
 loop-holds : tie.Need-loop-holds Inv-loop μ-loop
 loop-holds c = omega arith
 
-next-requires : tie.Need-next-requires Inv-loop μ-loop
-next-requires c κs = search needs
+shared-slice-read-b : tie.Need-shared-slice-read-b Inv-loop μ-loop
+shared-slice-read-b c = search needs
 
-sub-part : tie.Need-sub-part Inv-loop μ-loop
-sub-part c = omega arith
+at-requires : tie.Need-at-requires Inv-loop μ-loop
+at-requires c κs = tt
 
-part-part-start : tie.Need-part-part-start Inv-loop μ-loop
-part-part-start c = search needs
+at-requires-2 : tie.Need-at-requires-2 Inv-loop μ-loop
+at-requires-2 c κs = tt
 
-part-part-end : tie.Need-part-part-end Inv-loop μ-loop
-part-part-end c = search needs
+unit-requires : tie.Need-unit-requires Inv-loop μ-loop
+unit-requires c κs = tt
 
-part-requires : tie.Need-part-requires Inv-loop μ-loop
-part-requires c κs = tt
+more-requires : tie.Need-more-requires Inv-loop μ-loop
+more-requires c κs = tt
 
-sub-t : tie.Need-sub-t Inv-loop μ-loop
-sub-t c = omega arith
-
-part-t-start : tie.Need-part-t-start Inv-loop μ-loop
-part-t-start c = search needs
-
-part-t-end : tie.Need-part-t-end Inv-loop μ-loop
-part-t-end c = search needs
+after-requires : tie.Need-after-requires Inv-loop μ-loop
+after-requires c κs = tt
 
 loop-less : tie.Need-loop-less Inv-loop μ-loop
 loop-less c = omega arith
@@ -59,14 +53,12 @@ out-spec =
     Inv-loop
     μ-loop
     loop-holds
-    next-requires
-    sub-part
-    part-part-start
-    part-part-end
-    part-requires
-    sub-t
-    part-t-start
-    part-t-end
+    shared-slice-read-b
+    at-requires
+    at-requires-2
+    unit-requires
+    more-requires
+    after-requires
     loop-less
     loop-again
     same-length

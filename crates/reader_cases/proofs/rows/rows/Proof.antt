@@ -1,10 +1,10 @@
--- `run::rows` is safe and ends. A row has some width. Assumes nothing.
+-- `rows::rows` is safe and ends. A row has some width. Assumes nothing.
 use native.Mathlib.Omega.{arith}
 use Prim.Native.Nat.{_-_, _≤_, _<_}
 use lib.ListN.{length}
 use borrow.Author.Needs.{needs}
-use Rattle.reader_cases.proofs.run.rows.Statement.{statement}
-use Rattle.reader_cases.proofs.run.rows.Tie as tie
+use Rattle.reader_cases.proofs.rows.rows.Statement.{statement}
+use Rattle.reader_cases.proofs.rows.rows.Tie as tie
 
 abbrev Inv-loop : tie.InvT-loop
 Inv-loop r s w i₀ i = (i ≤ length s) × (0 < w)

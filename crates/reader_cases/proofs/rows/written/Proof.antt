@@ -1,10 +1,10 @@
--- `run::written` is safe and ends: n falls to 0. Assumes nothing.
+-- `rows::written` is safe and ends: n falls to 0. Assumes nothing.
 use native.Mathlib.Omega.{arith}
 use Prim.Native.Nat.{_≤_}
 use lib.ListN.{length}
 use borrow.Author.Needs.{needs}
-use Rattle.reader_cases.proofs.run.written.Statement.{statement}
-use Rattle.reader_cases.proofs.run.written.Tie as tie
+use Rattle.reader_cases.proofs.rows.written.Statement.{statement}
+use Rattle.reader_cases.proofs.rows.written.Tie as tie
 
 abbrev Inv-loop : tie.InvT-loop
 Inv-loop area n₀ n = n ≤ length area
