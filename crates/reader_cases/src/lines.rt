@@ -23,14 +23,15 @@ struct Job {
 // On the desk stands a sender with the register, and the dossier from here on.
 const DOSSIER: usize = 400;
 
-fn number(s: &[u8], other: usize) -> usize {
+// The size of the staging area, ten rows of a message where none is given.
+fn size(s: &[u8]) -> usize {
     match fields::read_number(s, 5) {
         Number::Is(n) => n as usize,
-        Number::Wrong => other,
+        Number::Wrong => 660,
     }
 }
 
-// With S they stand before ^. Else sender 1 may send for CXX.
+// Sender and register: with S they stand before ^, else sender 1 may send for CXX.
 fn who(desk: &mut [u8], letter: u8, head: &[u8]) -> usize {
     if letter == b'S' {
         return spell::out(desk, 0, head);
@@ -38,13 +39,13 @@ fn who(desk: &mut [u8], letter: u8, head: &[u8]) -> usize {
     spell::out(desk, 0, b"%01%01CXX%00%00%00%00%00%00%00")
 }
 
-// A vector laid on the desk. Where no ^ stands in it, no number does, and all is dossier.
+// A vector laid on the desk. Where it has no ^ all is dossier, and its bytes are no number.
 fn laid(line: &[u8], desk: &mut [u8], h: Held) -> Job {
     let n = turbo::find(line, b'^');
     let head = text::part(line, 0, n);
     let who = who(desk, h.letter, head);
     let end = spell::out(desk, h.end, text::past(line, n));
-    let size = number(head, 660);
+    let size = size(head);
     Job {
         letter: h.letter,
         who,
@@ -53,7 +54,7 @@ fn laid(line: &[u8], desk: &mut [u8], h: Held) -> Job {
     }
 }
 
-// With M and m messages are read, with P and p the planning, with C and c the calendar.
+// P and p read the planning, C and c the calendar, the others messages.
 fn read(desk: &[u8], area: &mut [u8], j: Job) -> Answer {
     let d = text::part(desk, DOSSIER, j.end);
     let letter = j.letter;
@@ -64,17 +65,14 @@ fn read(desk: &[u8], area: &mut [u8], j: Job) -> Answer {
     }
 }
 
-fn told(desk: &[u8], area: &mut [u8], j: Job) {
-    say::answer(read(desk, area, j));
-    rows::left(j.letter, area);
-}
-
-fn in_room(desk: &[u8], room: &mut [u8], j: Job) {
-    told(desk, text::front(room, j.size), j);
+// Of the room so much is lent as is asked for, and all is looked at.
+fn told(desk: &[u8], room: &mut [u8], j: Job) {
+    say::answer(read(desk, text::front(room, j.size), j));
+    rows::left(j.letter, room);
 }
 
 fn lend(desk: &[u8], room: &mut [u8; 41778], j: Job) {
-    in_room(desk, room, j);
+    told(desk, room, j);
 }
 
 fn ask(desk: &[u8], j: Job) {
@@ -95,32 +93,14 @@ fn group(line: &[u8]) -> u8 {
     text::at(line, 1)
 }
 
-// The text, so many times.
-fn times(desk: &mut [u8], from: usize, many: usize, t: &[u8]) -> usize {
-    let mut n = from;
-    let mut left = many;
-    while 0 < left {
-        n = spell::out(desk, n, t);
-        left -= 1;
-    }
-    n
-}
-
-// `+9 text` puts a text nine times behind what is held.
-fn hold(line: &[u8], desk: &mut [u8], end: usize) -> usize {
-    let n = turbo::find(line, b' ');
-    let many = number(text::part(line, 1, n), 1);
-    times(desk, end, many, text::after(line, n))
-}
-
-// A vector's dossier stands behind what is held; `-` empties that. `#` is a heading.
+// A vector's dossier stands behind what is held: `+` puts more there, `-` empties it. `#` is a heading.
 fn one(line: &[u8], desk: &mut [u8], h: Held) -> Held {
     let mut n = h;
     let mark = text::at(line, 0);
     match mark {
         b'=' => n.letter = group(line),
         b'#' => say::line(line),
-        b'+' => n.end = hold(line, desk, h.end),
+        b'+' => n.end = spell::out(desk, h.end, text::after(line, 0)),
         b'-' => n.end = DOSSIER,
         _ => vector(line, desk, h),
     }

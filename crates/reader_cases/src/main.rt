@@ -6,13 +6,13 @@ mod spell;
 mod text;
 
 // The buffers come as arrays of known size: so no proof has to count one through.
-fn run(input: &mut [u8; 40000], desk: &mut [u8; 66000]) {
+fn run(input: &mut [u8; 60000], desk: &mut [u8; 66000]) {
     let n = io::read_full(libc::STDIN_FILENO, input);
     lines::run(text::part(input, 0, n), desk);
 }
 
 fn main() {
-    let mut input = [0u8; 40000];
+    let mut input = [0u8; 60000];
     let mut desk = [0u8; 66000];
     run(&mut input, &mut desk);
 }

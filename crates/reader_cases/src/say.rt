@@ -26,19 +26,39 @@ struct Three {
     column: usize,
 }
 
-fn of(word: usize, a: usize, column: usize) -> Three {
-    Three { word, a, column }
-}
-
 // Which word, the number behind it, and a column if any.
 fn told(a: Answer) -> Three {
     match a {
-        Answer::TooLong => of(0, 2, 0),
-        Answer::Syntax(i) => of(1, i, 0),
-        Answer::Form(l) => of(2, l, 0),
-        Answer::Field(l, c) => of(3, l, c),
-        Answer::Owner(l) => of(4, l, 0),
-        Answer::Rows(n) => of(5, n, 0),
+        Answer::TooLong => Three {
+            word: 0,
+            a: 2,
+            column: 0,
+        },
+        Answer::Syntax(i) => Three {
+            word: 1,
+            a: i,
+            column: 0,
+        },
+        Answer::Form(l) => Three {
+            word: 2,
+            a: l,
+            column: 0,
+        },
+        Answer::Field(l, c) => Three {
+            word: 3,
+            a: l,
+            column: c,
+        },
+        Answer::Owner(l) => Three {
+            word: 4,
+            a: l,
+            column: 0,
+        },
+        Answer::Rows(n) => Three {
+            word: 5,
+            a: n,
+            column: 0,
+        },
     }
 }
 

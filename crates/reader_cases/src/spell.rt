@@ -1,7 +1,5 @@
 // How a vector is spelled out: `@xy` is the columns x to y of a list, `/` CR LF, `#` the line of a message's table, `%HH` a byte.
 use crate::text;
-ghost use Prim.Native.Nat.{_≤_, _<_};
-ghost use lib.ListN.{length};
 
 // What is put at n, where it fits; the place behind it.
 fn put(d: &mut [u8], n: usize, s: &[u8]) -> usize {
@@ -30,7 +28,7 @@ fn columns(list: &[u8], a: usize, b: usize) -> &[u8] {
     text::part(t, 0, t.len() - u.len() - 1)
 }
 
-// The list has a column for each character from `#` on: `/` and `#` too, A to S are names, a to s are fields.
+// The list has a column for each character from `#` on: those of `#` and `/`, A to S the names, a to s the fields.
 fn listed(d: &mut [u8], n: usize, x: u8, y: u8) -> usize {
     let a = (x as usize + 221) % 256;
     let b = (y as usize + 222) % 256;
@@ -45,21 +43,23 @@ fn listed(d: &mut [u8], n: usize, x: u8, y: u8) -> usize {
     put(d, n, columns(all, a, b))
 }
 
-// The byte of two hexadecimal digits.
-fn both(x: u8, y: u8) -> u8 {
-    (x % 16 + x / 64 * 9) % 16 * 16 + (y % 16 + y / 64 * 9) % 16
+// A byte as it stands, or that of two hexadecimal digits.
+fn value(b: u8, x: u8, y: u8) -> u8 {
+    if b == b'%' {
+        return (x % 16 + x / 64 * 9) % 16 * 16 + (y % 16 + y / 64 * 9) % 16;
+    }
+    b
 }
 
 fn unit(d: &mut [u8], n: usize, b: u8, x: u8, y: u8) -> usize {
     match b {
         b'@' => listed(d, n, x, y),
         b'/' | b'#' => listed(d, n, b, b),
-        b'%' => byte(d, n, both(x, y)),
-        _ => byte(d, n, b),
+        _ => byte(d, n, value(b, x, y)),
     }
 }
 
-// How many bytes belong to the first.
+// How many bytes belong to this one.
 fn more(b: u8) -> usize {
     match b {
         b'@' | b'%' => 2,
