@@ -1,159 +1,63 @@
-// A good dossier, damaged at each of its places.
+// A good dossier with every value at one of its places.
 use crate::form;
+use crate::parts;
 use crate::say;
-use syntax::Verdict;
+use crate::text;
 
-fn early_end(d: &[u8], n: usize) {
-    if d.len() < n {
-        return;
-    }
-    say::words(b"\nfirst");
-    say::size(n);
-    say::words(b":");
-    form::told(&d[0..n]);
+// Values with one verdict, from one on.
+struct Run {
+    from: usize,
+    verdict: usize,
 }
 
-// The dossier cut after each of its bytes.
-pub fn early_ends(d: &[u8]) {
-    let mut n: usize = 0;
-    while n < d.len() {
-        early_end(d, n);
-        n += 1;
-    }
-    early_end(d, n);
+// The verdict on the dossier of BEFORE^DOSSIER with b for `&`.
+fn changed(line: &[u8], b: u8, room: &mut [u8]) -> usize {
+    form::judged(parts::tail(text::vector(line, b, room)))
 }
 
-// The verdict with b at place `at`.
-fn changed(d: &[u8], at: usize, b: u8) -> Verdict {
-    let n = d.len();
-    if 64 < n {
-        return Verdict::FaultAt(64);
-    }
-    if n <= at {
-        return Verdict::FaultAt(n);
-    }
-    let one = [b];
-    let mut t = [0u8; 64];
-    lists::copy_to(&mut t, 0, d);
-    lists::copy_to(&mut t, at, &one);
-    form::judged(&t[0..n])
-}
-
-// Whether the value after b has another verdict.
-fn run_ends(d: &[u8], at: usize, b: u32) -> bool {
-    if 255 <= b {
-        return true;
-    }
-    let x = b as u8;
-    let v = changed(d, at, x);
-    let w = changed(d, at, x + 1);
-    !form::same_verdict(v, w)
-}
-
-// The values from a to b have one verdict.
-fn run(d: &[u8], at: usize, a: u32, b: u32) {
-    if 255 < b {
-        return;
-    }
-    say::small(a);
-    if a < b {
-        say::words(b" to");
-        say::small(b);
-    }
-    let x = b as u8;
-    say::verdict(changed(d, at, x));
-    say::words(b";");
-}
-
-// Every value at place `at`.
-fn every_value(d: &[u8], at: usize) {
-    say::words(b"\nplace");
-    say::size(at);
-    say::words(b":");
-    let mut a: u32 = 0;
-    let mut b: u32 = 0;
-    while b < 256 {
-        if run_ends(d, at, b) {
-            run(d, at, a, b);
-            a = b + 1;
-        }
-        b += 1;
+fn up_to(from: usize, last: usize) {
+    if from < last {
+        say::phrase(say::TO);
+        say::size(last);
     }
 }
 
-pub fn every_place(d: &[u8]) {
-    let mut at: usize = 0;
-    while at < d.len() {
-        every_value(d, at);
-        at += 1;
+fn told(r: Run, last: u8) {
+    say::size(r.from);
+    up_to(r.from, last as usize);
+    form::verdict(r.verdict);
+    say::phrase(say::NEXT);
+}
+
+// The value after `last` has the verdict v.
+fn step(r: Run, last: u8, v: usize) -> Run {
+    if r.verdict == v {
+        return r;
+    }
+    told(r, last);
+    Run {
+        from: last as usize + 1,
+        verdict: v,
     }
 }
 
-// The dossier with `\0` put in at a place.
-fn with_null(d: &[u8], at: usize) {
-    let n = d.len();
-    if 60 < n {
-        return;
+fn every_value(line: &[u8], room: &mut [u8]) {
+    let mut r = Run {
+        from: 0,
+        verdict: changed(line, 0, room),
+    };
+    let mut last: u8 = 0;
+    while last < 255 {
+        let v = changed(line, last + 1, room);
+        r = step(r, last, v);
+        last += 1;
     }
-    if n < at {
-        return;
-    }
-    let mut t = [0u8; 64];
-    lists::copy_to(&mut t, 0, &d[0..at]);
-    lists::copy_to(&mut t, at, b"\\0");
-    lists::copy_to(&mut t, at + 2, &d[at..n]);
-    say::words(b"\n");
-    let w = &t[0..n + 2];
-    say::quoted(w);
-    form::told(w);
+    told(r, last);
 }
 
-pub fn nulls(d: &[u8]) {
-    let mut at: usize = 0;
-    while at < d.len() {
-        with_null(d, at);
-        at += 1;
-    }
-    with_null(d, at);
-}
-
-// b at each place of a long line: its bytes are passed sixteen at a time.
-fn along(b: u8) {
-    let d = b"\\Gqqqqqqqqqqqqqqqqqqqqqqqqqqqqqqqqqqqqqqqqqqqqqqqqqqqqqqqqqqqq\r\n";
-    let mut at: usize = 0;
-    while at < 64 {
-        say::short(changed(d, at, b));
-        at += 1;
-    }
-}
-
-pub fn along_a_line(v: &[u8]) {
-    if v.len() != 1 {
-        return;
-    }
-    along(v[0]);
-}
-
-// One line, whole and without its last byte.
-fn long_line(d: &mut [u8]) {
-    let n = d.len();
-    if n < 4 {
-        return;
-    }
-    lists::copy_to(d, 0, b"\\G");
-    lists::copy_to(d, n - 2, b"\r\n");
-    say::words(b"a group line of");
-    say::size(n);
-    form::told(&d[..]);
-    say::words(b"; without its LF");
-    form::told(&d[0..n - 1]);
-    say::words(b"\n");
-}
-
-// The largest dossier that a call takes, and a byte more: the form has no limit.
-pub fn sizes() {
-    let mut d = [b'a'; 65537];
-    say::words(b"== damage: sizes\n");
-    long_line(&mut d);
-    long_line(&mut d[0..65536]);
+// BEFORE^DOSSIER: the text, and the verdicts with every value for `&`.
+pub fn values(line: &[u8], room: &mut [u8]) {
+    say::words(parts::head(text::vector(line, 0, room)));
+    every_value(line, room);
+    say::phrase(say::END);
 }

@@ -7,19 +7,16 @@ use fields::Time;
 
 fn date(n: u32) {
     if clock::is_date(n) {
-        say::words(b" day");
+        say::phrase(say::DAY);
         say::small(clock::day_count(n));
     } else {
-        say::words(b" no date");
+        say::phrase(say::NO_DATE);
     }
 }
 
 // A date as a number.
 pub fn day(v: &[u8]) {
-    match fields::read_number(v, 9) {
-        Number::Is(n) => date(n),
-        Number::Wrong => say::words(b" no number"),
-    }
+    date(parts::count(v) as u32);
 }
 
 // A date as a number that is written in two parts.
@@ -36,13 +33,17 @@ fn at(d: u32, s: OperatingSeconds) {
     }
 }
 
+fn on(d: u32, t: Time) {
+    match t {
+        Time::Is(s) => at(d, s),
+        Time::Wrong => say::phrase(say::NO_TIME),
+    }
+}
+
 // DATE^TIME: the moment on the clock.
 pub fn moment(v: &[u8]) {
     match fields::read_date(parts::head(v)) {
-        Number::Is(d) => match fields::read_time(parts::tail(v)) {
-            Time::Is(s) => at(d, s),
-            Time::Wrong => say::words(b" no time"),
-        },
-        Number::Wrong => say::words(b" no date"),
+        Number::Is(d) => on(d, fields::read_time(parts::tail(v))),
+        Number::Wrong => say::phrase(say::NO_DATE),
     }
 }

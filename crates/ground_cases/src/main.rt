@@ -7,16 +7,18 @@ mod names;
 mod parts;
 mod run;
 mod say;
+mod text;
 mod types;
-mod vectors;
 mod walk;
 
+// The buffers come as arrays of known size: so no proof has to count one through.
+fn start(input: &mut [u8; 60000], room: &mut [u8; 66000]) {
+    let n = io::read_full(libc::STDIN_FILENO, input);
+    run::each(text::front(input, n), room);
+}
+
 fn main() {
-    vectors::form();
-    vectors::damage();
-    damage::sizes();
-    vectors::walk();
-    names::escapes();
-    vectors::types();
-    vectors::moves();
+    let mut input = [0u8; 60000];
+    let mut room = [0u8; 66000];
+    start(&mut input, &mut room);
 }

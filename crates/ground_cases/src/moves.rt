@@ -1,95 +1,104 @@
 // Bytes that are compared, moved and read as numbers. The moves start from `abcdefgh`.
 use crate::parts;
 use crate::say;
+ghost use Prim.Native.Nat.{_≤_};
+
+// The numbers of a vector of two or three parts.
+struct Numbers {
+    a: usize,
+    b: usize,
+    c: usize,
+}
+
+fn three(v: &[u8]) -> Numbers {
+    let rest = parts::tail(v);
+    Numbers {
+        a: parts::count(parts::head(v)),
+        b: parts::count(parts::head(rest)),
+        c: parts::count(parts::tail(rest)),
+    }
+}
 
 // A^B
 pub fn same(v: &[u8]) {
-    if lists::same_bytes(parts::head(v), parts::tail(v)) {
-        say::words(b" same");
-    } else {
-        say::words(b" other");
+    say::either(
+        lists::same_bytes(parts::head(v), parts::tail(v)),
+        say::SAME,
+        say::OTHER,
+    );
+}
+
+fn within(n: usize, most: usize) -> usize
+    ensures { λ r. ⌜ r ≤ most ⌝ }
+{
+    if most < n {
+        return most;
     }
+    n
 }
 
 // AT^BYTES
-pub fn copy(v: &[u8]) {
-    let a = parts::count(parts::head(v));
-    let b = parts::tail(v);
-    if 8 < a {
-        return;
+fn copy(s: &mut [u8; 8], at: usize, b: &[u8]) {
+    if b.len() <= 8 {
+        lists::copy_to(s, within(at, 8 - b.len()), b);
     }
-    if 8 - a < b.len() {
-        return;
-    }
-    let mut s = [97u8, 98, 99, 100, 101, 102, 103, 104];
-    lists::copy_to(&mut s, a, b);
-    say::text(&s);
 }
 
 // AT^COUNT
-pub fn clear(v: &[u8]) {
-    let a = parts::count(parts::head(v));
-    let n = parts::count(parts::tail(v));
-    if 8 < a {
-        return;
-    }
-    if 8 - a < n {
-        return;
-    }
-    let mut s = [97u8, 98, 99, 100, 101, 102, 103, 104];
-    lists::clear(&mut s, a, n);
-    say::text(&s);
+fn clear(s: &mut [u8; 8], t: Numbers) {
+    let a = within(t.a, 8);
+    let n = within(t.b, 8 - a);
+    lists::clear(s, a, n);
 }
 
 // FROM^END^BY
-pub fn up(v: &[u8]) {
-    let rest = parts::tail(v);
-    let a = parts::count(parts::head(v));
-    let e = parts::count(parts::head(rest));
-    let by = parts::count(parts::tail(rest));
-    if e < a {
-        return;
-    }
-    if 8 < e {
-        return;
-    }
-    if 8 - e < by {
-        return;
-    }
-    let mut s = [97u8, 98, 99, 100, 101, 102, 103, 104];
-    lists::shift_up(&mut s, a, e, by);
-    say::text(&s);
+fn up(s: &mut [u8; 8], t: Numbers) {
+    let e = within(t.b, 8);
+    let a = within(t.a, e);
+    let by = within(t.c, 8 - e);
+    lists::shift_up(s, a, e, by);
 }
 
 // TO^COUNT^BY
-pub fn down(v: &[u8]) {
-    let rest = parts::tail(v);
-    let a = parts::count(parts::head(v));
-    let n = parts::count(parts::head(rest));
-    let by = parts::count(parts::tail(rest));
-    if 8 < a {
-        return;
+fn down(s: &mut [u8; 8], t: Numbers) {
+    let a = within(t.a, 8);
+    let by = within(t.c, 8 - a);
+    let n = within(t.b, 8 - a - by);
+    lists::shift_down(s, a, n, by);
+}
+
+fn shift(r: u8, s: &mut [u8; 8], t: Numbers, b: &[u8]) {
+    match r {
+        b'w' => copy(s, t.a, b),
+        b'x' => clear(s, t),
+        b'y' => up(s, t),
+        _ => down(s, t),
     }
-    if 8 - a < by {
-        return;
-    }
-    if 8 - a - by < n {
-        return;
-    }
+}
+
+fn shifted(r: u8, s: &mut [u8; 8], t: Numbers, b: &[u8]) {
+    shift(r, s, t, b);
+    say::text(s);
+}
+
+pub fn moved(r: u8, v: &[u8]) {
     let mut s = [97u8, 98, 99, 100, 101, 102, 103, 104];
-    lists::shift_down(&mut s, a, n, by);
-    say::text(&s);
+    shifted(r, &mut s, three(v), parts::tail(v));
+}
+
+fn round(s: &mut [u8; 6], w: usize, n: u32) {
+    let k = within(w, 4);
+    lists::put_number(s, 1, k, n);
+    say::text(s);
+    say::small(lists::get_number(s, 1, k));
 }
 
 // BYTES^NUMBER
 pub fn number(v: &[u8]) {
-    let w = parts::count(parts::head(v));
-    let n = parts::large(parts::tail(v));
-    if 4 < w {
-        return;
-    }
     let mut s = [97u8, 98, 99, 100, 101, 102];
-    lists::put_number(&mut s, 1, w, n);
-    say::text(&s);
-    say::small(lists::get_number(&s, 1, w));
+    round(
+        &mut s,
+        parts::count(parts::head(v)),
+        parts::large(parts::tail(v)),
+    );
 }

@@ -1,6 +1,8 @@
 // The search for columns, and escapes.
 use crate::parts;
 use crate::say;
+use crate::text;
+use labels::Columns;
 
 // NAME^LABELS^LINE: the column, and the field there.
 pub fn lookup(v: &[u8]) {
@@ -9,8 +11,7 @@ pub fn lookup(v: &[u8]) {
     let labels = parts::head(rest);
     let line = parts::tail(rest);
     say::size(labels::column_of(labels, name));
-    let f = labels::lookup(line, labels, name);
-    say::text(f);
+    say::text(labels::lookup(line, labels, name));
 }
 
 fn places(p: &[usize; 20]) {
@@ -21,39 +22,37 @@ fn places(p: &[usize; 20]) {
     }
 }
 
-// WANTED^LABELS: whether a wanted name stands twice, and all twenty places.
-pub fn columns(v: &[u8]) {
-    let wanted = parts::head(v);
-    let labels = parts::tail(v);
-    if 20 < bars::count_fields(wanted) {
-        say::words(b" more than 20 names");
-        return;
-    }
-    let c = labels::find_columns(wanted, labels);
+fn found(c: Columns) {
     if c.twice {
-        say::words(b" twice,");
+        say::phrase(say::TWICE);
     }
     let p = c.places;
     places(&p);
 }
 
-fn escape(b: u8) {
-    let e = turbo::escaped(b);
-    if e == 0 {
-        return;
+// WANTED^LABELS: whether a wanted name stands twice, and all twenty places.
+pub fn columns(v: &[u8]) {
+    let wanted = parts::head(v);
+    if bars::count_fields(wanted) <= 20 {
+        found(labels::find_columns(wanted, parts::tail(v)));
+    } else {
+        say::phrase(say::TOO_MANY);
     }
-    say::words(b" ");
+}
+
+fn pair(b: u8, e: u8) {
+    say::phrase(say::BLANK);
     say::byte(b);
-    say::words(b"=");
+    say::phrase(say::EQUALS);
     say::byte(e);
 }
 
-pub fn escapes() {
-    say::words(b"== names: each byte that stands for another after a backslash\n");
-    let mut b: u32 = 0;
-    while b < 256 {
-        escape(b as u8);
-        b += 1;
+// A byte with the one that it stands for after a backslash, if any, and what follows as it is.
+pub fn escape(v: &[u8]) {
+    let b = text::at(v, 0);
+    let e = turbo::escaped(b);
+    if e != 0 {
+        pair(b, e);
     }
-    say::words(b"\n");
+    say::words(text::after(v, 0));
 }

@@ -1,19 +1,14 @@
 // A vector of several parts has a circumflex between them.
+use crate::text;
 use fields::Number;
 ghost use Prim.Native.Nat.{_<_};
 
-pub fn head<'a>(v: &'a [u8]) -> &'a [u8] {
-    let n = turbo::find(v, b'^');
-    &v[0..n]
+pub fn head(v: &[u8]) -> &[u8] {
+    text::front(v, turbo::find(v, b'^'))
 }
 
-pub fn tail<'a>(v: &'a [u8]) -> &'a [u8] {
-    let n = turbo::find(v, b'^');
-    if n < v.len() {
-        let a = n + 1;
-        return &v[a..];
-    }
-    &v[n..]
+pub fn tail(v: &[u8]) -> &[u8] {
+    text::after(v, turbo::find(v, b'^'))
 }
 
 // A part that is a number.
@@ -29,8 +24,5 @@ pub fn count(v: &[u8]) -> usize
 // Two parts that are a number: its thousands, and the rest.
 pub fn large(v: &[u8]) -> u32 {
     let n = count(head(v)) * 1000 + count(tail(v));
-    if 4294967295 < n {
-        return 0;
-    }
-    n as u32
+    (n % 4294967296) as u32
 }

@@ -1,87 +1,95 @@
-// Vectors in a row, each printed with what its reader answers.
+// The lines of the input: a group begins with `=`, the letter of its reader and its name, and its vectors follow, each printed with
+// what its reader answers.
 use crate::damage;
 use crate::days;
 use crate::form;
 use crate::moves;
 use crate::names;
 use crate::say;
+use crate::text;
 use crate::types;
 use crate::walk;
 
-// The readers over dossiers and lines, by the letter of their group; the others are those over fields.
+// The readers by the letter of their group, in two: those over dossiers, lines and dates, and the others.
 fn answer(r: u8, v: &[u8]) {
     match r {
         b'F' => form::told(v),
-        b'E' => damage::early_ends(v),
-        b'P' => damage::every_place(v),
-        b'0' => damage::nulls(v),
-        b'A' => damage::along_a_line(v),
         b'L' => walk::lines(v),
         b'M' => walk::mark(v),
         b'f' => walk::fields(v),
         b't' => walk::tails(v),
         b'r' => walk::row(v),
-        b'x' => walk::find(v),
+        b'i' => walk::find(v),
         b'l' => names::lookup(v),
         b'c' => names::columns(v),
-        b's' => moves::same(v),
-        b'y' => moves::copy(v),
-        b'z' => moves::clear(v),
-        b'u' => moves::up(v),
-        b'w' => moves::down(v),
-        b'n' => moves::number(v),
-        _ => of_a_field(r, v),
-    }
-}
-
-fn of_a_field(r: u8, v: &[u8]) {
-    match r {
         b'd' => days::day(v),
         b'b' => days::large(v),
         b'm' => days::moment(v),
-        b'6' => say::read(fields::read_number(v, 6)),
-        b'3' => say::read(fields::read_number(v, 3)),
-        b'2' => say::read(fields::read_number(v, 2)),
-        b'B' => say::read(words::read_bit(v)),
-        b'D' => say::read(fields::read_date(v)),
-        b'T' => types::time(v),
-        b'U' => say::read(stamps::read_stamp(v)),
-        b'S' => say::read(words::read_status(v)),
-        b'J' => say::read(words::read_stop_type(v)),
-        b'V' => say::read(words::read_flexible(v)),
+        _ => other(r, v),
+    }
+}
+
+fn other(r: u8, v: &[u8]) {
+    match r {
+        b's' => moves::same(v),
+        b'w'..=b'z' => moves::moved(r, v),
+        b'n' => moves::number(v),
         b'X' => types::text(v),
         b'g' => types::range(v),
-        _ => say::words(b" no reader"),
+        _ => types::numbered(r, v),
     }
+}
+
+fn answered(r: u8, v: &[u8]) {
+    say::quoted(v);
+    say::phrase(say::ARROW);
+    answer(r, v);
+    say::phrase(say::END);
+}
+
+// Those of E, A and e tell themselves what is printed around the answer.
+fn told(r: u8, v: &[u8]) {
+    match r {
+        b'E' => form::between(v, true),
+        b'A' => form::between(v, false),
+        b'e' => names::escape(v),
+        _ => answered(r, v),
+    }
+}
+
+fn vector(r: u8, line: &[u8], room: &mut [u8]) {
+    if r == b'P' {
+        damage::values(line, room);
+    } else {
+        told(r, text::vector(line, 0, room));
+    }
+}
+
+// The start of a group; the letter of its reader.
+fn group(line: &[u8]) -> u8 {
+    say::phrase(say::HEAD);
+    say::words(text::after(line, 2));
+    say::phrase(say::END);
+    text::at(line, 1)
 }
 
 // A vector, or the start of a group; the letter of the reader from there on.
-fn one(r: u8, v: &[u8]) -> u8 {
-    if 2 < v.len() {
-        if v[0] == b'=' {
-            say::words(b"== ");
-            say::line(&v[3..]);
-            return v[1];
-        }
+fn one(r: u8, line: &[u8], room: &mut [u8]) -> u8 {
+    if text::at(line, 0) == b'=' {
+        return group(line);
     }
-    say::quoted(v);
-    say::words(b" ->");
-    answer(r, v);
-    say::words(b"\n");
+    vector(r, line, room);
     r
 }
 
-// The groups and vectors of a list.
-pub fn each(list: &[u8]) {
+pub fn each(input: &[u8], room: &mut [u8]) {
     let mut r: u8 = 0;
-    let mut t = list;
-    loop {
-        let n = turbo::find(t, b';');
-        r = one(r, &t[0..n]);
-        if n == t.len() {
-            return;
-        }
-        let a = n + 1;
-        t = &t[a..];
+    let mut rest = input;
+    while 0 < rest.len() {
+        let n = turbo::find(rest, 10);
+        let line = text::front(rest, n);
+        let next = text::after(rest, n);
+        rest = next;
+        r = one(r, line, room);
     }
 }

@@ -1,32 +1,48 @@
 // Fields by their types.
 use crate::parts;
 use crate::say;
+use fields::Number;
 use fields::Time;
 
-pub fn time(v: &[u8]) {
-    match fields::read_time(v) {
-        Time::Is(s) => {
-            say::words(b" Is");
-            say::small(s.0);
-        }
-        Time::Wrong => say::words(b" Wrong"),
+fn seconds(t: Time) -> Number {
+    match t {
+        Time::Is(s) => Number::Is(s.0),
+        Time::Wrong => Number::Wrong,
     }
+}
+
+// The readers that answer a number, by the letter of their group; a digit tells how many digits a number may have.
+fn number(r: u8, v: &[u8]) -> Number {
+    match r {
+        b'B' => words::read_bit(v),
+        b'D' => fields::read_date(v),
+        b'T' => seconds(fields::read_time(v)),
+        b'U' => stamps::read_stamp(v),
+        b'S' => words::read_status(v),
+        b'J' => words::read_stop_type(v),
+        b'V' => words::read_flexible(v),
+        _ => fields::read_number(v, (r % 8) as usize),
+    }
+}
+
+pub fn numbered(r: u8, v: &[u8]) {
+    say::read(number(r, v));
 }
 
 // The ten bytes that are kept. A refused text is all zero.
 pub fn text(v: &[u8]) {
     let t = texts::read_text(v);
     if !t.ok {
-        say::words(b" Wrong");
+        say::phrase(say::WRONG);
     }
     let b = t.bytes;
     say::text(&b);
 }
 
 pub fn range(v: &[u8]) {
-    if stamps::in_stamp_range(parts::large(v)) {
-        say::words(b" in range");
-    } else {
-        say::words(b" out of range");
-    }
+    say::either(
+        stamps::in_stamp_range(parts::large(v)),
+        say::IN_RANGE,
+        say::OUT_OF_RANGE,
+    );
 }

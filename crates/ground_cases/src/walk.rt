@@ -1,17 +1,17 @@
 // Lines, marks and fields of a dossier.
 use crate::parts;
 use crate::say;
+use crate::text;
 use lines::Mark;
 
 pub fn mark(line: &[u8]) {
     match lines::mark_of(line) {
-        Mark::Group => say::words(b" Group"),
-        Mark::Table => say::words(b" Table"),
-        Mark::Labels => say::words(b" Labels"),
-        Mark::Data => say::words(b" Data"),
+        Mark::Group => say::phrase(say::GROUP),
+        Mark::Table => say::phrase(say::TABLE),
+        Mark::Labels => say::phrase(say::LABELS),
+        Mark::Data => say::phrase(say::DATA),
     }
-    let rest = lines::after_mark(line);
-    say::text(rest);
+    say::text(lines::after_mark(line));
 }
 
 // How many fields, and each.
@@ -72,10 +72,7 @@ pub fn row(line: &[u8]) {
 
 // The first byte, sought in what follows the circumflex: from byte to byte, and by blocks.
 pub fn find(v: &[u8]) {
-    if v.len() < 2 {
-        return;
-    }
-    let x = v[0];
+    let x = text::at(v, 0);
     let s = parts::tail(v);
     say::size(turbo::find(s, x));
     say::size(turbo::find_far(s, x));

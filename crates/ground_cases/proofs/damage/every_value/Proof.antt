@@ -1,51 +1,47 @@
 -- `damage::every_value` is safe and ends. Assumes nothing.
 use native.Mathlib.Omega.{arith}
 use Prim.Native.Nat.{_-_, _≤_}
+use mathlib.Core.Path.{_≡_}
+use lib.ListN.{length}
 use borrow.Author.Needs.{needs}
 use Rattle.ground_cases.proofs.damage.every_value.Statement.{statement}
 use Rattle.ground_cases.proofs.damage.every_value.Tie as tie
 
 abbrev Inv-loop : tie.InvT-loop
-Inv-loop d at a₀ b₀ a b = b ≤ 256
+Inv-loop line room₀ r₀ last₀ room r last = (last ≤ 255) × (length room ≡ length room₀)
 
 abbrev μ-loop : tie.MeasureT-loop
-μ-loop d at a₀ b₀ a b = 256 - b
+μ-loop line room₀ r₀ last₀ room r last = 255 - last
 
-slice-aggregate-words : tie.Need-slice-aggregate-words Inv-loop μ-loop
-slice-aggregate-words c = search needs
-
-words-requires : tie.Need-words-requires Inv-loop μ-loop
-words-requires c κs = tt
-
-size-requires : tie.Need-size-requires Inv-loop μ-loop
-size-requires c κs = tt
-
-slice-aggregate-words-2 : tie.Need-slice-aggregate-words-2 Inv-loop μ-loop
-slice-aggregate-words-2 c = search needs
-
-words-requires-2 : tie.Need-words-requires-2 Inv-loop μ-loop
-words-requires-2 c κs = tt
+changed-requires : tie.Need-changed-requires Inv-loop μ-loop
+changed-requires c κs = tt
 
 loop-holds : tie.Need-loop-holds Inv-loop μ-loop
 loop-holds c = omega arith
 
-run-ends-requires : tie.Need-run-ends-requires Inv-loop μ-loop
-run-ends-requires c κs = tt
+add-changed : tie.Need-add-changed Inv-loop μ-loop
+add-changed c = omega arith
 
-run-requires : tie.Need-run-requires Inv-loop μ-loop
-run-requires c κs = tt
+changed-requires-2 : tie.Need-changed-requires-2 Inv-loop μ-loop
+changed-requires-2 c κs = tt
 
-add-a : tie.Need-add-a Inv-loop μ-loop
-add-a c = omega arith
+step-requires : tie.Need-step-requires Inv-loop μ-loop
+step-requires c κs = tt
 
-add-b : tie.Need-add-b Inv-loop μ-loop
-add-b c = omega arith
+add-last : tie.Need-add-last Inv-loop μ-loop
+add-last c = omega arith
 
 loop-less : tie.Need-loop-less Inv-loop μ-loop
 loop-less c = omega arith
 
 loop-again : tie.Need-loop-again Inv-loop μ-loop
 loop-again c = omega arith
+
+told-requires : tie.Need-told-requires Inv-loop μ-loop
+told-requires c κs = tt
+
+same-length : tie.Need-same-length Inv-loop μ-loop
+same-length c = search needs
 
 returns : tie.Need-returns Inv-loop μ-loop
 returns c = tt
@@ -56,16 +52,14 @@ every-value-spec =
     (tie.spec
     Inv-loop
     μ-loop
-    slice-aggregate-words
-    words-requires
-    size-requires
-    slice-aggregate-words-2
-    words-requires-2
+    changed-requires
     loop-holds
-    run-ends-requires
-    run-requires
-    add-a
-    add-b
+    add-changed
+    changed-requires-2
+    step-requires
+    add-last
     loop-less
     loop-again
+    told-requires
+    same-length
     returns)

@@ -1,5 +1,6 @@
 -- What `moment` requires of the date is what `is_date` answered, and of the seconds the test. Assumes nothing.
 use native.Mathlib.Omega.{arith}
+use mathlib.Core.Path.{sym, _∙_}
 use Rattle.ground_cases.proofs.days.at.Statement.{statement}
 use Rattle.ground_cases.proofs.days.at.Tie as tie
 
@@ -7,7 +8,8 @@ is-date-requires : tie.Need-is-date-requires
 is-date-requires c κs = tt
 
 moment-requires : tie.Need-moment-requires
-moment-requires c κs = (cc, omega arith)
+moment-requires c κs =
+    (sym (c .before .before .before .is-date .ensures) ∙ c .before .before .if1 .taken, omega arith)
 
 small-requires : tie.Need-small-requires
 small-requires c κs = tt

@@ -1,28 +1,22 @@
 -- What `day_count` requires is what `is_date` answered. Assumes nothing.
-use borrow.Author.Needs.{needs}
+use mathlib.Core.Path.{sym, _∙_}
 use Rattle.ground_cases.proofs.days.date.Statement.{statement}
 use Rattle.ground_cases.proofs.days.date.Tie as tie
 
 is-date-requires : tie.Need-is-date-requires
 is-date-requires c κs = tt
 
-slice-aggregate-words : tie.Need-slice-aggregate-words
-slice-aggregate-words c = search needs
-
-words-requires : tie.Need-words-requires
-words-requires c κs = tt
+phrase-requires : tie.Need-phrase-requires
+phrase-requires c κs = tt
 
 day-count-requires : tie.Need-day-count-requires
-day-count-requires c κs = cc
+day-count-requires c κs = sym (c .before .before .is-date .ensures) ∙ c .before .if1 .taken
 
 small-requires : tie.Need-small-requires
 small-requires c κs = tt
 
-slice-aggregate-words-2 : tie.Need-slice-aggregate-words-2
-slice-aggregate-words-2 c = search needs
-
-words-requires-2 : tie.Need-words-requires-2
-words-requires-2 c κs = tt
+phrase-requires-2 : tie.Need-phrase-requires-2
+phrase-requires-2 c κs = tt
 
 returns : tie.Need-returns
 returns c = tt
@@ -35,11 +29,9 @@ date-spec =
     tie.close
     (tie.spec
     is-date-requires
-    slice-aggregate-words
-    words-requires
+    phrase-requires
     day-count-requires
     small-requires
-    slice-aggregate-words-2
-    words-requires-2
+    phrase-requires-2
     returns
     returns-2)

@@ -1,16 +1,17 @@
--- `run::each` is safe, and ends since each turn leaves a shorter list. Assumes nothing.
+-- `run::each` is safe, and ends since each turn leaves a shorter input. Assumes nothing.
 use native.Mathlib.Omega.{arith}
 use Prim.Native.Nat.{_≤_}
+use mathlib.Core.Path.{_≡_}
 use lib.ListN.{length}
 use borrow.Author.Needs.{needs}
 use Rattle.ground_cases.proofs.run.each.Statement.{statement}
 use Rattle.ground_cases.proofs.run.each.Tie as tie
 
 abbrev Inv-loop : tie.InvT-loop
-Inv-loop list r₀ t₀ r t = length t ≤ length list
+Inv-loop input room₀ r₀ rest₀ room r rest = (length rest ≤ length input) × (length room ≡ length room₀)
 
 abbrev μ-loop : tie.MeasureT-loop
-μ-loop list r₀ t₀ r t = length t
+μ-loop input room₀ r₀ rest₀ room r rest = length rest
 
 loop-holds : tie.Need-loop-holds Inv-loop μ-loop
 loop-holds c = omega arith
@@ -18,38 +19,26 @@ loop-holds c = omega arith
 find-requires : tie.Need-find-requires Inv-loop μ-loop
 find-requires c κs = tt
 
-sub-one : tie.Need-sub-one Inv-loop μ-loop
-sub-one c = omega arith
+front-requires : tie.Need-front-requires Inv-loop μ-loop
+front-requires c κs = tt
 
-part-one-start : tie.Need-part-one-start Inv-loop μ-loop
-part-one-start c = search needs
-
-part-one-end : tie.Need-part-one-end Inv-loop μ-loop
-part-one-end c = search needs
+after-requires : tie.Need-after-requires Inv-loop μ-loop
+after-requires c κs = tt
 
 one-requires : tie.Need-one-requires Inv-loop μ-loop
 one-requires c κs = tt
-
-returns : tie.Need-returns Inv-loop μ-loop
-returns c = tt
-
-add-a : tie.Need-add-a Inv-loop μ-loop
-add-a c = omega arith
-
-sub-t : tie.Need-sub-t Inv-loop μ-loop
-sub-t c = omega arith
-
-part-t-start : tie.Need-part-t-start Inv-loop μ-loop
-part-t-start c = search needs
-
-part-t-end : tie.Need-part-t-end Inv-loop μ-loop
-part-t-end c = search needs
 
 loop-less : tie.Need-loop-less Inv-loop μ-loop
 loop-less c = omega arith
 
 loop-again : tie.Need-loop-again Inv-loop μ-loop
 loop-again c = omega arith
+
+same-length : tie.Need-same-length Inv-loop μ-loop
+same-length c = search needs
+
+returns : tie.Need-returns Inv-loop μ-loop
+returns c = tt
 
 pub each-spec : {M : Type 1} → statement M
 each-spec =
@@ -59,14 +48,10 @@ each-spec =
     μ-loop
     loop-holds
     find-requires
-    sub-one
-    part-one-start
-    part-one-end
+    front-requires
+    after-requires
     one-requires
-    returns
-    add-a
-    sub-t
-    part-t-start
-    part-t-end
     loop-less
-    loop-again)
+    loop-again
+    same-length
+    returns)
