@@ -45,10 +45,6 @@ pub const NO_DATE: usize = 19;
 
 pub const NO_TIME: usize = 20;
 
-pub const PLACE: usize = 22;
-
-pub const COLON: usize = 23;
-
 pub const TO: usize = 21;
 
 pub const NEXT: usize = 22;

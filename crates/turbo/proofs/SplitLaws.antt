@@ -162,13 +162,3 @@ until-free x l i (suc n) h f =
     let a = until-free x l i n (omega arith) (λ m w. f m (omega arith)) in
     let b = until-miss x l (i + n) (omega arith) (f n (omega arith)) in
     rw e (omega arith)
-
--- there are at most as many fields as bytes, and one
-pub fields-most : (l : List ℕ) → length (fields l) ≤ suc (length l)
-unfolding fields
-fields-most [] = omega arith
-fields-most (b ∷ l) = go (eqb b 124) (fields-most l)
-  where
-    go : (t : Bool) → length (fields l) ≤ suc (length l) → length (on t ([] ∷ fields l) (onto b (fields l))) ≤ suc (suc (length l))
-    go true h = omega arith
-    go false h = omega (arith, onto-length b (fields l) (fields-some l))
