@@ -13,3 +13,7 @@ walked l = (markOf l, afterMark l)
 -- the walk by lines gives the grammar's lines, each with its mark
 abbrev pub LinesAreTheGrammars : Type 0
 LinesAreTheGrammars = (d : List ℕ) (w : WellFormed d) → map walked (lines d) ≡ dossierIn w
+
+-- all of these
+abbrev pub All : Type 0
+All = LinesAreTheGrammars
