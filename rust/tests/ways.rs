@@ -94,9 +94,10 @@ fn message(dossier: &[u8], sender: u8, register: &[u8], job: &Job, outcome: &Out
     }
 }
 
-/// The plan that was opened, its bodies in another order.
+/// The plan that was opened: its bodies joined from pass times and validities, and, in another order, sorted and written.
 fn open(outcome: &Outcome) -> usize {
     let mut bodies: Vec<&[u8]> = outcome.book[..outcome.answer[4] as usize].chunks(PLAN).map(|entry| &entry[1..]).collect();
+    join(&bodies);
     bodies.sort_by_key(|body| body.iter().rev().fold(7u32, |sum, &b| sum.wrapping_mul(31) + b as u32));
     let (mut book, mut table) = (outcome.book.clone(), outcome.table.clone());
     book[..bodies.len() * PLAN].fill(0);
@@ -105,6 +106,22 @@ fn open(outcome: &Outcome) -> usize {
     assert!(book == outcome.book && table == outcome.table);
     assert!(bodies.is_empty() || !opening::sort_and_write(&[&bodies[0..1], &bodies].concat().concat(), &mut book, &mut table));
     7
+}
+
+/// A service level for each date, so that each pass time has one validity.
+fn join(bodies: &[&[u8]]) {
+    let level = |body: &[u8]| -> [u8; 10] { [&body[10..14], b"\0level"].concat().try_into().unwrap() };
+    let mut validities: Vec<Vec<u8>> = bodies.iter().map(|body| [&body[..10], &level(body), &body[10..14]].concat()).collect();
+    validities.sort();
+    validities.dedup();
+    let passes: Vec<u8> = bodies.iter().flat_map(|body| opening::pass_time(body, &level(body))).collect();
+    let mut area = vec![7; bodies.len() * BODY + 3];
+    assert_eq!(opening::join(&passes, &validities.concat(), &mut area), bodies.len());
+    assert!(area[..bodies.len() * BODY] == bodies.concat() && area.ends_with(&[0; 3]));
+    area.truncate(bodies.len() * BODY / 2);
+    let (room, joined) = (area.len() / BODY, opening::join(&passes, &validities.concat(), &mut area));
+    assert_eq!(joined, bodies.len().min(room + 1));
+    assert!(area[..room * BODY] == bodies.concat()[..room * BODY]);
 }
 
 /// Bits of form put together at random: what generated dossiers seldom have.

@@ -7,9 +7,10 @@ use zhemdurak::ways::{applying, boards, opening, reading, soundness, withdrawing
 
 use super::*;
 
-/// The areas that the proved library clears before it reads, in bytes: of a long message, and of a long opening.
+/// The areas that the proved library clears before it reads, in bytes: of a long message, and of a long opening; and that for many plan passages.
 const STAGED: usize = 160_182;
 const OPENED: usize = 425_945 + 131_064;
+const JOINED: usize = 290_466;
 
 /// The part in the proved library's way, on a book and a table lent anew.
 type Way = Box<dyn FnMut(&mut [u8], &mut [u8])>;
@@ -86,6 +87,7 @@ fn reasons(rows: usize) -> Vec<Reason> {
         reading_of("reading, 65 columns", &wide.bytes),
         reading_of("reading, wanted columns, fault in the first row", &with_early_fault(&large)),
         reading_of("reading, wanted columns", &large.bytes),
+        joined(rows),
         plan_sorted(rows),
         new_passages(&large),
         board_of(&day),
@@ -120,14 +122,39 @@ fn with_early_fault(dossier: &Dossier) -> Vec<u8> {
     bytes
 }
 
-/// The plan's bodies, as they are joined, sorted and written; without the part, a book that is an entry short.
-fn plan_sorted(rows: usize) -> Reason {
+/// The plan's bodies as they are joined: by pass time, and then by date.
+fn plan_bodies(rows: usize) -> Vec<Vec<u8>> {
     let opened = blank().after(open(rows, Columns::Wanted));
-    let mut bodies: Vec<&[u8]> = opened.used_book().chunks(PLAN).map(|entry| &entry[1..]).collect();
-    bodies.sort_by_key(|body| (&body[24..41], &body[10..14]));
-    let (bodies, mut short) = (bodies.concat(), blank());
-    short.book.truncate(opened.used as usize - 1);
-    let without = job(open(rows, Columns::Wanted), &short);
+    let mut bodies: Vec<Vec<u8>> = opened.used_book().chunks(PLAN).map(|entry| entry[1..].to_vec()).collect();
+    bodies.sort_by(|a, b| (&a[24..41], &a[10..14]).cmp(&(&b[24..41], &b[10..14])));
+    bodies
+}
+
+/// An opening into a book that is an entry short: it is refused once pass times and validities are joined.
+fn unwritten(rows: usize, bodies: usize) -> Job {
+    let mut short = blank();
+    short.book.truncate(bodies * PLAN - 1);
+    job(open(rows, Columns::Wanted), &short)
+}
+
+/// Without the part, a calendar of no rows; its few are read in the part too.
+fn joined(rows: usize) -> Reason {
+    let (bodies, level) = (plan_bodies(rows), padded(LEVEL));
+    let passes = bodies.iter().step_by(DATES).flat_map(|body| opening::pass_time(body, &level)).collect::<Vec<u8>>();
+    let validity = |body: &Vec<u8>| [&body[..10], &level, &body[10..14]].concat();
+    let validities = bodies[..DATES].iter().flat_map(validity).collect::<Vec<u8>>();
+    let planning = planning_dossier(rows / DATES, Columns::Wanted);
+    let without = job(Call::Open { planning, calendar: b"\\G\r\n".to_vec() }, &blank());
+    let mut area = vec![0; JOINED];
+    reason("pass times and validities joined", unwritten(rows, bodies.len()), Some(without), move |_, _| {
+        assert_eq!(opening::join(&passes, &validities, black_box(&mut area)), bodies.len());
+    })
+}
+
+/// The plan's bodies sorted and written; without the part, all but that.
+fn plan_sorted(rows: usize) -> Reason {
+    let bodies = plan_bodies(rows);
+    let (without, bodies) = (unwritten(rows, bodies.len()), bodies.concat());
     reason("plan sorted and written", job(open(rows, Columns::Wanted), &blank()), Some(without), move |book, table| {
         assert!(opening::sort_and_write(&bodies, book, table));
     })
