@@ -13,12 +13,12 @@ use Rattle.texts.specs.Texts.{padded}
 use Rattle.table.specs.Rules.{rows, tableSound}
 use Rattle.board.specs.declared.Answer.{Answer}
 use Rattle.board.specs.declared.Answer.the-variants.{Listed, Unsound, OutOfRange}
-use Rattle.shows.specs.Show.{momentAt}
-use Rattle.shows.specs.Look.{showing}
-use Rattle.asks.specs.Ask.{asksInRange}
+use Rattle.board_show.specs.Show.{momentAt}
+use Rattle.board_show.specs.Look.{showing}
+use Rattle.board_show.specs.Ask.{asksInRange}
 use Rattle.board.specs.Rules.{listed, boardOf, boardAnswer, boardPlaces}
-use Rattle.asks.proofs.AskLaws.{asks-date, asks-second, asks-horizon}
-use Rattle.shows.proofs.ShowLaws.{showing-is}
+use Rattle.board_show.proofs.AskLaws.{asks-date, asks-second, asks-horizon}
+use Rattle.board_show.proofs.ShowLaws.{showing-is}
 
 module _ (owner stop : List ℕ) (date second horizon : ℕ) (table : List ℕ) (n : ℕ) (places : List ℕ) where
   abbrev Given : Answer → List ℕ → Type 0

@@ -19,7 +19,7 @@ use Rattle.lists.proofs.RowLaws.{row-at, length-rowsOf}
 use Rattle.texts.specs.Texts.{padded}
 use Rattle.passage.specs.Layout.{ownerOf, stopOf, statusOf, stopTypeOf, showCancelledOf, flexibleOf, monitoredOf, row-wide}
 use Rattle.table.specs.Rules.{rows}
-use Rattle.shows.specs.Show.{departs, momentAt, atStop, cancelShown, flexibleShown, mayShow, shows}
+use Rattle.board_show.specs.Show.{departs, momentAt, atStop, cancelShown, flexibleShown, mayShow, shows}
 use Rattle.board.specs.Rules.{momentIn, listed, boardOf}
 use Rattle.board.specs.Claims.{All, ShowFacts, ShowsExactly, ListsExactly, InOrder, PlacesRiseAsKeys, CutOnlyWhereFull, RefusesExactly, times, rowAt}
 use Rattle.board.proofs.FirstLaws.{keys-rise}

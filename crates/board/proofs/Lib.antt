@@ -5,3 +5,5 @@ pub mod BoardLaws
 pub mod OrderLaws
 pub mod Determined
 pub mod Claims
+pub mod PlacesPlaceLaws
+pub mod PlacesDetermined

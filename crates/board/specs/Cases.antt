@@ -9,7 +9,7 @@ use Rattle.lists.specs.Text.{bytes, same}
 use Rattle.clock.specs.Date.{daysIn}
 use Rattle.clock.specs.Moment.{monthStart, dayCount}
 use Rattle.texts.specs.Texts.{padded}
-use Rattle.shows.specs.Show.{departs, momentAt, atStop, mayShow, shows}
+use Rattle.board_show.specs.Show.{departs, momentAt, atStop, mayShow, shows}
 use Rattle.board.specs.Rules.{placeIn, listFrom, listed}
 
 -- a passage of CXX at S1, of a date and a departure: stop type, status, show cancelled, flexible, monitored

@@ -29,7 +29,7 @@ fn size(paper: &mut [u8]) -> usize {
     match text::load(&path[..n], paper) {
         Loaded::Bytes(k) => k,
         Loaded::Unreadable => {
-            desk_words::say(b"the script cannot be read\n");
+            boards_words::say(b"the script cannot be read\n");
             0
         }
     }
@@ -37,7 +37,7 @@ fn size(paper: &mut [u8]) -> usize {
 
 fn report(bad: u32) {
     if 0 < bad {
-        desk_words::tell(b"lines not done: %\n", bad as usize, 0);
+        boards_words::tell(b"lines not done: %\n", bad as usize, 0);
     }
 }
 
@@ -50,11 +50,11 @@ fn run(
 ) {
     let n = size(paper);
     if n == 0 {
-        desk_words::usage();
+        boards_words::usage();
         return;
     }
     if 65536 < n {
-        desk_words::say(b"script over 65,536 bytes: nothing done\n");
+        boards_words::say(b"script over 65,536 bytes: nothing done\n");
         return;
     }
     let h = lines(text::front(paper, n), register, book, table);

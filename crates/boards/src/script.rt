@@ -4,8 +4,8 @@ use crate::text::Loaded;
 use calls::Answer;
 use calls::Counts;
 use calls::Outcome;
-use fields::Number;
-use fields::Time;
+use field_types::Number;
+use field_types::Time;
 
 // The commands, by their places in `line`; 0 is no command.
 const OPEN: usize = 1;
@@ -38,7 +38,7 @@ pub fn nothing() -> Held {
 
 // A line's first three words, and what follows them.
 fn echo(line: &[u8], more: &[u8]) {
-    desk_words::echo(
+    boards_words::echo(
         text::word(line, 0),
         text::word(line, 1),
         text::word(line, 2),
@@ -48,7 +48,7 @@ fn echo(line: &[u8], more: &[u8]) {
 
 // A line that is not done: which of its words is wrong, and why.
 fn bad(line: &[u8], k: usize, why: usize, h: Held) -> Held {
-    desk_words::bad(h.line, text::word(line, k), why);
+    boards_words::bad(h.line, text::word(line, k), why);
     let mut n = h;
     n.bad = std::num::wrapping_add_u32(h.bad, 1);
     n
@@ -87,15 +87,15 @@ fn numbers(a: Answer) -> Four {
 // An acceptance as number n, in the words given for 0 or for a message, or a refusal.
 fn answer(f: Four, zero: &[u8], c: Counts) {
     if 0 < f.n {
-        desk_words::refusal(f.n, f.a, f.b, f.dossier as usize);
+        boards_words::refusal(f.n, f.a, f.b, f.dossier as usize);
         return;
     }
     if f.a == 0 {
-        desk_words::say(zero);
+        boards_words::say(zero);
     } else {
-        desk_words::tell(b"accepted as message %", f.a, 0);
+        boards_words::tell(b"accepted as message %", f.a, 0);
     }
-    desk_words::tell(b"; book % bytes, table % rows\n", c.used, c.rows);
+    boards_words::tell(b"; book % bytes, table % rows\n", c.used, c.rows);
 }
 
 // What a call answered; the counts are held.
@@ -122,7 +122,7 @@ fn opened(
     table: &mut [u8],
     h: Held,
 ) -> Held {
-    let r = day::open(planning, calendar, book, table, h.counts);
+    let r = opening::open(planning, calendar, book, table, h.counts);
     told(line, r, b"accepted", h)
 }
 
@@ -135,10 +135,10 @@ fn open_from(
     h: Held,
 ) -> Held {
     let Loaded::Bytes(n) = load(line, 1, first) else {
-        return bad(line, 1, desk_words::UNREADABLE, h);
+        return bad(line, 1, boards_words::UNREADABLE, h);
     };
     let Loaded::Bytes(k) = load(line, 2, second) else {
-        return bad(line, 2, desk_words::UNREADABLE, h);
+        return bad(line, 2, boards_words::UNREADABLE, h);
     };
     opened(
         line,
@@ -162,7 +162,7 @@ const NONE: u32 = 4294967295;
 
 // The k-th word as a number of at most nine digits.
 fn number(line: &[u8], k: usize) -> u32 {
-    match fields::read_number(text::word(line, k), 9) {
+    match field_types::read_number(text::word(line, k), 9) {
         Number::Is(n) => n,
         Number::Wrong => NONE,
     }
@@ -183,12 +183,12 @@ fn put(s: &mut [u8], n: usize, b: &[u8]) {
 fn enrolled(line: &[u8], register: &mut [u8], sender: u8, h: Held) -> Held {
     let at = h.register;
     if 693 < at {
-        return bad(line, 2, desk_words::FULL, h);
+        return bad(line, 2, boards_words::FULL, h);
     }
     put(register, at, &[sender]);
     put(register, at + 1, text::word(line, 2));
     echo(line, b": pair ");
-    desk_words::tell(b"% of 64\n", at / register::PAIR_WIDE + 1, 0);
+    boards_words::tell(b"% of 64\n", at / register::PAIR_WIDE + 1, 0);
     let mut n = h;
     n.register = at + register::PAIR_WIDE;
     n
@@ -197,10 +197,10 @@ fn enrolled(line: &[u8], register: &mut [u8], sender: u8, h: Held) -> Held {
 fn enrol(line: &[u8], register: &mut [u8], h: Held) -> Held {
     let sender = number(line, 1);
     if (sender == 0) | (255 < sender) {
-        return bad(line, 1, desk_words::NO_NUMBER, h);
+        return bad(line, 1, boards_words::NO_NUMBER, h);
     }
     if passage::TEXT_WIDE < text::word(line, 2).len() {
-        return bad(line, 2, desk_words::NO_OWNER, h);
+        return bad(line, 2, boards_words::NO_OWNER, h);
     }
     enrolled(line, register, (sender % 256) as u8, h)
 }
@@ -215,7 +215,7 @@ fn sent(
     h: Held,
 ) -> Held {
     let pairs = text::front(register, h.register);
-    let r = day::message(d, sender, pairs, book, table, h.counts);
+    let r = messages::message(d, sender, pairs, book, table, h.counts);
     told(line, r, b"accepted, no rows", h)
 }
 
@@ -229,7 +229,7 @@ fn send_from(
     h: Held,
 ) -> Held {
     let Loaded::Bytes(n) = load(line, 2, dossier) else {
-        return bad(line, 2, desk_words::UNREADABLE, h);
+        return bad(line, 2, boards_words::UNREADABLE, h);
     };
     sent(
         line,
@@ -245,7 +245,7 @@ fn send_from(
 fn send(line: &[u8], register: &[u8], book: &mut [u8], table: &mut [u8], h: Held) -> Held {
     let sender = number(line, 1);
     if 255 < sender {
-        return bad(line, 1, desk_words::NO_NUMBER, h);
+        return bad(line, 1, boards_words::NO_NUMBER, h);
     }
     let mut dossier = [0u8; 65537];
     send_from(
@@ -260,32 +260,32 @@ fn send(line: &[u8], register: &[u8], book: &mut [u8], table: &mut [u8], h: Held
 }
 
 fn withdrawn(line: &[u8], n: u32, sender: u8, book: &mut [u8], table: &mut [u8], h: Held) -> Held {
-    let r = day::withdraw(n, sender, book, table, h.counts);
+    let r = withdrawals::withdraw(n, sender, book, table, h.counts);
     told(line, r, b"accepted", h)
 }
 
 fn withdraw(line: &[u8], book: &mut [u8], table: &mut [u8], h: Held) -> Held {
     let n = number(line, 1);
     if n == NONE {
-        return bad(line, 1, desk_words::NO_NUMBER, h);
+        return bad(line, 1, boards_words::NO_NUMBER, h);
     }
     let sender = number(line, 2);
     if 255 < sender {
-        return bad(line, 2, desk_words::NO_NUMBER, h);
+        return bad(line, 2, boards_words::NO_NUMBER, h);
     }
     withdrawn(line, n, (sender % 256) as u8, book, table, h)
 }
 
 // What is no date is out of range for a board, and so is what is no time.
 fn date(w: &[u8]) -> u32 {
-    match fields::read_date(w) {
+    match field_types::read_date(w) {
         Number::Is(n) => n,
         Number::Wrong => 0,
     }
 }
 
 fn second(w: &[u8]) -> u32 {
-    match fields::read_time(w) {
+    match field_types::read_time(w) {
         Time::Is(s) => s.0,
         Time::Wrong => 86400,
     }
@@ -296,8 +296,8 @@ fn shown(line: &[u8], horizon: u32, most: usize, table: &[u8], rows: usize) {
     let stop = text::word(line, 2);
     let day = text::word(line, 3);
     let time = text::word(line, 4);
-    desk_words::heading(owner, stop, day, time, horizon as usize);
-    desk_words::print_board(
+    boards_words::heading(owner, stop, day, time, horizon as usize);
+    boards_words::print_board(
         owner,
         stop,
         date(day),
@@ -320,11 +320,11 @@ fn places(line: &[u8]) -> u32 {
 fn board(line: &[u8], table: &[u8], h: Held) -> Held {
     let horizon = number(line, 5);
     if horizon == NONE {
-        return bad(line, 5, desk_words::NO_NUMBER, h);
+        return bad(line, 5, boards_words::NO_NUMBER, h);
     }
     let most = places(line);
     if 2048 < most {
-        return bad(line, 6, desk_words::NO_NUMBER, h);
+        return bad(line, 6, boards_words::NO_NUMBER, h);
     }
     let c = h.counts;
     shown(line, horizon, most as usize, table, c.rows);

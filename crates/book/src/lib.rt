@@ -56,7 +56,7 @@ fn plans_in_range(b: &[u8], n: usize) -> bool
 {
     let mut i = 0;
     while i < n {
-        let good = ranges::plan_in_range(b, i * PLAN_WIDE + 1);
+        let good = passage::plan_in_range(b, i * PLAN_WIDE + 1);
         if good {
             i += 1;
         } else {
@@ -94,7 +94,7 @@ fn entry_is_sound(b: &[u8], p: usize, number: u32, sender: u8, kind: u8) -> bool
     let n = lists::get_number(b, p + NUMBER_AT, NUMBER_WIDE);
     let s = b[p + SENDER_AT];
     let follows = (n as u64 == number as u64 + 1) | ((n == number) & ((s == sender) & (k == kind)));
-    (((2 <= k) & (k <= 3)) & ((1 <= s) & ranges::update_in_range(b, p + BODY_AT))) & follows
+    (((2 <= k) & (k <= 3)) & ((1 <= s) & passage::update_in_range(b, p + BODY_AT))) & follows
 }
 
 // Whether the m updates from `at` on are in range, where what is common is, each where it may follow the one before.

@@ -10,7 +10,7 @@ use lib.ListN.{length}
 use Rattle.lists.specs.Logic.{on, both, either}
 use Rattle.lists.proofs.LogicLaws.{both-true}
 use Rattle.register.specs.Register.{registerSound}
-use Rattle.cells.specs.declared.Table.the-variants as Tables
+use Rattle.columns.specs.declared.Table.the-variants as Tables
 use Rattle.reader.specs.declared.Answer.{Answer as Reading}
 use Rattle.reader.specs.declared.Answer.the-variants as Readings
 use Rattle.reader.specs.Rules.{readingOf}

@@ -10,10 +10,10 @@ use Rattle.lists.specs.Logic.{on, either}
 use Rattle.syntax.specs.declared.Verdict.{Verdict}
 use Rattle.syntax.specs.declared.Verdict.the-variants as Verdicts
 use Rattle.syntax.specs.Machine.{fault}
-use Rattle.cells.specs.declared.Table.{Table}
-use Rattle.cells.specs.declared.Table.the-variants as Tables
-use Rattle.cells.specs.Tables.{rowOf}
-use Rattle.steps.specs.Step.{maySend}
+use Rattle.columns.specs.declared.Table.{Table}
+use Rattle.columns.specs.declared.Table.the-variants as Tables
+use Rattle.columns.specs.Tables.{rowOf}
+use Rattle.reader_step.specs.Step.{maySend}
 use Rattle.reader.specs.declared.Answer.{Answer as Reading}
 use Rattle.reader.specs.declared.Answer.the-variants as Readings
 use Rattle.reader.specs.Items.{Item, head, row}

@@ -9,9 +9,9 @@ use Rattle.lists.specs.Rows.{rowsOf, Wide}
 use Rattle.lists.proofs.StoreLaws.{rowsOf-store}
 use Rattle.lists.proofs.WideLaws.{wide-rowsOf}
 use Rattle.passage.specs.Layout.{body-wide, row-wide, keyOf}
-use Rattle.cells.specs.declared.Table.the-variants as Tables
-use Rattle.cells.specs.Cell.{width}
-use Rattle.cells.specs.Tables.{columnsIn, messageColumns, rowWidth}
+use Rattle.columns.specs.declared.Table.the-variants as Tables
+use Rattle.columns.specs.Cell.{width}
+use Rattle.columns.specs.Tables.{columnsIn, messageColumns, rowWidth}
 use Rattle.reader.specs.Rules.{itemsOf}
 use Rattle.reader.proofs.EachRowLaws.{rows-wide}
 use Rattle.keys.specs.Sorted.{get}

@@ -13,7 +13,7 @@ use Rattle.lists.specs.Rows.{rowsOf}
 use Rattle.passage.specs.Layout.{row-wide, keyOf}
 use Rattle.register.specs.Register.{registerSound}
 use Rattle.grammar.specs.Grammar.{WellFormed}
-use Rattle.cells.specs.declared.Table.the-variants as Tables
+use Rattle.columns.specs.declared.Table.the-variants as Tables
 use Rattle.reader.specs.Items.{Item}
 use Rattle.reader.specs.Rules.{largest, formBad, wrongAt, ownerBad, itemsOf}
 use Rattle.keys.specs.Sorted.{get}

@@ -9,7 +9,7 @@ use Rattle.lists.specs.Part.{over}
 use Rattle.lists.specs.Rows.{rowsOf, flat, store}
 use Rattle.passage.specs.Layout.{row-wide}
 use Rattle.register.specs.Register.{registerSound}
-use Rattle.cells.specs.declared.Table.the-variants as Tables
+use Rattle.columns.specs.declared.Table.the-variants as Tables
 use Rattle.reader.specs.Rules.{readingOf, rowsUpTo, itemsOf}
 use Rattle.keys.specs.Replay.{takenAll}
 use Rattle.update.specs.Rule.{rowRule}

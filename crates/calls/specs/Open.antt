@@ -6,7 +6,7 @@ use lib.ListN.{length}
 use Rattle.lists.specs.Logic.{on}
 use Rattle.lists.specs.Part.{over}
 use Rattle.lists.specs.Rows.{flat}
-use Rattle.cells.specs.declared.Table.the-variants as Tables
+use Rattle.columns.specs.declared.Table.the-variants as Tables
 use Rattle.reader.specs.Rules.{readingOf, rowsUpTo, itemsOf}
 use Rattle.plan.specs.Rules.{joined}
 use Rattle.keys.specs.Sorted.{putAll}

@@ -10,17 +10,17 @@ use Rattle.lists.proofs.RowLaws.{length-rowsOf}
 use Rattle.syntax.specs.Machine.{field, escape, firstEscape, nul, ret, opened, marked, step, accepting, run, fault}
 use Rattle.syntax.specs.Cases as Syntax
 use Rattle.turbo.specs.Split.{until, past}
-use Rattle.lines.specs.Lines.{linesFrom, markOf, afterMark}
+use Rattle.turbo_lines.specs.Lines.{linesFrom, markOf, afterMark}
 use Rattle.turbo.specs.Cases as Turbo
-use Rattle.fields.specs.Cases as Fields
-use Rattle.stamps.specs.Cases as Stamps
+use Rattle.field_types.specs.Cases as Fields
+use Rattle.field_types.specs.StampsCases as Stamps
 use Rattle.passage.specs.Layout.{row-wide}
-use Rattle.cells.specs.declared.Table.the-variants as Tables
+use Rattle.columns.specs.declared.Table.the-variants as Tables
 use Rattle.reader.specs.declared.Answer.the-variants.{Rows, Syntax as SyntaxAt}
 use Rattle.reader.specs.Items.{items}
 use Rattle.reader.specs.Rules.{firstLine, firstColumn, rowsUpTo, answerTo, readingOf, itemsOf}
 use Rattle.keys.specs.Replay.{takenAll}
-use Rattle.moves.specs.Moves.{mayMove, table17}
+use Rattle.update.specs.Moves.{mayMove, table17}
 use Rattle.table.specs.Rules.{room}
 use Rattle.table.proofs.SoundLaws.{sound-within}
 use Rattle.book.specs.Entries.{entry-wide}

@@ -7,14 +7,14 @@ use Rattle.lists.specs.Text.{bytes}
 use Rattle.syntax.specs.declared.Verdict.the-variants.{FaultAt}
 use Rattle.syntax.specs.Machine.{fault}
 use Rattle.turbo.specs.Escape.{decode}
-use Rattle.fields.specs.declared.Time.the-variants as Times
-use Rattle.fields.specs.declared.Number.the-variants.{Is, Wrong}
-use Rattle.fields.specs.Times.{time}
-use Rattle.fields.specs.Dates.{date}
-use Rattle.stamps.specs.Stamps.{stamp}
+use Rattle.field_types.specs.declared.Time.the-variants as Times
+use Rattle.field_types.specs.declared.Number.the-variants.{Is, Wrong}
+use Rattle.field_types.specs.Times.{time}
+use Rattle.field_types.specs.Dates.{date}
+use Rattle.field_types.specs.Stamps.{stamp}
 use Rattle.passage.specs.Layout.{orderOf}
 use Rattle.keys.specs.Replay.{takenAll}
-use Rattle.moves.specs.Moves.{statusAfter}
+use Rattle.update.specs.Moves.{statusAfter}
 use Rattle.update.specs.Rule.{rowRule}
 use Rattle.book.specs.Rules.{planRows}
 use Rattle.calls.specs.declared.Counts.{Counts}

@@ -4,7 +4,7 @@ use mathlib.Core.Path.{_≡_, ap, _∙_}
 use mathlib.Core.List.{List}
 use Rattle.calls.specs.declared.Outcome.{Outcome}
 use Rattle.board.specs.declared.Answer.{Answer as Board}
-use Rattle.answers.specs.Answered.{numberOf, answered, boardNumber, boardAnswered}
+use Rattle.desk.specs.Answered.{numberOf, answered, boardNumber, boardAnswered}
 
 pub of-call : {P : Type 0} (o o′ : Outcome) (r : ℕ) (l : List ℕ)
     → (r ≡ numberOf o) × (l ≡ answered o) → (o ≡ o′) × P → (r ≡ numberOf o′) × ((l ≡ answered o′) × P)

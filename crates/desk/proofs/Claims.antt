@@ -13,10 +13,10 @@ use Rattle.calls.specs.Open.{openOutcome}
 use Rattle.calls.proofs.RefusalLaws.{acceptance-is-zero, refusals-give-back, numbers-listed}
 use Rattle.board.specs.declared.Answer.{Answer as Board}
 use Rattle.board.specs.declared.Answer.the-variants.{Listed, Unsound, OutOfRange}
-use Rattle.asks.specs.Ask.{asksInRange}
+use Rattle.board_show.specs.Ask.{asksInRange}
 use Rattle.board.specs.Rules.{numbers as boardNumbers, byAnswer, boardAnswer, boardPlaces}
 use Rattle.table.specs.Rules.{tableSound}
-use Rattle.answers.specs.Answered.{counted, numberOf, answered, boardNumber, boardAnswered}
+use Rattle.desk.specs.Answered.{counted, numberOf, answered, boardNumber, boardAnswered}
 use Rattle.desk.specs.Claims.{SixNumbers, GivesBack, OpenGivesBack, MessageGivesBack, WithdrawGivesBack, BoardGivesBack, NumbersListed, BoardNumbersListed, All}
 use Rattle.desk.proofs.DossierLaws.{dossier-named}
 

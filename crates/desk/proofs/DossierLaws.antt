@@ -6,7 +6,7 @@ use mathlib.Core.List.{List, [], _∷_}
 use lib.Dec.{eqb, leb}
 use lib.ListN.{length}
 use Rattle.lists.specs.Logic.{on, either, within}
-use Rattle.cells.specs.declared.Table.the-variants as Tables
+use Rattle.columns.specs.declared.Table.the-variants as Tables
 use Rattle.reader.specs.declared.Answer.{Answer as Reading}
 use Rattle.reader.specs.declared.Answer.the-variants as Readings
 use Rattle.reader.specs.Rules.{readingOf}
@@ -22,7 +22,7 @@ use Rattle.calls.specs.Claims.{among}
 use Rattle.calls.specs.Open.{passagesOf, roomToOpen, openAnswer, openOutcome}
 use Rattle.calls.specs.Message.{messageSound, messageBodies, numberFor, roomFor, messageAnswer, messageOutcome}
 use Rattle.calls.specs.Withdraw.{withdrawSound, unlessBarred, withdrawAnswer, withdrawOutcome}
-use Rattle.answers.specs.Answered.{counted, numberOf, answered}
+use Rattle.desk.specs.Answered.{counted, numberOf, answered}
 use Rattle.desk.specs.Claims.{DossierNamed}
 
 -- ---- open: 1 or 2, exactly with 2 to 5

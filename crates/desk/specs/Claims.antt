@@ -12,7 +12,7 @@ use Rattle.calls.specs.Withdraw.{withdrawOutcome, withdrawBook, withdrawTable}
 use Rattle.calls.specs.Open.{openOutcome, openBook, openTable}
 use Rattle.board.specs.declared.Answer.{Answer as Board}
 use Rattle.board.specs.Rules.{boardAnswer, boardPlaces}
-use Rattle.answers.specs.Answered.{counted, numberOf, answered, boardNumber, boardAnswered}
+use Rattle.desk.specs.Answered.{counted, numberOf, answered, boardNumber, boardAnswered}
 
 -- an answer is six numbers, and the one returned is the first
 abbrev pub SixNumbers : Type 0

@@ -7,7 +7,7 @@ use lib.ListN.{length}
 use Rattle.lists.specs.Rows.{rowsOf}
 use Rattle.passage.specs.Layout.{body-wide}
 use Rattle.lists.specs.Logic.{on}
-use Rattle.cells.specs.declared.Table.the-variants as Tables
+use Rattle.columns.specs.declared.Table.the-variants as Tables
 use Rattle.reader.specs.declared.Answer.{Answer as Reading}
 use Rattle.reader.specs.declared.Answer.the-variants.{Rows}
 use Rattle.reader.specs.Rules.{readingOf, stagedBy}
@@ -18,8 +18,8 @@ use Rattle.calls.specs.declared.Counts.{Counts}
 use Rattle.calls.specs.declared.Outcome.{Outcome}
 use Rattle.calls.specs.Answers.{isAccepted, unlessRefused}
 use Rattle.calls.specs.Message.{messageSound, messageBodies, roomFor, messageAnswer, messageOutcome, messageBook, messageTable}
-use Rattle.posting.specs.Steps.{takenOutcome, takenBook, takenTable}
-use Rattle.posting.proofs.TakeLaws.{outcome-is}
+use Rattle.messages.specs.Steps.{takenOutcome, takenBook, takenTable}
+use Rattle.messages.proofs.TakeLaws.{outcome-is}
 
 -- the rows of an accepted dossier, as they are staged
 pub staged-bodies : (register : List ℕ) (sender : ℕ) (d staging : List ℕ) (n : ℕ) → readingOf Tables.Message register sender d ≡ Rows n → n * body-wide ≤ length staging

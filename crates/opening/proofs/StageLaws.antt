@@ -5,7 +5,7 @@ use mathlib.Core.List.{List, []}
 use Prim.Native.Nat.{ℕ, _*_, _≤_}
 use lib.ListN.{length}
 use Rattle.lists.specs.Rows.{rowsOf}
-use Rattle.cells.specs.declared.Table.the-variants as Tables
+use Rattle.columns.specs.declared.Table.the-variants as Tables
 use Rattle.reader.specs.declared.Answer.{Answer as Reading}
 use Rattle.reader.specs.declared.Answer.the-variants as Readings
 use Rattle.reader.specs.Rules.{readingOf, rowsUpTo, itemsOf, stagedBy}
@@ -16,8 +16,8 @@ use Rattle.calls.specs.declared.Counts.{Counts}
 use Rattle.calls.specs.declared.Outcome.{Outcome}
 use Rattle.calls.specs.Answers.{isAccepted, unlessRefused}
 use Rattle.calls.specs.Open.{passagesOf, planOf, roomToOpen, openAnswer, openOutcome, openBook, openTable}
-use Rattle.placing.specs.Steps.{outcomeBy, bookBy, tableBy}
-use Rattle.placing.proofs.StageLaws.{Opened, refused-with}
+use Rattle.opening_write.specs.Steps.{outcomeBy, bookBy, tableBy}
+use Rattle.opening_write.proofs.StageLaws.{Opened, refused-with}
 use Rattle.opening.specs.Steps.{joinedTo, calendarAnswer}
 
 -- ---- by what the dossiers read as

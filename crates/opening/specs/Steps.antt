@@ -2,17 +2,17 @@
 use Prim.Native.Nat.{ℕ, _*_, _≤_}
 use mathlib.Core.Path.{_≡_}
 use mathlib.Core.List.{List, []}
-use Rattle.cells.specs.declared.Table.the-variants as Tables
+use Rattle.columns.specs.declared.Table.the-variants as Tables
 use Rattle.reader.specs.declared.Answer.the-variants as Readings
 use Rattle.reader.specs.Rules.{readingOf, rowsUpTo, itemsOf}
-use Rattle.bodies.specs.Rules.{pass-wide, validity-wide}
+use Rattle.plan.specs.BodiesRules.{pass-wide, validity-wide}
 use Rattle.plan.specs.Rules.{joined}
 use Rattle.calls.specs.declared.Answer.{Answer}
 use Rattle.calls.specs.declared.Counts.{Counts}
 use Rattle.calls.specs.declared.Outcome.{Outcome}
 use Rattle.calls.specs.Answers.{unlessRefused}
 use Rattle.calls.specs.Open.{roomToOpen}
-use Rattle.placing.specs.Steps.{outcomeBy, bookBy, tableBy}
+use Rattle.opening_write.specs.Steps.{outcomeBy, bookBy, tableBy}
 
 -- ---- areas, by their length
 

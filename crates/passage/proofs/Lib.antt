@@ -8,3 +8,5 @@ pub mod Claims
 pub mod StepLaws
 pub mod CommonLaws
 pub mod Determined
+pub mod RangesFieldLaws
+pub mod RangesDetermined

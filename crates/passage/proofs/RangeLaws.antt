@@ -9,7 +9,7 @@ use lib.Dec.{eqb, leb, ltb}
 use Rattle.lists.specs.Logic.{within}
 use Rattle.lists.proofs.LogicLaws.{both-true, within-true, in-range}
 use Rattle.clock.specs.Date.{isDate}
-use Rattle.stamps.specs.Stamps.{inStampRange}
+use Rattle.field_types.specs.Stamps.{inStampRange}
 use Rattle.passage.specs.Layout.{missing, kept, keyOf, ownerOf, dateOf, lineOf, journeyOf, fortifyOf, stopOf, orderOf, destinationOf, stampOf, statusOf, arrivalOf, departureOf, stopTypeOf, showCancelledOf, flexibleOf, monitoredOf, heardOf}
 use Rattle.passage.specs.Ranges.{paddedText, keyInRange, timeInRange, timesInRange, commonInRange, isBit, updateInRange, planInRange, heardInRange, rowInRange}
 use Rattle.passage.specs.Facts.{KeyFacts, TimeFacts, CommonFacts, UpdateFacts, PlanFacts, RowFacts}

@@ -5,7 +5,7 @@ use mathlib.Core.List.{List}
 use mathlib.Core.Logic.{_⊎_}
 use Prim.Native.Nat.{ℕ, _≤_, _<_}
 use Rattle.clock.specs.Date.{isDate}
-use Rattle.stamps.specs.Stamps.{inStampRange}
+use Rattle.field_types.specs.Stamps.{inStampRange}
 use Rattle.passage.specs.Layout.{missing, kept, ownerOf, dateOf, lineOf, journeyOf, fortifyOf, stopOf, orderOf, destinationOf, stampOf, statusOf, arrivalOf, departureOf, stopTypeOf, showCancelledOf, flexibleOf, monitoredOf, heardOf}
 use Rattle.passage.specs.Ranges.{paddedText}
 

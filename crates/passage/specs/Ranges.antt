@@ -6,7 +6,7 @@ use lib.Dec.{eqb, leb, ltb}
 use lib.ListN.{length, getD}
 use Rattle.lists.specs.Logic.{on, within}
 use Rattle.clock.specs.Date.{isDate}
-use Rattle.stamps.specs.Stamps.{inStampRange}
+use Rattle.field_types.specs.Stamps.{inStampRange}
 use Rattle.passage.specs.Layout.{text-wide, missing, kept, keyOf, ownerOf, dateOf, lineOf, journeyOf, fortifyOf, stopOf, orderOf, destinationOf, stampOf, statusOf, arrivalOf, departureOf, stopTypeOf, showCancelledOf, flexibleOf, monitoredOf, heardOf}
 
 -- every byte is zero

@@ -8,9 +8,9 @@ ghost use Rattle.lists.specs.Part.{part};
 ghost use Rattle.lists.specs.Rows.{rowsOf};
 ghost use Rattle.lists.specs.BigEndian.{number};
 ghost use Rattle.clock.specs.Date.{isDate};
-ghost use Rattle.passage.specs.Layout.{date-at, date-wide, body-wide};
+ghost use Rattle.passage.specs.Layout.{date-at, date-wide, body-wide, row-wide};
 ghost use Rattle.passage.specs.Roles.{roleIn, roles-wide, roles, breaksText, textsPadded};
-ghost use Rattle.passage.specs.Ranges.{timesInRange, commonInRange, allCommon};
+ghost use Rattle.passage.specs.Ranges.{timesInRange, commonInRange, allCommon, updateInRange, planInRange, heardInRange, rowInRange};
 
 // Widths of fields.
 pub const TEXT_WIDE: usize = 10;
@@ -177,4 +177,58 @@ pub fn all_common(s: &[u8], at: usize, w: usize, off: usize, n: usize) -> bool
         }
     }
     true
+}
+
+// ---- Whether an update's body, a plan entry's and a row of the table are in range. What they have in common is tested before, all rows in one loop: see `passage`, which also has the rules.
+
+// Whether an update's body stands from `at` on, every field in its range, where what is common is.
+pub fn update_in_range(s: &[u8], at: usize) -> bool
+    requires { ⌜ at + body-wide ≤ length (now s) ⌝ }
+    requires { ⌜ commonInRange (part at body-wide (now s)) ≡ true ⌝ }
+    ensures { λ r. ⌜ r ≡ updateInRange (part at body-wide (now (s .entry))) ⌝ }
+{
+    let stamp = lists::get_number(s, at + STAMP_AT, STAMP_WIDE);
+    let show = s[at + SHOW_CANCELLED_AT];
+    let flexible = s[at + FLEXIBLE_AT];
+    let monitored = s[at + MONITORED_AT];
+    field_types::in_stamp_range(stamp)
+        & (s[at + STATUS_AT] <= 5)
+        & ((show <= 1) | (show == KEPT))
+        & ((1 <= flexible) & (flexible <= 3) | (flexible == KEPT))
+        & ((monitored <= 1) | (monitored == KEPT))
+}
+
+// Whether a plan entry's body stands from `at` on, every field in its range, where what is common is.
+pub fn plan_in_range(s: &[u8], at: usize) -> bool
+    requires { ⌜ at + body-wide ≤ length (now s) ⌝ }
+    requires { ⌜ commonInRange (part at body-wide (now s)) ≡ true ⌝ }
+    ensures { λ r. ⌜ r ≡ planInRange (part at body-wide (now (s .entry))) ⌝ }
+{
+    let stamp = lists::get_number(s, at + STAMP_AT, STAMP_WIDE);
+    (stamp == 0)
+        & (s[at + STATUS_AT] == 0)
+        & (s[at + SHOW_CANCELLED_AT] == 1)
+        & (s[at + FLEXIBLE_AT] <= 3)
+        & (s[at + MONITORED_AT] == 0)
+}
+
+// Whether heard and timestamp go together.
+fn heard_in_range(heard: u8, stamp: u32) -> bool
+    ensures { λ r. ⌜ r ≡ heardInRange heard stamp ⌝ }
+{
+    (heard == 0) & (stamp == 0) | (heard == 1) & field_types::in_stamp_range(stamp)
+}
+
+// Whether a row stands from `at` on, every field in its range, where what is common is.
+pub fn row_in_range(s: &[u8], at: usize) -> bool
+    requires { ⌜ at + row-wide ≤ length (now s) ⌝ }
+    requires { ⌜ commonInRange (part at body-wide (now s)) ≡ true ⌝ }
+    ensures { λ r. ⌜ r ≡ rowInRange (part at row-wide (now (s .entry))) ⌝ }
+{
+    let stamp = lists::get_number(s, at + STAMP_AT, STAMP_WIDE);
+    heard_in_range(s[at + HEARD_AT], stamp)
+        & (s[at + STATUS_AT] <= 5)
+        & (s[at + SHOW_CANCELLED_AT] <= 1)
+        & (s[at + FLEXIBLE_AT] <= 3)
+        & (s[at + MONITORED_AT] <= 1)
 }

@@ -1,6 +1,6 @@
 -- The claims of `specs/Claims.antt`. Assumes nothing.
 use mathlib.Core.List.{[]}
-use Rattle.cells.specs.declared.Table.the-variants.{Planning, Calendar}
+use Rattle.columns.specs.declared.Table.the-variants.{Planning, Calendar}
 use Rattle.reader.specs.Rules.{rowsUpTo, itemsOf}
 use Rattle.reader.proofs.PlanRangeLaws.{passes-in-range, validities-in-range}
 use Rattle.plan.specs.Claims.{All}

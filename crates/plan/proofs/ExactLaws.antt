@@ -4,7 +4,7 @@ use mathlib.Core.Bool.{Bool, true, false}
 use mathlib.Core.List.{List, [], _∷_, _++_}
 use mathlib.Core.Logic.{_⊎_, inl, inr, ⊎-elim, _↔_}
 use Rattle.lists.specs.Logic.{on}
-use Rattle.bodies.specs.Rules.{planBody}
+use Rattle.plan.specs.BodiesRules.{planBody}
 use Rattle.plan.specs.Rules.{matches, joinedWith, joined}
 use Rattle.plan.specs.Claims.{Some}
 

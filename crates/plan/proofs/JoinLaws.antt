@@ -13,8 +13,8 @@ use Rattle.lists.proofs.OverLaws.{over-nil, over-then}
 use Rattle.lists.proofs.PartLaws.{length-part}
 use Rattle.lists.proofs.RowLaws.{length-rowsOf, flat-append, row-at, drop-rowsOf, window}
 use Rattle.lists.proofs.WideLaws.{length-flat, wide-rowsOf}
-use Rattle.bodies.specs.Rules.{planBody, sharedOf}
-use Rattle.bodies.proofs.BodyLaws.{body-length}
+use Rattle.plan.specs.BodiesRules.{planBody, sharedOf}
+use Rattle.plan.proofs.BodyLaws.{body-length}
 use Rattle.plan.specs.Rules.{matches, joinedWith, firstWith}
 use Rattle.plan.proofs.MatchLaws.{first-most, first-matches, first-skips}
 

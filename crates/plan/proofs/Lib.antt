@@ -7,3 +7,5 @@ pub mod RangeLaws
 pub mod ExactLaws
 pub mod Claims
 pub mod Determined
+pub mod BodyLaws
+pub mod BodiesDetermined

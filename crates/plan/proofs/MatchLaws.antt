@@ -9,8 +9,8 @@ use Rattle.lists.specs.Text.{same}
 use Rattle.lists.specs.Part.{part}
 use Rattle.lists.specs.Rows.{Wide}
 use Rattle.lists.proofs.PartLaws.{length-part, part-add}
-use Rattle.bodies.specs.Rules.{planBody, sharedOf}
-use Rattle.bodies.proofs.BodyLaws.{body-length}
+use Rattle.plan.specs.BodiesRules.{planBody, sharedOf}
+use Rattle.plan.proofs.BodyLaws.{body-length}
 use Rattle.plan.specs.Rules.{matches, joinedWith, firstWith}
 use Rattle.plan.proofs.TextLaws.{same-append}
 

@@ -13,15 +13,15 @@ use Rattle.lists.specs.BigEndian.{number}
 use Rattle.lists.proofs.EachLaws.{each-append}
 use Rattle.lists.proofs.PartLaws.{length-part, part-part, part-at}
 use Rattle.clock.specs.Date.{isDate}
-use Rattle.cells.specs.Layout.{total}
-use Rattle.cells.proofs.PartLaws.{Fit, begins, flat-part}
+use Rattle.columns.specs.Layout.{total}
+use Rattle.columns.proofs.PartLaws.{Fit, begins, flat-part}
 use Rattle.passage.specs.Layout.{keyOf}
 use Rattle.passage.specs.Ranges.{paddedText}
 use Rattle.passage.specs.Facts.{PlanFacts, TimeFacts}
 use Rattle.passage.proofs.RangeLaws.{facts-plan}
 use Rattle.reader.specs.Staged.{PassFacts, ValidityFacts}
-use Rattle.bodies.specs.Rules.{planKey, planRest, planBody}
-use Rattle.bodies.proofs.BodyLaws.{key-length, body-length}
+use Rattle.plan.specs.BodiesRules.{planKey, planRest, planBody}
+use Rattle.plan.proofs.BodyLaws.{key-length, body-length}
 use Rattle.plan.specs.Rules.{matches, joinedWith, joined}
 use Rattle.plan.specs.Claims.{Passage}
 

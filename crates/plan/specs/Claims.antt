@@ -6,12 +6,12 @@ use mathlib.Core.List.{List, [], _∷_}
 use mathlib.Core.Logic.{_⊎_, _↔_}
 use lib.ListN.{length}
 use Rattle.lists.specs.Each.{Each}
-use Rattle.cells.specs.declared.Table.the-variants.{Planning, Calendar}
+use Rattle.columns.specs.declared.Table.the-variants.{Planning, Calendar}
 use Rattle.passage.specs.Layout.{body-wide, keyOf}
 use Rattle.passage.specs.Ranges.{planInRange}
 use Rattle.reader.specs.Rules.{rowsUpTo, itemsOf}
 use Rattle.reader.specs.Staged.{PassFacts, ValidityFacts}
-use Rattle.bodies.specs.Rules.{planKey, planBody}
+use Rattle.plan.specs.BodiesRules.{planKey, planBody}
 use Rattle.plan.specs.Rules.{matches, joined}
 
 -- P holds of one element at least

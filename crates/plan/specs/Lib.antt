@@ -1,3 +1,4 @@
 pub mod Rules
 pub mod Claims
 pub mod Cases
+pub mod BodiesRules

@@ -5,7 +5,7 @@ use mathlib.Core.List.{List, [], _∷_, _++_}
 use Rattle.lists.specs.Logic.{on, both}
 use Rattle.lists.specs.Text.{same}
 use Rattle.lists.specs.Part.{part}
-use Rattle.bodies.specs.Rules.{planBody}
+use Rattle.plan.specs.BodiesRules.{planBody}
 
 -- the same owner and the same service level
 unfoldable pub matches : List ℕ → List ℕ → Bool

@@ -16,12 +16,12 @@ use Rattle.syntax.specs.declared.Verdict.the-variants as Verdicts
 use Rattle.syntax.specs.Machine.{fault}
 use Rattle.grammar.specs.Grammar.{WellFormed}
 use Rattle.syntax.proofs.GrammarLaws.{fine, formed}
-use Rattle.lines.specs.declared.Mark.{Mark}
-use Rattle.lines.specs.declared.Mark.the-variants as Marks
-use Rattle.lines.specs.Lines.{lines, markOf}
-use Rattle.cells.specs.declared.Table.{Table}
-use Rattle.cells.specs.declared.Table.the-variants.{Message, Planning, Calendar}
-use Rattle.cells.specs.Tables.{rowOf}
+use Rattle.turbo_lines.specs.declared.Mark.{Mark}
+use Rattle.turbo_lines.specs.declared.Mark.the-variants as Marks
+use Rattle.turbo_lines.specs.Lines.{lines, markOf}
+use Rattle.columns.specs.declared.Table.{Table}
+use Rattle.columns.specs.declared.Table.the-variants.{Message, Planning, Calendar}
+use Rattle.columns.specs.Tables.{rowOf}
 use Rattle.register.specs.Register.{grants}
 use Rattle.register.proofs.RegisterLaws.{grants-desk}
 use Rattle.reader.proofs.BoundLaws.{message-bounded, planning-bounded, calendar-bounded}

@@ -14,23 +14,23 @@ use Rattle.lists.specs.Logic.{on, both}
 use Rattle.lists.specs.Text.{bytes, same}
 use Rattle.lists.proofs.LogicLaws.{both-false}
 use Rattle.lists.proofs.TextLaws.{same-equal}
-use Rattle.fields.specs.Dates.{date}
-use Rattle.fields.specs.Times.{time}
-use Rattle.stamps.specs.Stamps.{stamp}
-use Rattle.fields.proofs.TripleLaws.{triple-length, clock-other}
-use Rattle.lines.specs.declared.Mark.{Mark}
-use Rattle.lines.specs.declared.Mark.the-variants as Marks
+use Rattle.field_types.specs.Dates.{date}
+use Rattle.field_types.specs.Times.{time}
+use Rattle.field_types.specs.Stamps.{stamp}
+use Rattle.field_types.proofs.TripleLaws.{triple-length, clock-other}
+use Rattle.turbo_lines.specs.declared.Mark.{Mark}
+use Rattle.turbo_lines.specs.declared.Mark.the-variants as Marks
 use Rattle.turbo.specs.Split.{until, past, tailAt, fields, fieldAt}
-use Rattle.lines.specs.Lines.{lines, markOf, afterMark}
-use Rattle.labels.specs.Columns.{place}
+use Rattle.turbo_lines.specs.Lines.{lines, markOf, afterMark}
+use Rattle.turbo_labels.specs.Columns.{place}
 use Rattle.turbo.proofs.SplitLaws.{until-le, past-drop, field-tail}
-use Rattle.lines.proofs.LineLaws.{lines-cons, lines-none}
-use Rattle.cells.specs.declared.Table.{Table}
-use Rattle.cells.specs.declared.Table.the-variants.{Message, Planning, Calendar}
-use Rattle.cells.specs.Cell.{null, missing, cell, numberCell, timeCell, timeAt, some}
-use Rattle.cells.specs.Cell as Cell
-use Rattle.cells.specs.Layout.{columnAt}
-use Rattle.cells.specs.Tables.{must, cellAt, stopPlace, wrongColumn, rowOf, columnsIn, messageColumns, planningColumns, calendarColumns}
+use Rattle.turbo_lines.proofs.LineLaws.{lines-cons, lines-none}
+use Rattle.columns.specs.declared.Table.{Table}
+use Rattle.columns.specs.declared.Table.the-variants.{Message, Planning, Calendar}
+use Rattle.columns.specs.Cell.{null, missing, cell, numberCell, timeCell, timeAt, some}
+use Rattle.columns.specs.Cell as Cell
+use Rattle.columns.specs.Layout.{columnAt}
+use Rattle.columns.specs.Tables.{must, cellAt, stopPlace, wrongColumn, rowOf, columnsIn, messageColumns, planningColumns, calendarColumns}
 use Rattle.rows.proofs.RowLaws.{all-right}
 use Rattle.reader.proofs.HeldLaws.{must-cell}
 use Rattle.reader.specs.Items.{Item, head, row, Place, outside, awaiting, under, after, seen, before, items}

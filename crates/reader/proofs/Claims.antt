@@ -1,6 +1,6 @@
 -- The claims of `specs/Claims.antt`. Assumes nothing.
 use mathlib.Core.List.{[]}
-use Rattle.cells.specs.declared.Table.the-variants.{Message, Planning, Calendar}
+use Rattle.columns.specs.declared.Table.the-variants.{Message, Planning, Calendar}
 use Rattle.reader.specs.Claims.{All}
 use Rattle.reader.specs.Rules.{itemsOf}
 use Rattle.reader.proofs.RangeLaws.{rows-in-range}

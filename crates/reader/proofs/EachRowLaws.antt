@@ -9,8 +9,8 @@ use Rattle.lists.specs.Logic.{on, both}
 use Rattle.lists.specs.Each.{Each}
 use Rattle.lists.specs.Rows.{Wide}
 use Rattle.lists.proofs.LogicLaws.{both-false}
-use Rattle.cells.specs.declared.Table.{Table}
-use Rattle.cells.specs.Tables.{rowOf, rowWidth, wrongColumn}
+use Rattle.columns.specs.declared.Table.{Table}
+use Rattle.columns.specs.Tables.{rowOf, rowWidth, wrongColumn}
 use Rattle.rows.proofs.RowLaws.{row-length}
 use Rattle.reader.specs.Items.{Item, head, row}
 use Rattle.reader.specs.Rules.{formBad, ownerBad, rowsUpTo, fine}

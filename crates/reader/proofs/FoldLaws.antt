@@ -9,22 +9,22 @@ use lib.ListN.{length, replicate}
 use Rattle.lists.specs.Logic.{on, both}
 use Rattle.lists.specs.Text.{same}
 use Rattle.lists.specs.Part.{over}
-use Rattle.lines.specs.declared.Mark.{Mark}
-use Rattle.lines.specs.declared.Mark.the-variants as Marks
+use Rattle.turbo_lines.specs.declared.Mark.{Mark}
+use Rattle.turbo_lines.specs.declared.Mark.the-variants as Marks
 use Rattle.turbo.specs.Split.{until, fields}
-use Rattle.lines.specs.Lines.{markOf, afterMark}
-use Rattle.cells.specs.declared.Table.{Table}
-use Rattle.cells.specs.Tables.{tableName, rowOf, wrongColumn}
-use Rattle.shapes.specs.declared.Shape.{Shape}
-use Rattle.shapes.specs.Shape.{labelFault, shapeOf}
+use Rattle.turbo_lines.specs.Lines.{markOf, afterMark}
+use Rattle.columns.specs.declared.Table.{Table}
+use Rattle.columns.specs.Tables.{tableName, rowOf, wrongColumn}
+use Rattle.rows.specs.declared.Shape.{Shape}
+use Rattle.rows.specs.Shape.{labelFault, shapeOf}
 use Rattle.rows.specs.Reading.{readBy, readGiven}
-use Rattle.cells.specs.Layout.{room}
-use Rattle.steps.specs.declared.State.{State}
+use Rattle.columns.specs.Layout.{room}
+use Rattle.reader_step.specs.declared.State.{State}
 use Rattle.reader.specs.declared.Answer.{Answer}
 use Rattle.reader.specs.declared.Answer.the-variants.{Form}
 use Rattle.reader.specs.Items.{Item, head, row, Place, outside, awaiting, under, after, seen, before}
 use Rattle.reader.specs.Rules.{formBad, isWrong, ownerBad, firstLine, firstColumn, rowsUpTo, settled}
-use Rattle.steps.specs.Step.{moved, misformed, labelled, mistyped, disowned, counted, maySend, rowStep, dataStep, labelStep, stepAt, stepBy}
+use Rattle.reader_step.specs.Step.{moved, misformed, labelled, mistyped, disowned, counted, maySend, rowStep, dataStep, labelStep, stepAt, stepBy}
 
 -- The answer by lines: what a line changes in the state is what its item changes in the answer. Assumes nothing.
 

@@ -13,15 +13,15 @@ use Rattle.lists.specs.Part.{part}
 use Rattle.lists.specs.BigEndian.{number}
 use Rattle.lists.proofs.PartLaws.{part-cons, part-zero}
 use Rattle.turbo.specs.Split.{fieldAt}
-use Rattle.labels.specs.Columns.{place}
+use Rattle.turbo_labels.specs.Columns.{place}
 use Rattle.turbo.specs.Escape.{decode}
-use Rattle.cells.specs.declared.Table.{Table}
-use Rattle.cells.specs.Cell as Cell
-use Rattle.cells.specs.Cell.{cell, some, null, width}
-use Rattle.cells.specs.Claims.{TimeOrMissing}
-use Rattle.cells.specs.Tables.{Column, must, may, nameOf, cellAt, stopPlace, rowOf, rowWidth, wrongColumn}
-use Rattle.cells.specs.Layout.{wanted, columnAt, kindAt, offset}
-use Rattle.cells.proofs.RangeLaws.{texts-in-range}
+use Rattle.columns.specs.declared.Table.{Table}
+use Rattle.columns.specs.Cell as Cell
+use Rattle.columns.specs.Cell.{cell, some, null, width}
+use Rattle.columns.specs.Claims.{TimeOrMissing}
+use Rattle.columns.specs.Tables.{Column, must, may, nameOf, cellAt, stopPlace, rowOf, rowWidth, wrongColumn}
+use Rattle.columns.specs.Layout.{wanted, columnAt, kindAt, offset}
+use Rattle.columns.proofs.RangeLaws.{texts-in-range}
 use Rattle.rows.proofs.RowLaws.{all-right, row-length, row-part}
 use Rattle.passage.specs.Ranges.{paddedText}
 use Rattle.passage.specs.Facts.{TimeFacts}

@@ -12,23 +12,23 @@ use Rattle.lists.specs.Logic.{on}
 use Rattle.lists.specs.Part.{over}
 use Rattle.lists.specs.Rows.{flat, Wide}
 use Rattle.lists.proofs.OverLaws.{over-nil, length-over}
-use Rattle.lines.specs.declared.Mark.{Mark}
-use Rattle.lines.specs.declared.Mark.the-variants as Marks
+use Rattle.turbo_lines.specs.declared.Mark.{Mark}
+use Rattle.turbo_lines.specs.declared.Mark.the-variants as Marks
 use Rattle.turbo.specs.Split.{until, past, fields}
-use Rattle.lines.specs.Lines.{lines, markOf, afterMark}
-use Rattle.lines.proofs.LineLaws.{lines-cons, lines-none, after-line-shorter}
-use Rattle.cells.specs.declared.Table.{Table}
-use Rattle.cells.specs.Tables.{rowWidth}
-use Rattle.steps.specs.declared.State.{State}
+use Rattle.turbo_lines.specs.Lines.{lines, markOf, afterMark}
+use Rattle.turbo_lines.proofs.LineLaws.{lines-cons, lines-none, after-line-shorter}
+use Rattle.columns.specs.declared.Table.{Table}
+use Rattle.columns.specs.Tables.{rowWidth}
+use Rattle.reader_step.specs.declared.State.{State}
 use Rattle.reader.specs.declared.Answer.the-variants.{Form, Field, Owner, Rows}
 use Rattle.reader.specs.Items.{Item, Place, outside, after, seen, before, items}
-use Rattle.shapes.specs.declared.Shape.{Shape}
+use Rattle.rows.specs.declared.Shape.{Shape}
 use Rattle.rows.specs.declared.Read.{Read}
-use Rattle.shapes.specs.Shape.{shapeOf}
+use Rattle.rows.specs.Shape.{shapeOf}
 use Rattle.rows.specs.Reading.{readBy}
 use Rattle.reader.specs.Rules.{settled, firstLine, firstColumn, answerTo, rowsUpTo, itemsOf, laid}
-use Rattle.steps.specs.Step.{moved, misformed, labelled, mistyped, disowned, counted, maySend, rowStep, dataStep, labelStep, stepAt, stepBy, stageBy, Fresh}
-use Rattle.steps.proofs.WidthLaws.{width-some}
+use Rattle.reader_step.specs.Step.{moved, misformed, labelled, mistyped, disowned, counted, maySend, rowStep, dataStep, labelStep, stepAt, stepBy, stageBy, Fresh}
+use Rattle.reader_step.proofs.WidthLaws.{width-some}
 use Rattle.reader.proofs.FoldLaws.{first, clean, rowsFrom, settledFrom, Agrees, Goes, Reads, line-go}
 use Rattle.reader.proofs.StageLaws.{Stages, Fronts, line-stages, on-same}
 

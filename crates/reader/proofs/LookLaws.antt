@@ -5,7 +5,7 @@ use borrow.Author.Tests.{lt-ltb, le-ltb}
 use lib.ListN.{length}
 use Rattle.syntax.specs.declared.Verdict.the-variants.{Fine, FaultAt}
 use Rattle.syntax.specs.Machine.{fault}
-use Rattle.cells.specs.declared.Table.{Table}
+use Rattle.columns.specs.declared.Table.{Table}
 use Rattle.reader.specs.declared.Answer.the-variants.{TooLong, Syntax}
 use Rattle.reader.specs.Rules.{largest, answerTo, itemsOf, rowsUpTo, laid, readingOf, stagedBy}
 

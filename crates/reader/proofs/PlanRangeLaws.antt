@@ -7,12 +7,12 @@ use mathlib.Core.Logic.{⊎-elim}
 use Rattle.lists.specs.Text.{bytes}
 use Rattle.lists.specs.Each.{Each}
 use Rattle.clock.specs.Date.{isDate}
-use Rattle.cells.specs.declared.Table.the-variants.{Planning, Calendar}
-use Rattle.cells.specs.Cell as Cell
-use Rattle.cells.specs.Cell.{width}
-use Rattle.cells.specs.Tables.{columnsIn, planningColumns, calendarColumns, rowOf, rowWidth, wrongColumn}
-use Rattle.cells.specs.Layout.{columnAt, kindAt, widths, total, offset}
-use Rattle.cells.proofs.RangeLaws.{dates-in-range, numbers-in-range, words-in-range, times-in-range, stop-types-coded}
+use Rattle.columns.specs.declared.Table.the-variants.{Planning, Calendar}
+use Rattle.columns.specs.Cell as Cell
+use Rattle.columns.specs.Cell.{width}
+use Rattle.columns.specs.Tables.{columnsIn, planningColumns, calendarColumns, rowOf, rowWidth, wrongColumn}
+use Rattle.columns.specs.Layout.{columnAt, kindAt, widths, total, offset}
+use Rattle.columns.proofs.RangeLaws.{dates-in-range, numbers-in-range, words-in-range, times-in-range, stop-types-coded}
 use Rattle.rows.proofs.RowLaws.{row-length}
 use Rattle.reader.specs.Items.{Item}
 use Rattle.reader.specs.Rules.{rowsUpTo}

@@ -6,13 +6,13 @@ use mathlib.Core.List.{List}
 use Rattle.lists.specs.Text.{bytes}
 use Rattle.lists.specs.Each.{Each}
 use Rattle.clock.specs.Date.{isDate}
-use Rattle.stamps.specs.Stamps.{inStampRange}
-use Rattle.cells.specs.declared.Table.the-variants.{Message}
-use Rattle.cells.specs.Cell as Cell
-use Rattle.cells.specs.Cell.{width}
-use Rattle.cells.specs.Tables.{columnsIn, messageColumns, rowOf, rowWidth, wrongColumn}
-use Rattle.cells.specs.Layout.{columnAt, kindAt, widths, total, offset}
-use Rattle.cells.proofs.RangeLaws.{dates-in-range, numbers-in-range, stamps-in-range, words-in-range, times-in-range, stop-types-coded}
+use Rattle.field_types.specs.Stamps.{inStampRange}
+use Rattle.columns.specs.declared.Table.the-variants.{Message}
+use Rattle.columns.specs.Cell as Cell
+use Rattle.columns.specs.Cell.{width}
+use Rattle.columns.specs.Tables.{columnsIn, messageColumns, rowOf, rowWidth, wrongColumn}
+use Rattle.columns.specs.Layout.{columnAt, kindAt, widths, total, offset}
+use Rattle.columns.proofs.RangeLaws.{dates-in-range, numbers-in-range, stamps-in-range, words-in-range, times-in-range, stop-types-coded}
 use Rattle.passage.specs.Ranges.{updateInRange}
 use Rattle.passage.specs.Facts.{UpdateFacts}
 use Rattle.passage.proofs.RangeLaws.{facts-update}

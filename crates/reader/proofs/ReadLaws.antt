@@ -6,18 +6,18 @@ use lib.ListN.{length, take, replicate, length-replicate}
 use lib.Seq.{take-take}
 use Rattle.lists.specs.Part.{part, over}
 use Rattle.lists.proofs.ReadLaws.{part-written}
-use Rattle.cells.specs.declared.Table.{Table}
-use Rattle.cells.specs.declared.Table.the-variants.{Message, Planning, Calendar}
-use Rattle.cells.specs.Tables.{rowOf, rowWidth}
-use Rattle.cells.specs.Layout.{room}
+use Rattle.columns.specs.declared.Table.{Table}
+use Rattle.columns.specs.declared.Table.the-variants.{Message, Planning, Calendar}
+use Rattle.columns.specs.Tables.{rowOf, rowWidth}
+use Rattle.columns.specs.Layout.{room}
 use Rattle.register.specs.Register.{grants}
-use Rattle.shapes.specs.declared.Shape.{Shape}
+use Rattle.rows.specs.declared.Shape.{Shape}
 use Rattle.rows.specs.Reading.{IsShape}
 use Rattle.rows.proofs.RowLaws.{shape-reads, row-length}
-use Rattle.steps.specs.declared.State.{State}
-use Rattle.steps.specs.Step.{maySend}
+use Rattle.reader_step.specs.declared.State.{State}
+use Rattle.reader_step.specs.Step.{maySend}
 use Rattle.reader.specs.Items.{Place, outside, awaiting, under}
-use Rattle.steps.proofs.WidthLaws.{width-most, width-owner}
+use Rattle.reader_step.proofs.WidthLaws.{width-most, width-owner}
 use Rattle.reader.proofs.FoldLaws.{Agrees, Reads, shape-fault}
 use Rattle.reader.proofs.StageLaws.{Fronts}
 

@@ -17,21 +17,21 @@ use Rattle.lists.proofs.EachLaws.{each-append}
 use Rattle.lists.proofs.OverLaws.{length-over, over-then}
 use Rattle.lists.proofs.RowLaws.{flat-append}
 use Rattle.lists.proofs.WideLaws.{length-flat}
-use Rattle.lines.specs.declared.Mark.{Mark}
-use Rattle.lines.specs.declared.Mark.the-variants as Marks
+use Rattle.turbo_lines.specs.declared.Mark.{Mark}
+use Rattle.turbo_lines.specs.declared.Mark.the-variants as Marks
 use Rattle.turbo.specs.Split.{until, fields}
-use Rattle.lines.specs.Lines.{markOf, afterMark}
-use Rattle.cells.specs.declared.Table.{Table}
-use Rattle.cells.specs.Tables.{tableName, rowOf, rowWidth, wrongColumn}
-use Rattle.shapes.specs.declared.Shape.{Shape}
+use Rattle.turbo_lines.specs.Lines.{markOf, afterMark}
+use Rattle.columns.specs.declared.Table.{Table}
+use Rattle.columns.specs.Tables.{tableName, rowOf, rowWidth, wrongColumn}
+use Rattle.rows.specs.declared.Shape.{Shape}
 use Rattle.rows.specs.declared.Read.{Read}
-use Rattle.shapes.specs.Shape.{labelFault, shapeOf}
+use Rattle.rows.specs.Shape.{labelFault, shapeOf}
 use Rattle.rows.specs.Reading.{readBy, readGiven}
-use Rattle.cells.specs.Layout.{room}
-use Rattle.steps.specs.declared.State.{State}
+use Rattle.columns.specs.Layout.{room}
+use Rattle.reader_step.specs.declared.State.{State}
 use Rattle.reader.specs.Items.{Item, head, row, Place, outside, awaiting, under, after, seen, before}
 use Rattle.reader.specs.Rules.{rowsUpTo, laid}
-use Rattle.steps.specs.Step.{moved, misformed, labelled, mistyped, disowned, counted, maySend, dataStep, labelStep, stepAt, stepBy, staged, rowStaged, dataStaged, stagedAt, stageBy}
+use Rattle.reader_step.specs.Step.{moved, misformed, labelled, mistyped, disowned, counted, maySend, dataStep, labelStep, stepAt, stepBy, staged, rowStaged, dataStaged, stagedAt, stageBy}
 use Rattle.reader.proofs.FoldLaws.{clean, rowsFrom, Agrees, Reads, shape-fault, shape-count, data-tested}
 
 -- The staging area by lines: what a line stages is what its item gives. Assumes nothing.

@@ -10,13 +10,13 @@ use Rattle.lists.specs.Part.{over}
 use Rattle.lists.specs.Rows.{flat, rowsOf, Wide}
 use Rattle.lists.proofs.OverLaws.{onto-fits}
 use Rattle.lists.proofs.WideLaws.{length-flat, rowsOf-flat}
-use Rattle.cells.specs.declared.Table.{Table}
-use Rattle.cells.specs.declared.Table.the-variants.{Message, Planning, Calendar}
-use Rattle.cells.specs.Cell.{width}
-use Rattle.cells.specs.Tables.{messageColumns, planningColumns, calendarColumns, columnsIn, rowWidth}
+use Rattle.columns.specs.declared.Table.{Table}
+use Rattle.columns.specs.declared.Table.the-variants.{Message, Planning, Calendar}
+use Rattle.columns.specs.Cell.{width}
+use Rattle.columns.specs.Tables.{messageColumns, planningColumns, calendarColumns, columnsIn, rowWidth}
 use Rattle.reader.specs.declared.Answer.the-variants.{Rows}
 use Rattle.reader.specs.Rules.{largest, rowsUpTo, itemsOf, readingOf, stagedBy}
-use Rattle.steps.proofs.WidthLaws.{width-some}
+use Rattle.reader_step.proofs.WidthLaws.{width-some}
 use Rattle.reader.proofs.EachRowLaws.{rows-wide}
 use Rattle.reader.proofs.AnswerLaws.{reading-looked, rows-counted}
 

@@ -13,18 +13,18 @@ use Rattle.clock.specs.Moment.{monthStart, dayCount}
 use Rattle.syntax.specs.Machine.{field, escape, firstEscape, nul, ret, opened, marked, step, accepting, run, fault}
 use Rattle.turbo.specs.Escape.{escaped, decode}
 use Rattle.turbo.specs.Split.{until, past, fields, fieldAt}
-use Rattle.lines.specs.Lines.{linesFrom, markOf, afterMark}
-use Rattle.labels.specs.Columns.{count, place, anyTwice}
-use Rattle.fields.specs.Digits.{number, triple}
-use Rattle.fields.specs.Times.{clock, time}
-use Rattle.fields.specs.Dates.{date}
-use Rattle.stamps.specs.Stamps.{offset, stampSeconds, stamp}
-use Rattle.words.specs.Names.{bit, status, stopType, flexible}
+use Rattle.turbo_lines.specs.Lines.{linesFrom, markOf, afterMark}
+use Rattle.turbo_labels.specs.Columns.{count, place, anyTwice}
+use Rattle.field_types.specs.Digits.{number, triple}
+use Rattle.field_types.specs.Times.{clock, time}
+use Rattle.field_types.specs.Dates.{date}
+use Rattle.field_types.specs.Stamps.{offset, stampSeconds, stamp}
+use Rattle.field_types.specs.Names.{bit, status, stopType, flexible}
 use Rattle.texts.specs.Texts.{text}
-use Rattle.cells.specs.declared.Table.the-variants.{Message, Calendar}
-use Rattle.cells.specs.Cell.{cell}
-use Rattle.cells.specs.Tables.{messageColumns, calendarColumns, columnsIn, tableName, names, misses, rowOf, wrongColumn}
-use Rattle.shapes.specs.Shape.{labelFault}
+use Rattle.columns.specs.declared.Table.the-variants.{Message, Calendar}
+use Rattle.columns.specs.Cell.{cell}
+use Rattle.columns.specs.Tables.{messageColumns, calendarColumns, columnsIn, tableName, names, misses, rowOf, wrongColumn}
+use Rattle.rows.specs.Shape.{labelFault}
 use Rattle.register.specs.Register.{among, grants}
 use Rattle.reader.specs.declared.Answer.{Answer}
 use Rattle.reader.specs.declared.Answer.the-variants.{Syntax, Form, Field, Owner, Rows}

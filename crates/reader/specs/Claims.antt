@@ -8,9 +8,9 @@ use lib.ListN.{length}
 use Rattle.lists.specs.Each.{Each}
 use Rattle.lists.specs.Rows.{rowsOf}
 use Rattle.grammar.specs.Grammar.{WellFormed}
-use Rattle.cells.specs.declared.Table.{Table}
-use Rattle.cells.specs.declared.Table.the-variants.{Message, Planning, Calendar}
-use Rattle.cells.specs.Tables.{rowWidth}
+use Rattle.columns.specs.declared.Table.{Table}
+use Rattle.columns.specs.declared.Table.the-variants.{Message, Planning, Calendar}
+use Rattle.columns.specs.Tables.{rowWidth}
 use Rattle.reader.specs.declared.Answer.{Answer}
 use Rattle.reader.specs.declared.Answer.the-variants.{TooLong, Syntax, Form, Field, Owner, Rows}
 use Rattle.passage.specs.Ranges.{updateInRange}

@@ -4,12 +4,12 @@ use mathlib.Core.Bool.{Bool, true, false}
 use mathlib.Core.List.{List, [], _∷_}
 use Rattle.lists.specs.Logic.{on}
 use Rattle.lists.specs.Text.{same}
-use Rattle.lines.specs.declared.Mark.{Mark}
-use Rattle.lines.specs.declared.Mark.the-variants as Marks
+use Rattle.turbo_lines.specs.declared.Mark.{Mark}
+use Rattle.turbo_lines.specs.declared.Mark.the-variants as Marks
 use Rattle.turbo.specs.Split.{until, fields}
-use Rattle.lines.specs.Lines.{markOf, afterMark}
-use Rattle.cells.specs.declared.Table.{Table}
-use Rattle.cells.specs.Tables.{tableName}
+use Rattle.turbo_lines.specs.Lines.{markOf, afterMark}
+use Rattle.columns.specs.declared.Table.{Table}
+use Rattle.columns.specs.Tables.{tableName}
 
 -- a label line of the table, or a data line under its labels; each with its line number
 pub data Item : Type 0 where

@@ -11,11 +11,11 @@ use Rattle.syntax.specs.declared.Verdict.{Verdict}
 use Rattle.syntax.specs.declared.Verdict.the-variants as Verdicts
 use Rattle.syntax.specs.Machine.{fault}
 use Rattle.turbo.specs.Split.{fields}
-use Rattle.lines.specs.Lines.{lines}
-use Rattle.cells.specs.declared.Table.{Table}
-use Rattle.cells.specs.Tables.{rowWidth, rowOf, wrongColumn}
-use Rattle.shapes.specs.Shape.{labelFault}
-use Rattle.steps.specs.Step.{maySend}
+use Rattle.turbo_lines.specs.Lines.{lines}
+use Rattle.columns.specs.declared.Table.{Table}
+use Rattle.columns.specs.Tables.{rowWidth, rowOf, wrongColumn}
+use Rattle.rows.specs.Shape.{labelFault}
+use Rattle.reader_step.specs.Step.{maySend}
 use Rattle.reader.specs.declared.Answer.{Answer}
 use Rattle.reader.specs.declared.Answer.the-variants.{TooLong, Syntax, Form, Field, Owner, Rows}
 use Rattle.reader.specs.Items.{Item, head, row, Place, outside, items}

@@ -1,6 +1,6 @@
 // The reader of turbo dossiers: from any bytes to rows in a staging area, or the refusal that document 01 gives. It knows nothing of boards.
-use cells::Table;
-use steps::State;
+use columns::Table;
+use reader_step::State;
 use syntax::Verdict;
 ghost use mathlib.Core.Path.{_≡_};
 ghost use mathlib.Core.List.{[]};
@@ -37,12 +37,12 @@ fn read_lines(t: Table, d: &[u8], register: &[u8], sender: u8, staging: &mut [u8
     ensures answer { λ r. ⌜ r ≡ answerTo t (now (register .entry)) sender (itemsOf t (now (d .entry))) ⌝ }
     ensures area { λ _. ⌜ now (staging .exit) ≡ laid t (rowsUpTo t (now (register .entry)) sender (itemsOf t (now (d .entry)))) (now (staging .entry)) ⌝ }
 {
-    let mut s = steps::start();
+    let mut s = reader_step::start();
     let mut rest = d;
     while 0 < rest.len() {
         let mut size: usize = 0;
-        let next = lines::read_line(rest, &mut size);
-        s = steps::line_step(t, s, &rest[..size], register, sender, staging);
+        let next = turbo_lines::read_line(rest, &mut size);
+        s = reader_step::line_step(t, s, &rest[..size], register, sender, staging);
         if s.form != 0 {
             return Answer::Form(s.form);
         }

@@ -11,10 +11,10 @@ use lib.ListN.{length, getD, set}
 use Rattle.lists.specs.Logic.{on}
 use Rattle.lists.specs.Rows.{flat}
 use Rattle.lists.specs.Part.{onto, over}
-use Rattle.cells.specs.Cell.{some}
-use Rattle.cells.specs.Tables.{Column, lesser}
-use Rattle.cells.specs.Layout.{total}
-use Rattle.cells.proofs.PartLaws.{begins, Fit}
+use Rattle.columns.specs.Cell.{some}
+use Rattle.columns.specs.Tables.{Column, lesser}
+use Rattle.columns.specs.Layout.{total}
+use Rattle.columns.proofs.PartLaws.{begins, Fit}
 use Rattle.rows.specs.Reading.{perColumn, firstWrong}
 
 module _ (f : Column → ℕ → List ℕ) where

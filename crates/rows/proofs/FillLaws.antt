@@ -15,18 +15,18 @@ use Rattle.lists.specs.Part.{over}
 use Rattle.lists.specs.Rows.{flat}
 use Rattle.lists.proofs.LogicLaws.{both-true}
 use Rattle.turbo.specs.Split.{fieldAt}
-use Rattle.labels.specs.Columns.{most}
-use Rattle.cells.specs.declared.Table.{Table}
-use Rattle.cells.specs.Cell.{null, text, width, cell, some}
-use Rattle.cells.specs.Tables.{Column, must, columnsIn, isOptional, cellAt, rowWidth}
-use Rattle.cells.specs.Layout.{wanted, columnAt, kindAt, optionalAt, widthIn, widths, offset, room, blankCell, blankRow}
-use Rattle.cells.proofs.CellLaws.{cell-width}
-use Rattle.cells.proofs.PartLaws.{Fit}
-use Rattle.cells.proofs.LayoutLaws.{absent-width, width-at, length-widths, wanted-most}
-use Rattle.shapes.specs.declared.Shape.{Shape}
+use Rattle.turbo_labels.specs.Columns.{most}
+use Rattle.columns.specs.declared.Table.{Table}
+use Rattle.columns.specs.Cell.{null, text, width, cell, some}
+use Rattle.columns.specs.Tables.{Column, must, columnsIn, isOptional, cellAt, rowWidth}
+use Rattle.columns.specs.Layout.{wanted, columnAt, kindAt, optionalAt, widthIn, widths, offset, room, blankCell, blankRow}
+use Rattle.columns.proofs.CellLaws.{cell-width}
+use Rattle.columns.proofs.PartLaws.{Fit}
+use Rattle.columns.proofs.LayoutLaws.{absent-width, width-at, length-widths, wanted-most}
+use Rattle.rows.specs.declared.Shape.{Shape}
 use Rattle.rows.specs.Reading.{perColumn, cellsBy, empty, cellOf, filled}
 use Rattle.rows.proofs.ColumnLaws.{per-length, per-at, flat-set, fit-each}
-use Rattle.shapes.proofs.SoundLaws.{Sound}
+use Rattle.rows.proofs.SoundLaws.{Sound}
 
 pub equal : (k j : ℕ) → Dec (k ≡ j)
 equal k j = go (eqb k j) refl

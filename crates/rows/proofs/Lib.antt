@@ -8,3 +8,11 @@ pub mod RowLaws
 pub mod UnderLaws
 pub mod Claims
 pub mod Determined
+pub mod NextLaws
+pub mod OrderLaws
+pub mod AheadLaws
+pub mod ShapeLaws
+pub mod SoundLaws
+pub mod LabelLaws
+pub mod ShapesClaims
+pub mod ShapesDetermined

@@ -11,19 +11,19 @@ use Rattle.lists.specs.Logic.{on}
 use Rattle.lists.specs.Part.{part, over}
 use Rattle.lists.specs.Rows.{flat}
 use Rattle.lists.proofs.OverLaws.{length-over}
-use Rattle.labels.specs.Columns.{place}
-use Rattle.cells.specs.declared.Table.{Table}
-use Rattle.cells.specs.Cell.{text, width, some}
-use Rattle.cells.specs.Tables.{Column, must, columnsIn, nameOf, cellAt, cellsOf, stopPlace, rowOf, rowWidth, wrongIn, wrongColumn, lesser}
-use Rattle.cells.specs.Layout.{wanted, columnAt, kindAt, widths, offset, room}
-use Rattle.cells.proofs.PartLaws.{begins, Fit, length-flat, flat-part}
-use Rattle.cells.proofs.LayoutLaws.{wanted-most, width-at, length-widths, total-widths}
-use Rattle.shapes.specs.declared.Shape.{Shape}
+use Rattle.turbo_labels.specs.Columns.{place}
+use Rattle.columns.specs.declared.Table.{Table}
+use Rattle.columns.specs.Cell.{text, width, some}
+use Rattle.columns.specs.Tables.{Column, must, columnsIn, nameOf, cellAt, cellsOf, stopPlace, rowOf, rowWidth, wrongIn, wrongColumn, lesser}
+use Rattle.columns.specs.Layout.{wanted, columnAt, kindAt, widths, offset, room}
+use Rattle.columns.proofs.PartLaws.{begins, Fit, length-flat, flat-part}
+use Rattle.columns.proofs.LayoutLaws.{wanted-most, width-at, length-widths, total-widths}
+use Rattle.rows.specs.declared.Shape.{Shape}
 use Rattle.rows.specs.declared.Read.{Read}
-use Rattle.shapes.specs.Shape.{placesOf, labelFault, shapeOf}
+use Rattle.rows.specs.Shape.{placesOf, labelFault, shapeOf}
 use Rattle.rows.specs.Reading.{perColumn, cellsBy, firstWrong, readGiven, readCells, readBy, IsShape}
 use Rattle.rows.proofs.ColumnLaws.{WrongIs, wrong-is, fit-each}
-use Rattle.shapes.proofs.SoundLaws.{name-at, place-at, places-room, shape-fault, shape-is}
+use Rattle.rows.proofs.SoundLaws.{name-at, place-at, places-room, shape-fault, shape-is}
 use Rattle.rows.proofs.FillLaws.{cell-wide}
 
 -- ---- the readers' rule is the rule by labels

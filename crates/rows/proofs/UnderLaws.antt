@@ -10,15 +10,15 @@ use borrow.Author.Tests.{lt-ltb, le-ltb}
 use lib.ListN.{length}
 use lib.Seq.{ext-getD}
 use Rattle.lists.specs.Rows.{flat}
-use Rattle.labels.specs.Columns.{place}
-use Rattle.labels.proofs.PlaceLaws.{place-missing}
-use Rattle.cells.specs.declared.Table.{Table}
-use Rattle.cells.specs.Cell.{some}
-use Rattle.cells.specs.Tables.{columnsIn, nameOf, cellsOf, rowOf, wrongColumn}
-use Rattle.cells.specs.Layout.{wanted, columnAt, optionalAt}
-use Rattle.shapes.specs.Shape.{labelFault}
-use Rattle.shapes.specs.Claims.{Stands}
-use Rattle.shapes.proofs.LabelLaws.{Once, stands-place, faultless, must-stand, place-is}
+use Rattle.turbo_labels.specs.Columns.{place}
+use Rattle.turbo_labels.proofs.PlaceLaws.{place-missing}
+use Rattle.columns.specs.declared.Table.{Table}
+use Rattle.columns.specs.Cell.{some}
+use Rattle.columns.specs.Tables.{columnsIn, nameOf, cellsOf, rowOf, wrongColumn}
+use Rattle.columns.specs.Layout.{wanted, columnAt, optionalAt}
+use Rattle.rows.specs.Shape.{labelFault}
+use Rattle.rows.specs.ShapesClaims.{Stands}
+use Rattle.rows.proofs.LabelLaws.{Once, stands-place, faultless, must-stand, place-is}
 use Rattle.rows.specs.Claims.{cellBy, stopField, Outside, Alike}
 use Rattle.rows.proofs.RowLaws.{cellFor, of-length, cell-at, all-right, none-wrong, first-wrong}
 

@@ -10,18 +10,18 @@ use Rattle.clock.specs.Date.{daysIn, isDate}
 use Rattle.clock.specs.Moment.{monthStart, dayCount}
 use Rattle.turbo.specs.Escape.{escaped, decode}
 use Rattle.turbo.specs.Split.{fields, fieldAt}
-use Rattle.labels.specs.Columns.{count, place, anyTwice, placesFrom}
-use Rattle.fields.specs.Digits.{number, triple}
-use Rattle.fields.specs.Times.{clock, time}
-use Rattle.fields.specs.Dates.{date}
-use Rattle.stamps.specs.Stamps.{offset, stampSeconds, stamp}
-use Rattle.words.specs.Names.{bit, status, stopType, flexible}
+use Rattle.turbo_labels.specs.Columns.{count, place, anyTwice, placesFrom}
+use Rattle.field_types.specs.Digits.{number, triple}
+use Rattle.field_types.specs.Times.{clock, time}
+use Rattle.field_types.specs.Dates.{date}
+use Rattle.field_types.specs.Stamps.{offset, stampSeconds, stamp}
+use Rattle.field_types.specs.Names.{bit, status, stopType, flexible}
 use Rattle.texts.specs.Texts.{text}
-use Rattle.cells.specs.declared.Table.the-variants.{Message, Calendar}
-use Rattle.cells.specs.Cell.{cell}
-use Rattle.cells.specs.Tables.{messageColumns, calendarColumns, columnsIn, names, misses, rowOf, wrongColumn}
-use Rattle.shapes.specs.Shape.{labelFault, shapeOf}
-use Rattle.shapes.specs.Cases.{labels}
+use Rattle.columns.specs.declared.Table.the-variants.{Message, Calendar}
+use Rattle.columns.specs.Cell.{cell}
+use Rattle.columns.specs.Tables.{messageColumns, calendarColumns, columnsIn, names, misses, rowOf, wrongColumn}
+use Rattle.rows.specs.Shape.{labelFault, shapeOf}
+use Rattle.rows.specs.ShapesCases.{labels}
 use Rattle.rows.specs.Reading.{perColumn, firstWrong, readBy}
 
 -- a message's stop type in front, an unwanted column, and two optional columns missing

@@ -7,15 +7,15 @@ use mathlib.Core.Logic.{_⊎_, _↔_}
 use lib.ListN.{length}
 use Rattle.lists.specs.Part.{part}
 use Rattle.turbo.specs.Split.{fieldAt}
-use Rattle.labels.specs.Columns.{place}
-use Rattle.labels.specs.Claims.{Twice}
-use Rattle.cells.specs.declared.Table.{Table}
-use Rattle.cells.specs.Cell.{width, some}
-use Rattle.cells.specs.Tables.{nameOf, rowWidth, rowOf, wrongColumn, stopPlace}
-use Rattle.cells.specs.Layout.{wanted, columnAt, kindAt, offset, room}
-use Rattle.shapes.specs.declared.Shape.{Shape}
-use Rattle.shapes.specs.Shape.{labelFault, shapeOf}
-use Rattle.shapes.specs.Claims.{Stands}
+use Rattle.turbo_labels.specs.Columns.{place}
+use Rattle.turbo_labels.specs.Claims.{Twice}
+use Rattle.columns.specs.declared.Table.{Table}
+use Rattle.columns.specs.Cell.{width, some}
+use Rattle.columns.specs.Tables.{nameOf, rowWidth, rowOf, wrongColumn, stopPlace}
+use Rattle.columns.specs.Layout.{wanted, columnAt, kindAt, offset, room}
+use Rattle.rows.specs.declared.Shape.{Shape}
+use Rattle.rows.specs.Shape.{labelFault, shapeOf}
+use Rattle.rows.specs.ShapesClaims.{Stands}
 use Rattle.rows.specs.Reading.{cellOf, readGiven, readBy}
 
 -- the field of the row's own stop type, and the cell that column j has by the field at place p

@@ -9,13 +9,13 @@ use Rattle.lists.specs.Logic.{on, both}
 use Rattle.lists.specs.Text.{same}
 use Rattle.lists.specs.Part.{over}
 use Rattle.lists.specs.Rows.{flat}
-use Rattle.cells.specs.declared.Table.{Table}
-use Rattle.cells.specs.Cell.{null, cell, some}
-use Rattle.cells.specs.Tables.{Column, columnsIn, isOptional, cellAt, lesser}
-use Rattle.cells.specs.Layout.{room, columnAt, offset}
-use Rattle.shapes.specs.declared.Shape.{Shape}
+use Rattle.columns.specs.declared.Table.{Table}
+use Rattle.columns.specs.Cell.{null, cell, some}
+use Rattle.columns.specs.Tables.{Column, columnsIn, isOptional, cellAt, lesser}
+use Rattle.columns.specs.Layout.{room, columnAt, offset}
+use Rattle.rows.specs.declared.Shape.{Shape}
 use Rattle.rows.specs.declared.Read.{Read}
-use Rattle.shapes.specs.Shape.{shapeOf}
+use Rattle.rows.specs.Shape.{shapeOf}
 
 -- what f gives of each column and its place
 unfoldable pub perColumn : (Column → ℕ → List ℕ) → List Column → List ℕ → List (List ℕ)

@@ -17,7 +17,7 @@ use Rattle.lists.proofs.RowLaws.{length-rowsOf, flat-append}
 use Rattle.lists.proofs.StoreLaws.{store-same}
 use Rattle.passage.specs.Layout.{row-wide}
 use Rattle.passage.specs.Ranges.{updateInRange}
-use Rattle.cells.specs.declared.Table.the-variants as Tables
+use Rattle.columns.specs.declared.Table.the-variants as Tables
 use Rattle.reader.specs.declared.Answer.the-variants as Readings
 use Rattle.reader.specs.Rules.{readingOf, itemsOf}
 use Rattle.reader.proofs.RangeLaws.{rows-in-range}

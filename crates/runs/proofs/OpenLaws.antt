@@ -12,7 +12,7 @@ use Rattle.lists.specs.Each.{Each}
 use Rattle.lists.specs.Part.{over}
 use Rattle.lists.specs.Rows.{rowsOf, flat, store}
 use Rattle.passage.specs.Layout.{row-wide}
-use Rattle.cells.specs.declared.Table.the-variants as Tables
+use Rattle.columns.specs.declared.Table.the-variants as Tables
 use Rattle.reader.specs.Rules.{readingOf}
 use Rattle.plan.proofs.Claims.{claims}
 use Rattle.keys.specs.Sorted.{sortedRows, put, putAll}

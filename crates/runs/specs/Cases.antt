@@ -13,7 +13,7 @@ use Rattle.passage.specs.Ranges.{paddedText, keyInRange, timesInRange, commonIn
 use Rattle.keys.specs.Keys.{cmp}
 use Rattle.keys.specs.Sorted.{get, put}
 use Rattle.keys.specs.Replay.{taken, takenAll}
-use Rattle.moves.specs.Moves.{table17, mayMove}
+use Rattle.update.specs.Moves.{table17, mayMove}
 use Rattle.update.specs.Rule.{applyRow, beginning, rowRule}
 use Rattle.book.specs.Rules.{planRow, planRows}
 use Rattle.runs.specs.Runs.{Taken, struck, logStanding}

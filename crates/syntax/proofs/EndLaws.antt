@@ -8,7 +8,7 @@ use borrow.Author.Tests.{ne-eqb, eqb-true}
 use lib.ListN.{length, getD, drop}
 use lib.Dec.{eqb, ltb}
 use Rattle.lists.specs.Logic.{on, either}
-use Rattle.skips.specs.Quiet.{loud}
+use Rattle.syntax.specs.Quiet.{loud}
 use Rattle.syntax.specs.declared.Kind.{Kind}
 use Rattle.syntax.specs.declared.Kind.the-variants.{Nothing, Group, Table, Rows}
 use Rattle.syntax.specs.declared.State.{State}

@@ -6,3 +6,5 @@ pub mod GrammarLaws
 pub mod FaultLaws
 pub mod Claims
 pub mod Determined
+pub mod QuietLaws
+pub mod SkipsDetermined

@@ -4,8 +4,8 @@ use mathlib.Core.Path.{_≡_, refl, sym, ap, _∙_}
 use mathlib.Core.Bool.{Bool, true, false}
 use mathlib.Core.List.{List}
 use lib.ListN.{length, getD, drop}
-use Rattle.skips.specs.Quiet.{loud, quietFor, freshAt}
-use Rattle.skips.proofs.QuietLaws.{quiet-within, quiet-stop}
+use Rattle.syntax.specs.Quiet.{loud, quietFor, freshAt}
+use Rattle.syntax.proofs.QuietLaws.{quiet-within, quiet-stop}
 use Rattle.syntax.specs.declared.Kind.{Kind}
 use Rattle.syntax.specs.declared.State.the-variants.{Open, First}
 use Rattle.syntax.specs.declared.Verdict.the-variants.{FaultAt}

@@ -8,8 +8,8 @@ use borrow.Author.Tests.{ne-eqb, lt-ltb, le-ltb}
 use lib.ListN.{length, getD, drop}
 use lib.Dec.{eqb}
 use Rattle.lists.specs.Logic.{on}
-use Rattle.skips.specs.Quiet.{loud, quietFor, freshAt}
-use Rattle.skips.proofs.QuietLaws.{not-loud, loud-here, quiet-skip}
+use Rattle.syntax.specs.Quiet.{loud, quietFor, freshAt}
+use Rattle.syntax.proofs.QuietLaws.{not-loud, loud-here, quiet-skip}
 use Rattle.syntax.specs.declared.Kind.{Kind}
 use Rattle.syntax.specs.declared.State.{State}
 use Rattle.syntax.specs.declared.State.the-variants.{First, Inside, FirstEsc, InsideEsc}

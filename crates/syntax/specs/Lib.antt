@@ -2,3 +2,4 @@ pub mod Machine
 pub mod Claims
 pub mod Cases
 pub mod Scan
+pub mod Quiet

@@ -8,7 +8,7 @@ use Rattle.lists.specs.Part.{part, over}
 use Rattle.lists.proofs.PartLaws.{part-at, length-part}
 use Rattle.lists.proofs.TurnLaws.{put-up}
 use Rattle.passage.specs.Layout.{body-wide, row-wide, status-at, show-cancelled-at, flexible-at, monitored-at, heard-at}
-use Rattle.moves.specs.Moves.{statusAfter, keeps}
+use Rattle.update.specs.Moves.{statusAfter, keeps}
 use Rattle.update.specs.Rule.{applyRow, beginning}
 use Rattle.update.proofs.SetLaws.{over-set}
 

@@ -1,6 +1,6 @@
 -- The claims on the row rule, proved. Assumes nothing.
 use mathlib.Core.Path.{refl, _∙_}
-use Rattle.moves.proofs.Claims as moved
+use Rattle.update.proofs.MovesClaims as moved
 use Rattle.update.specs.Rule.{beginning}
 use Rattle.update.specs.Claims.{BeginsPlanned, ArrivedStays, All}
 use Rattle.update.proofs.RuleLaws.{rule-wide, rule-key, rule-destination, rule-stamp, rule-arrival, rule-departure, rule-stop-type, rule-heard, rule-status, rule-show, rule-flexible, rule-monitored}

@@ -12,7 +12,7 @@ use Rattle.lists.specs.Logic.{on}
 use Rattle.passage.specs.Layout.{body-wide, kept, statusOf, showCancelledOf, flexibleOf, monitoredOf}
 use Rattle.passage.specs.Ranges.{commonInRange, updateInRange, rowInRange}
 use Rattle.passage.proofs.RangeLaws.{common-facts, facts-common, update-facts, row-facts, facts-row}
-use Rattle.moves.specs.Moves.{mayMove, keeps}
+use Rattle.update.specs.Moves.{mayMove, keeps}
 use Rattle.update.specs.Rule.{beginning, begun, rowRule}
 use Rattle.update.proofs.RuleLaws.{rule-key, rule-destination, rule-stamp, rule-arrival, rule-departure, rule-stop-type, rule-heard, rule-status, rule-show, rule-flexible, rule-monitored}
 

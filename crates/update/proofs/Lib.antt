@@ -4,3 +4,6 @@ pub mod RuleLaws
 pub mod InRangeLaws
 pub mod Claims
 pub mod Determined
+pub mod TableLaws
+pub mod MovesClaims
+pub mod MovesDetermined

@@ -12,7 +12,7 @@ use Rattle.lists.specs.BigEndian.{number}
 use Rattle.lists.proofs.PartLaws.{part-part}
 use Rattle.passage.specs.Layout.{text-wide, key-wide, stamp-wide, time-wide, destination-at, stamp-at, status-at, arrival-at, departure-at, stop-type-at, show-cancelled-at, flexible-at, monitored-at, heard-at, body-wide, row-wide, keyOf, destinationOf, stampOf, statusOf, arrivalOf, departureOf, stopTypeOf, showCancelledOf, flexibleOf, monitoredOf, heardOf}
 use Rattle.passage.proofs.PlanLaws.{body-made, byte-made, heard-made}
-use Rattle.moves.specs.Moves.{statusAfter, keeps}
+use Rattle.update.specs.Moves.{statusAfter, keeps}
 use Rattle.update.specs.Rule.{applyRow, begun, rowRule}
 use Rattle.update.proofs.SetLaws.{part-behind-set, part-before-set}
 

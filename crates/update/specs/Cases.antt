@@ -4,7 +4,7 @@ use mathlib.Core.List.{List, [], _∷_, _++_}
 use Prim.Native.Nat.{ℕ}
 use lib.ListN.{replicate}
 use Rattle.passage.specs.Layout.{stamp-at, kept}
-use Rattle.moves.specs.Moves.{table17, mayMove}
+use Rattle.update.specs.Moves.{table17, mayMove}
 use Rattle.update.specs.Rule.{applyRow, beginning, rowRule}
 
 -- bytes x up to the status, which is s; then times y, a stop type z, and the rest

@@ -7,7 +7,7 @@ use Prim.Native.Nat.{ℕ}
 use lib.ListN.{length}
 use Rattle.passage.specs.Layout.{body-wide, row-wide, keyOf, destinationOf, stampOf, statusOf, arrivalOf, departureOf, stopTypeOf, showCancelledOf, flexibleOf, monitoredOf, heardOf}
 use Rattle.passage.specs.Ranges.{updateInRange, rowInRange}
-use Rattle.moves.specs.Moves.{statusAfter, keeps}
+use Rattle.update.specs.Moves.{statusAfter, keeps}
 use Rattle.update.specs.Rule.{begun, rowRule}
 
 -- The update changes no key: the row that it makes has the update's.

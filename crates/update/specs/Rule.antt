@@ -3,7 +3,7 @@ use Prim.Native.Nat.{ℕ}
 use mathlib.Core.List.{List, [], _∷_, _++_}
 use lib.ListN.{set, replicate}
 use Rattle.passage.specs.Layout.{row-wide, status-at, show-cancelled-at, flexible-at, monitored-at, statusOf, showCancelledOf, flexibleOf, monitoredOf}
-use Rattle.moves.specs.Moves.{statusAfter, keeps}
+use Rattle.update.specs.Moves.{statusAfter, keeps}
 
 -- the update u replaces all but the key, and heard becomes 1; the status moves by table 17
 unfoldable pub applyRow : List ℕ → List ℕ → List ℕ

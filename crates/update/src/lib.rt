@@ -5,19 +5,20 @@ ghost use lib.ListN.{length};
 ghost use Rattle.lists.specs.Part.{part, over};
 ghost use Rattle.passage.specs.Layout.{body-wide, row-wide};
 ghost use Rattle.update.specs.Rule.{applyRow, beginning};
+ghost use Rattle.update.specs.Moves.{mayMove, statusAfter, keeps};
 
 // The row from `at` on becomes what the update whose body stands at p of u makes of it.
 pub fn apply_row(row: &mut [u8], at: usize, u: &[u8], p: usize)
     requires { ⌜ (at + row-wide ≤ length (now row)) × (p + body-wide ≤ length (now u)) ⌝ }
     ensures { λ _. ⌜ now (row .exit) ≡ over at (applyRow (part at row-wide (now (row .entry))) (part p body-wide (now (u .entry)))) (now (row .entry)) ⌝ }
 {
-    let status = moves::status_after(row[at + passage::STATUS_AT], u[p + passage::STATUS_AT]);
-    let show = moves::kept_or(
+    let status = status_after(row[at + passage::STATUS_AT], u[p + passage::STATUS_AT]);
+    let show = kept_or(
         row[at + passage::SHOW_CANCELLED_AT],
         u[p + passage::SHOW_CANCELLED_AT],
     );
-    let flexible = moves::kept_or(row[at + passage::FLEXIBLE_AT], u[p + passage::FLEXIBLE_AT]);
-    let monitored = moves::kept_or(
+    let flexible = kept_or(row[at + passage::FLEXIBLE_AT], u[p + passage::FLEXIBLE_AT]);
+    let monitored = kept_or(
         row[at + passage::MONITORED_AT],
         u[p + passage::MONITORED_AT],
     );
@@ -36,4 +37,43 @@ pub fn begin_row(row: &mut [u8], at: usize)
 {
     lists::clear(row, at, passage::ROW_WIDE);
     row[at + passage::SHOW_CANCELLED_AT] = 1;
+}
+
+// ---- What becomes of a status and of an optional: the BISON status transitions, and optionals that keep what is held. They stand below the row rule, which writes what they answer.
+
+// Table 17: from each status a line, to each status a letter, J where the status moves.
+const MOVES: [u8; 36] = *b"NJJJJJJJNJJJNJJJJJNJJJJJNJJNJJNNNNJJ";
+
+// Whether the status moves.
+fn may_move(held: u8, said: u8) -> bool
+    ensures { λ r. ⌜ r ≡ mayMove held said ⌝ }
+{
+    if held > 5 {
+        return false;
+    }
+    if said > 5 {
+        return false;
+    }
+    let place = held as usize * 6 + said as usize;
+    MOVES[place] == 74
+}
+
+// The status after an update.
+pub fn status_after(held: u8, said: u8) -> u8
+    ensures { λ r. ⌜ r ≡ statusAfter held said ⌝ }
+{
+    if may_move(held, said) {
+        return said;
+    }
+    held
+}
+
+// An optional: 255 keeps what is held.
+pub fn kept_or(held: u8, said: u8) -> u8
+    ensures { λ r. ⌜ r ≡ keeps held said ⌝ }
+{
+    if said == passage::KEPT {
+        return held;
+    }
+    said
 }

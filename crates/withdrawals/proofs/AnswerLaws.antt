@@ -20,7 +20,7 @@ use Rattle.calls.specs.declared.Counts.{Counts}
 use Rattle.calls.specs.declared.Outcome.{Outcome}
 use Rattle.calls.specs.Answers.{isAccepted}
 use Rattle.calls.specs.Withdraw.{withdrawSound, rowsWithout, bookWithout, tableWithout, withdrawAnswer, withdrawOutcome, withdrawBook, withdrawTable}
-use Rattle.reworks.specs.Steps.{Stands, roomAnswer, roomOutcome, roomBook, roomTable}
+use Rattle.withdrawals.specs.Steps.{Stands, roomAnswer, roomOutcome, roomBook, roomTable}
 
 -- ---- soundness, by its two tests
 

@@ -1,3 +1,9 @@
 pub mod StandsLaws
 pub mod AnswerLaws
 pub mod Determined
+pub mod RowsLaws
+pub mod NamesLaws
+pub mod WorkLaws
+pub mod ReworkLaws
+pub mod RoomLaws
+pub mod ReworksDetermined

@@ -11,11 +11,11 @@ use Rattle.book.specs.Entries.{plan-wide, entry-wide, planCount, updatesIn}
 use Rattle.book.specs.Rules.{bookSound, marked, withdrawn}
 use Rattle.book.proofs.SplitLaws.{sound-split, length-updates}
 use Rattle.book.proofs.MarkLaws.{marks-alone}
-use Rattle.finding.specs.declared.Held.the-variants.{At}
-use Rattle.finding.specs.Held.{heldAs}
-use Rattle.finding.proofs.HeldLaws.{held-is, found-message}
+use Rattle.book_find.specs.declared.Held.the-variants.{At}
+use Rattle.book_find.specs.Held.{heldAs}
+use Rattle.book_find.proofs.HeldLaws.{held-is, found-message}
 use Rattle.calls.specs.Withdraw.{bookWithout}
-use Rattle.reworks.specs.Steps.{Stands}
+use Rattle.withdrawals.specs.Steps.{Stands}
 
 module _ (n used : ℕ) (b : List ℕ) (sound : bookSound used b ≡ true) (i m : ℕ) (found : heldAs n (updatesIn used b) ≡ At i m) where
   abbrev us : List (List ℕ)

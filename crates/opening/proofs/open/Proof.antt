@@ -6,7 +6,7 @@ use lib.ListN.{length, length-replicate}
 use Rattle.reader.proofs.AnswerLaws.{planning-few, calendar-few}
 use Rattle.opening.specs.Steps.{HoldsPasses, HoldsValidities}
 use Rattle.lists.proofs.AreaLaws.{made-room}
-use Rattle.joining.proofs.AreaLaws.{both-within}
+use Rattle.opening.proofs.AreaLaws.{both-within}
 use Rattle.opening.proofs.open.Statement.{statement}
 use Rattle.opening.proofs.open.Tie as tie
 

@@ -5,7 +5,7 @@ use lib.ListN.{length, take}
 use borrow.Author.Needs.{needs}
 use lib.Seq.{length-take-le}
 use Rattle.turbo.proofs.SplitLaws.{upto-is, until-le}
-use Rattle.lines.proofs.LineLaws.{after-line-shorter}
+use Rattle.turbo_lines.proofs.LineLaws.{after-line-shorter}
 use Rattle.reader.proofs.LinesLaws.{Reading, reading-start, reading-ends, reading-turn, reading-done, reading-length}
 use Rattle.reader.proofs.ReadLaws.{line-reads, line-fronts, holds-shape}
 use Rattle.reader.proofs.LinesLaws.{Reading, reading-start, reading-ends, reading-turn, reading-done}

@@ -4,7 +4,7 @@ use borrow.Author.Tests.{eq-eqb, ne-eqb}
 use borrow.Author.Needs.{needs}
 use Rattle.book.proofs.SoundLaws.{sound-facts, used-within}
 use Rattle.calls.specs.declared.Answer.the-variants.{AlreadyWithdrawn, OtherSender}
-use Rattle.reworks.proofs.RoomLaws.{sound-parts}
+use Rattle.withdrawals.proofs.RoomLaws.{sound-parts}
 use Rattle.withdrawals.proofs.AnswerLaws.{refused-all, other-sender, already, goes-on}
 use Rattle.withdrawals.proofs.withdraw_found.Statement.{statement}
 use Rattle.withdrawals.proofs.withdraw_found.Tie as tie

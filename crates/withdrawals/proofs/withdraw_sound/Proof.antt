@@ -5,10 +5,10 @@ use borrow.Author.Needs.{needs}
 use lib.ListN.{length}
 use Rattle.book.specs.Entries.{plan-wide, entry-wide}
 use Rattle.book.proofs.SoundLaws.{sound-facts, used-within}
-use Rattle.finding.proofs.HeldLaws.{missing-message}
+use Rattle.book_find.proofs.HeldLaws.{missing-message}
 use Rattle.calls.specs.declared.Answer.the-variants.{NoMessage}
-use Rattle.reworks.specs.Steps.{Stands}
-use Rattle.reworks.proofs.RoomLaws.{sound-parts}
+use Rattle.withdrawals.specs.Steps.{Stands}
+use Rattle.withdrawals.proofs.RoomLaws.{sound-parts}
 use Rattle.withdrawals.proofs.AnswerLaws.{refused-all, not-there}
 use Rattle.withdrawals.proofs.StandsLaws.{stands}
 use Rattle.withdrawals.proofs.withdraw_sound.Statement.{statement}

@@ -1,2 +1,0 @@
-pub mod BarLaws
-pub mod Determined

@@ -1,0 +1,96 @@
+use Prim.Native.Nat.{_*_, _-_, _/_, _≤_}
+use lib.ListN.{length}
+use Rattle.book.specs.Entries.{plan-wide, entry-wide}
+use mathlib.Core.Path.{sym, ap, _∙_}
+use native.Mathlib.Omega.{arith}
+use Rattle.book.proofs.SoundLaws.{sound-facts, used-within, count-within, updates-are}
+use Rattle.book_find.proofs.CountLaws.{place-within, held-nowhere, held-at}
+use Rattle.book_find.specs.Held.{heldAs}
+use borrow.Author.Needs.{needs}
+use Rattle.book_find.proofs.find_message.Statement.{statement}
+use Rattle.book_find.proofs.find_message.Tie as tie
+
+count-plans-requires : tie.Need-count-plans-requires
+count-plans-requires c κs = used-within _ _ (sound-facts _ _ (c .before .pre)) .0
+
+mul-from : tie.Need-mul-from
+mul-from c =
+    let s = c .before .before in
+    let k = count-within (s .args .used) (s .args .b .now) (c .count-plans .result) (c .count-plans .ensures) in
+    search needs
+
+sub-m : tie.Need-sub-m
+sub-m c =
+    let s = c .before .before in
+    count-within (s .args .used) (s .args .b .now) (c .count-plans .result) (c .count-plans .ensures)
+
+count-before-requires : tie.Need-count-before-requires
+count-before-requires c κs =
+    let s = c .before .before in
+    let k = count-within (s .args .used) (s .args .b .now) (c .count-plans .result) (c .count-plans .ensures) in
+    let u = used-within _ _ (sound-facts _ _ (s .pre)) .0 in
+    omega arith
+
+returns : tie.Need-returns
+returns c =
+    let d = c .before .before in
+    let s = d .before .before in
+    held-nowhere (d .count-plans .result * plan-wide) ((s .args .used - d .count-plans .result * plan-wide) / entry-wide) (s .args .number) (s .args .b .now)
+    (c .before .count-before .result) (c .before .count-before .ensures) (c .if1 .taken)
+    ∙ ap (heldAs (s .args .number)) (sym (updates-are (s .args .used) (s .args .b .now) (d .count-plans .result) (d .count-plans .ensures)))
+
+-- the place found is within the updates, and they are within the used bytes
+places : (c : tie.Else1) →
+    let d = c .before .before in
+    let s = d .before .before .args in
+    (c .before .count-before .result ≤ (s .used - d .count-plans .result * plan-wide) / entry-wide)
+    × (d .count-plans .result * plan-wide ≤ s .used)
+    × (s .used ≤ length (s .b .now))
+places c =
+    let d = c .before .before in
+    let s = d .before .before in (
+      place-within (d .count-plans .result * plan-wide) _ _ (s .args .b .now) _ (c .before .count-before .ensures),
+      count-within (s .args .used) (s .args .b .now) (d .count-plans .result) (d .count-plans .ensures),
+      used-within _ _ (sound-facts _ _ (s .pre)) .0,
+    )
+
+mul-count-run : tie.Need-mul-count-run
+mul-count-run c =
+    let h = places c in
+    search needs
+
+add-count-run : tie.Need-add-count-run
+add-count-run c =
+    let h = places c in
+    search needs
+
+sub-count-run : tie.Need-sub-count-run
+sub-count-run c = places c .0
+
+count-run-requires : tie.Need-count-run-requires
+count-run-requires c κs =
+    let h = places c in
+    omega arith
+
+returns-2 : tie.Need-returns-2
+returns-2 c =
+    let d = c .before .before .before in
+    let s = d .before .before in
+    held-at (d .count-plans .result * plan-wide) ((s .args .used - d .count-plans .result * plan-wide) / entry-wide) (s .args .number) (s .args .b .now)
+    (c .before .before .count-before .result) (c .before .before .count-before .ensures) (c .before .if1 .left) (c .count-run .result) (c .count-run .ensures)
+    ∙ ap (heldAs (s .args .number)) (sym (updates-are (s .args .used) (s .args .b .now) (d .count-plans .result) (d .count-plans .ensures)))
+
+pub find-message-spec : {M : Type 1} → statement M
+find-message-spec =
+    tie.close
+    (tie.spec
+    count-plans-requires
+    mul-from
+    sub-m
+    count-before-requires
+    returns
+    mul-count-run
+    add-count-run
+    sub-count-run
+    count-run-requires
+    returns-2)

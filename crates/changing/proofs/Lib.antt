@@ -1,5 +1,0 @@
-pub mod RowMoveLaws
-pub mod StoreTwiceLaws
-pub mod RunLaws
-pub mod Claims
-pub mod Determined

@@ -1,0 +1,61 @@
+use mathlib.Core.Path.{_∙_}
+use native.Mathlib.Omega.{arith}
+use borrow.Author.Needs.{needs}
+use Rattle.columns.specs.Tables.{messageColumns, planningColumns, calendarColumns, columnsIn}
+use Rattle.columns.proofs.LayoutLaws.{told-below}
+use Rattle.columns.proofs.DigitLaws.{message-kind, planning-kind, calendar-kind}
+use Rattle.columns.proofs.kind_of.Statement.{statement}
+use Rattle.columns.proofs.kind_of.Tie as tie
+
+enum-told : tie.Need-enum-told
+enum-told c = search needs
+
+digit-requires : tie.Need-digit-requires
+unfolding columnsIn messageColumns
+digit-requires c κs = omega (arith, told-below (c .before .before .args .j) (c .enum-told .given .1) (c .before .before .pre))
+
+enum-told-2 : tie.Need-enum-told-2
+enum-told-2 c = search needs
+
+digit-requires-2 : tie.Need-digit-requires-2
+unfolding columnsIn planningColumns
+digit-requires-2 c κs = omega (arith, told-below (c .before .before .args .j) (c .enum-told2 .given .1) (c .before .before .pre))
+
+enum-told-3 : tie.Need-enum-told-3
+enum-told-3 c = search needs
+
+digit-requires-3 : tie.Need-digit-requires-3
+unfolding columnsIn calendarColumns
+digit-requires-3 c κs = omega (arith, told-below (c .before .before .args .j) (c .enum-told3 .given .1) (c .before .before .pre))
+
+returns : tie.Need-returns
+unfolding columnsIn messageColumns
+returns c =
+    let a = c .before .before .before in
+    rw (c .before .enum-told .given .1) (c .digit .ensures .0 ∙ message-kind (a .args .j) (told-below (a .args .j) (c .before .enum-told .given .1) (a .pre)))
+
+returns-2 : tie.Need-returns-2
+unfolding columnsIn planningColumns
+returns-2 c =
+    let a = c .before .before .before in
+    rw (c .before .enum-told2 .given .1) (c .digit2 .ensures .0 ∙ planning-kind (a .args .j) (told-below (a .args .j) (c .before .enum-told2 .given .1) (a .pre)))
+
+returns-3 : tie.Need-returns-3
+unfolding columnsIn calendarColumns
+returns-3 c =
+    let a = c .before .before .before in
+    rw (c .before .enum-told3 .given .1) (c .digit3 .ensures .0 ∙ calendar-kind (a .args .j) (told-below (a .args .j) (c .before .enum-told3 .given .1) (a .pre)))
+
+pub kind-of-spec : {M : Type 1} → statement M
+kind-of-spec =
+    tie.close
+    (tie.spec
+    enum-told
+    digit-requires
+    enum-told-2
+    digit-requires-2
+    enum-told-3
+    digit-requires-3
+    returns
+    returns-2
+    returns-3)

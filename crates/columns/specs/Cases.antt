@@ -1,0 +1,61 @@
+-- Cells and rows, by computation. Assumes nothing.
+use mathlib.Core.Path.{_≡_, refl}
+use mathlib.Core.List.{[], _∷_}
+use Rattle.lists.specs.Text.{bytes, same}
+use Rattle.lists.specs.BigEndian.{spelled}
+use Rattle.clock.specs.Date.{daysIn, isDate}
+use Rattle.turbo.specs.Escape.{escaped, decode}
+use Rattle.field_types.specs.Digits.{number, triple}
+use Rattle.field_types.specs.Times.{clock, time}
+use Rattle.field_types.specs.Dates as Dates
+use Rattle.texts.specs.Texts as Texts
+use Rattle.columns.specs.declared.Table.the-variants.{Message, Planning, Calendar}
+use Rattle.columns.specs.Cell.{text, date, fortify, arrival, departure, width, null, missing, cell}
+use Rattle.columns.specs.Tables.{messageColumns, planningColumns, calendarColumns, columnsIn, rowWidth}
+use Rattle.columns.specs.Layout.{columnAt, kindAt, widths, total, offset}
+
+-- a row of a message has 66 bytes, one of the planning 65, one of the calendar 24
+pub row-widths : (rowWidth Message ≡ 66) × (rowWidth Planning ≡ 65) × (rowWidth Calendar ≡ 24)
+unfolding rowWidth columnsIn messageColumns planningColumns calendarColumns width
+row-widths = (refl, refl, refl)
+
+-- the departure of a message stands at byte 59, its column is the twelfth
+pub departure-place : (kindAt Message 11 ≡ departure) × (offset Message 11 ≡ 59)
+unfolding kindAt columnAt offset total widths columnsIn messageColumns width
+departure-place = (refl, refl)
+
+-- an arrival may be missing at FIRST, and neither at INTERMEDIATE nor at LAST
+pub arrivals-missing :
+    (cell arrival (bytes "FIRST") null ≡ missing)
+    × (cell arrival (bytes "INTERMEDIATE") null ≡ [])
+    × (cell arrival (bytes "LAST") null ≡ [])
+unfolding cell same
+arrivals-missing = (refl, refl, refl)
+
+-- a departure at LAST only
+pub departures-missing :
+    (cell departure (bytes "LAST") null ≡ missing)
+    × (cell departure (bytes "INTERMEDIATE") null ≡ [])
+    × (cell departure (bytes "FIRST") null ≡ [])
+unfolding cell same
+departures-missing = (refl, refl, refl)
+
+-- 31:59:59 is kept in three bytes, 32:00:00 is outside its type
+pub times-kept : (cell arrival [] (bytes "31:59:59") ≡ 1 ∷ 193 ∷ 255 ∷ []) × (cell arrival [] (bytes "32:00:00") ≡ [])
+unfolding cell same spelled time clock triple number
+times-kept = (refl, refl)
+
+-- two digits of a fortify number, and no three
+pub fortifies-kept : (cell fortify [] (bytes "99") ≡ 99 ∷ []) × (cell fortify [] (bytes "100") ≡ [])
+unfolding cell spelled number
+fortifies-kept = (refl, refl)
+
+-- a date in four bytes, and one that is none
+pub dates-kept : (cell date [] (bytes "2000-02-29") ≡ spelled 4 20000229) × (cell date [] (bytes "2023-02-29") ≡ [])
+unfolding cell spelled Dates.date triple number isDate daysIn
+dates-kept = (refl, refl)
+
+-- an escaped bar in a text
+pub texts-kept : cell text [] (bytes "a\\pb") ≡ 97 ∷ 124 ∷ 98 ∷ 0 ∷ 0 ∷ 0 ∷ 0 ∷ 0 ∷ 0 ∷ 0 ∷ []
+unfolding cell Texts.text decode escaped
+texts-kept = refl

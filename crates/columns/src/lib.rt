@@ -1,0 +1,115 @@
+// The wanted tables' columns as data: how many there are, each one's kind, and where its cell stands in a row. What a field gives is a rule here; `filling` writes it.
+ghost use mathlib.Core.Path.{_≡_};
+ghost use Prim.Native.Nat.{_+_, _*_, _≤_, _<_};
+ghost use Rattle.columns.specs.Tables.{rowWidth};
+ghost use Rattle.columns.specs.Layout.{wanted, kindAt, optionalAt, offset};
+ghost use Rattle.columns.specs.Digit.{digitOf};
+
+// The tables that are wanted: of a message, of the planning, of the calendar.
+pub enum Table {
+    Message,
+    Planning,
+    Calendar,
+}
+
+// How wide a row of each is.
+pub fn row_width(t: Table) -> usize
+    ensures { λ r. ⌜ r ≡ rowWidth t ⌝ }
+{
+    match t {
+        Table::Message => 66,
+        Table::Planning => 65,
+        Table::Calendar => 24,
+    }
+}
+
+// How many columns of each are wanted.
+pub fn wanted(t: Table) -> usize
+    ensures { λ r. ⌜ r ≡ wanted t ⌝ }
+{
+    match t {
+        Table::Message => 16,
+        Table::Planning => 12,
+        Table::Calendar => 3,
+    }
+}
+
+// Hex digit j of a number, the last being digit 0.
+fn digit(packed: u64, j: usize) -> u8
+    requires { ⌜ j < 16 ⌝ }
+    ensures is { λ r. ⌜ r ≡ digitOf packed j ⌝ }
+    ensures few { λ r. ⌜ r ≤ 15 ⌝ }
+{
+    ((packed >> (4 * j)) % 16) as u8
+}
+
+// The columns' kinds, a hex digit each, the first column's last: a constant table would be laid out anew wherever it is read.
+const MESSAGE_KINDS: u64 = 0xaba9876504032010;
+
+const PLANNING_KINDS: u64 = 0xb98700403200;
+
+const CALENDAR_KINDS: u64 = 0x100;
+
+// The kind of column j.
+pub fn kind_of(t: Table, j: usize) -> u8
+    requires { ⌜ j < wanted t ⌝ }
+    ensures { λ r. ⌜ r ≡ kindAt t j ⌝ }
+{
+    match t {
+        Table::Message => digit(MESSAGE_KINDS, j),
+        Table::Planning => digit(PLANNING_KINDS, j),
+        Table::Calendar => digit(CALENDAR_KINDS, j),
+    }
+}
+
+// Where the columns' cells begin in a row: two hex digits each, all the first ones and all the second ones.
+const MESSAGE_HIGH: u64 = 0x4433333322111000;
+
+const MESSAGE_LOW: u64 = 0x10feb87397dc8ea0;
+
+const PLANNING_HIGH: u64 = 0x433322211100;
+
+const PLANNING_LOW: u64 = 0x0fc9f53984a0;
+
+const CALENDAR_HIGH: u64 = 0x100;
+
+const CALENDAR_LOW: u64 = 0x4a0;
+
+// The number of two hex digits at place j.
+fn two_digits(high: u64, low: u64, j: usize) -> usize
+    requires { ⌜ j < 16 ⌝ }
+    ensures { λ r. ⌜ r ≡ digitOf high j * 16 + digitOf low j ⌝ }
+{
+    digit(high, j) as usize * 16 + digit(low, j) as usize
+}
+
+// Where the cell of column j begins in a row.
+pub fn offset_of(t: Table, j: usize) -> usize
+    requires { ⌜ j < wanted t ⌝ }
+    ensures { λ r. ⌜ r ≡ offset t j ⌝ }
+{
+    match t {
+        Table::Message => two_digits(MESSAGE_HIGH, MESSAGE_LOW, j),
+        Table::Planning => two_digits(PLANNING_HIGH, PLANNING_LOW, j),
+        Table::Calendar => two_digits(CALENDAR_HIGH, CALENDAR_LOW, j),
+    }
+}
+
+// Which columns may be absent: 1.
+const MESSAGE_OPTIONAL: u64 = 0x1110000000000000;
+
+const PLANNING_OPTIONAL: u64 = 0x100000000000;
+
+const CALENDAR_OPTIONAL: u64 = 0x000;
+
+// Whether column j may be absent or hold `\0`.
+pub fn is_optional(t: Table, j: usize) -> bool
+    requires { ⌜ j < wanted t ⌝ }
+    ensures { λ r. ⌜ r ≡ optionalAt t j ⌝ }
+{
+    match t {
+        Table::Message => digit(MESSAGE_OPTIONAL, j) == 1,
+        Table::Planning => digit(PLANNING_OPTIONAL, j) == 1,
+        Table::Calendar => digit(CALENDAR_OPTIONAL, j) == 1,
+    }
+}

@@ -1,0 +1,4 @@
+pub mod KindLaws
+pub mod Determined
+pub mod WriteLaws
+pub mod ValuesDetermined

@@ -1,0 +1,52 @@
+use mathlib.Core.Path.{sym, ap}
+use borrow.Author.Needs.{needs}
+use Rattle.lists.specs.Rows.{flat}
+use Rattle.columns.specs.Cell.{width}
+use Rattle.columns.specs.Tables.{messageColumns, planningColumns, calendarColumns, columnsIn, rowWidth}
+use Rattle.columns.specs.Layout.{blankRow}
+use Rattle.columns_cells.proofs.blank.Statement.{statement}
+use Rattle.columns_cells.proofs.blank.Tie as tie
+
+enum-told : tie.Need-enum-told
+enum-told c = search needs
+
+array-write-row : tie.Need-array-write-row
+array-write-row c = search needs
+
+array-write-row-2 : tie.Need-array-write-row-2
+array-write-row-2 c = search needs
+
+array-write-row-3 : tie.Need-array-write-row-3
+array-write-row-3 c = search needs
+
+enum-told-2 : tie.Need-enum-told-2
+enum-told-2 c = search needs
+
+enum-told-3 : tie.Need-enum-told-3
+enum-told-3 c = search needs
+
+returns : tie.Need-returns
+unfolding blankRow flat width rowWidth columnsIn messageColumns
+returns c = ap blankRow (sym (c .enum-told .given .1))
+
+returns-2 : tie.Need-returns-2
+unfolding blankRow flat width rowWidth columnsIn planningColumns
+returns-2 c = ap blankRow (sym (c .enum-told2 .given .1))
+
+returns-3 : tie.Need-returns-3
+unfolding blankRow flat width rowWidth columnsIn calendarColumns
+returns-3 c = ap blankRow (sym (c .enum-told3 .given .1))
+
+pub blank-spec : {M : Type 1} → statement M
+blank-spec =
+    tie.close
+    (tie.spec
+    enum-told
+    array-write-row
+    array-write-row-2
+    array-write-row-3
+    enum-told-2
+    enum-told-3
+    returns
+    returns-2
+    returns-3)

@@ -1,0 +1,13 @@
+pub mod DigitLaws
+pub mod TripleLaws
+pub mod WrittenLaws
+pub mod Claims
+pub mod Determined
+pub mod StampLaws
+pub mod StampsWrittenLaws
+pub mod RangeLaws
+pub mod StampsClaims
+pub mod StampsDetermined
+pub mod NameLaws
+pub mod WordsClaims
+pub mod WordsDetermined

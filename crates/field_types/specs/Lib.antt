@@ -1,0 +1,11 @@
+pub mod Digits
+pub mod Times
+pub mod Dates
+pub mod Cases
+pub mod Claims
+pub mod Stamps
+pub mod StampsCases
+pub mod StampsClaims
+pub mod Names
+pub mod WordsCases
+pub mod WordsClaims

@@ -1,5 +1,0 @@
-pub mod Digits
-pub mod Times
-pub mod Dates
-pub mod Cases
-pub mod Claims

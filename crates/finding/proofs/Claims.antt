@@ -1,6 +1,0 @@
--- The claim of `specs/Claims.antt` holds. Assumes nothing.
-use Rattle.finding.specs.Claims.{All}
-use Rattle.finding.proofs.HeldLaws.{found-message, missing-message}
-
-pub claims : All
-claims used b n sound = (found-message used b n sound, missing-message used b n sound)

@@ -1,3 +1,0 @@
-pub mod FittingLaws
-pub mod TrialLaws
-pub mod Determined

@@ -1,3 +1,0 @@
-pub mod AreaLaws
-pub mod PairLaws
-pub mod Determined

@@ -1,4 +1,0 @@
-pub mod SoundLaws
-pub mod WriteLaws
-pub mod TakeLaws
-pub mod Determined

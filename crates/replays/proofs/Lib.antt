@@ -1,3 +1,0 @@
-pub mod TakeLaws
-pub mod HeardLaws
-pub mod Determined

@@ -1,6 +1,0 @@
-pub mod RowsLaws
-pub mod NamesLaws
-pub mod WorkLaws
-pub mod ReworkLaws
-pub mod RoomLaws
-pub mod Determined

@@ -1,3 +1,0 @@
-pub mod RowKeyLaws
-pub mod Claims
-pub mod Determined

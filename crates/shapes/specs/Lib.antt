@@ -1,3 +1,0 @@
-pub mod Shape
-pub mod Claims
-pub mod Cases

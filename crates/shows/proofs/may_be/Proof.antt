@@ -1,9 +1,0 @@
-use Rattle.shows.proofs.ShowLaws.{may-be-is}
-use Rattle.shows.proofs.may_be.Statement.{statement}
-use Rattle.shows.proofs.may_be.Tie as tie
-
-returns : tie.Need-returns
-returns c = let a = c .args in may-be-is (a .from) (a .till) (a .moment) (a .status) (a .show) (a .flexible) (a .monitored)
-
-pub may-be-spec : {M : Type 1} → statement M
-may-be-spec = tie.close (tie.spec returns)

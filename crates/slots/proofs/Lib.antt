@@ -1,6 +1,0 @@
-pub mod SlotLaws
-pub mod SlotWriteLaws
-pub mod BeginLaws
-pub mod TableLaws
-pub mod SettleLaws
-pub mod Determined

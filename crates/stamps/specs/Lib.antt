@@ -1,3 +1,0 @@
-pub mod Stamps
-pub mod Cases
-pub mod Claims

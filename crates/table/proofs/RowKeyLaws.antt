@@ -1,0 +1,25 @@
+-- The key of a row among rows in bytes, and the search over them. Assumes nothing.
+use mathlib.Core.Path.{_≡_, ap, _∙_}
+use mathlib.Core.Bool.{true}
+use mathlib.Core.List.{List, []}
+use Prim.Native.Nat.{ℕ, _*_, _<_}
+use native.Mathlib.Nat.{add-zero}
+use native.Mathlib.Omega.{arith}
+use lib.ListN.{getD}
+use Rattle.lists.specs.Part.{part}
+use Rattle.lists.proofs.PartLaws.{part-part}
+use Rattle.lists.proofs.RowLaws.{length-rowsOf, row-at}
+use Rattle.passage.specs.Layout.{keyOf, key-wide, row-wide}
+use Rattle.keys.specs.Sorted.{sortedRows}
+use Rattle.keys.proofs.FindLaws.{Seek, seek-start}
+use Rattle.table.specs.Rules.{rows}
+
+-- a row's key is its first bytes
+pub key-part : (p : ℕ) (t : List ℕ) → keyOf (part p row-wide t) ≡ part p key-wide t
+key-part p t = part-part 0 key-wide p row-wide t (omega arith) ∙ ap (λ (m : ℕ). part m key-wide t) (add-zero p)
+
+pub key-at : (n i : ℕ) (t : List ℕ) → i < n → keyOf (getD (rows n t) i []) ≡ part (i * row-wide) key-wide t
+key-at n i t h = ap keyOf (row-at row-wide n i t h) ∙ key-part (i * row-wide) t
+
+pub seek-rows : (n : ℕ) (t k : List ℕ) → sortedRows (rows n t) ≡ true → Seek (rows n t) k 0 n
+seek-rows n t k h = rw (length-rowsOf row-wide n t) at (seek-start (rows n t) k h)

@@ -1,0 +1,60 @@
+-- What is claimed of rows put in and taken out, for any rows and bytes. Assumes nothing.
+use mathlib.Core.Path.{_≡_}
+use mathlib.Core.Bool.{true}
+use mathlib.Core.List.{List, []}
+use Prim.Native.Nat.{ℕ, _-_, _*_, _≤_, _<_}
+use lib.ListN.{length, drop, replicate}
+use Rattle.lists.specs.Each.{Each}
+use Rattle.lists.specs.Part.{part}
+use Rattle.lists.specs.Rows.{store}
+use Rattle.passage.specs.Layout.{keyOf, row-wide}
+use Rattle.keys.specs.Sorted.{sortedRows, get, put, remove}
+use Rattle.table.specs.Rules.{rows}
+
+-- a row that is put is got by its key, every other key gets what it got, and the keys still rise
+abbrev pub PutChangesOnlyItsKey : Type 0
+PutChangesOnlyItsKey =
+    (r : List ℕ) (rs : List (List ℕ))
+    → (get (keyOf r) (put r rs) ≡ r)
+    × ((k : List ℕ) → (keyOf r ≡ k → ⊥) → get k (put r rs) ≡ get k rs)
+    × (sortedRows rs ≡ true → sortedRows (put r rs) ≡ true)
+
+-- a key that is removed gets nothing, every other key gets what it got, and the keys still rise
+abbrev pub RemoveTakesOnlyItsKey : Type 0
+RemoveTakesOnlyItsKey =
+    (k : List ℕ) (rs : List (List ℕ)) → sortedRows rs ≡ true
+    → (get k (remove k rs) ≡ [])
+    × ((j : List ℕ) → (k ≡ j → ⊥) → get j (remove k rs) ≡ get j rs)
+    × (sortedRows (remove k rs) ≡ true)
+
+-- sorted rows, none of them empty, that give each key the same are the same rows
+abbrev pub SortedTablesEqual : Type 0
+SortedTablesEqual =
+    (ps qs : List (List ℕ)) → sortedRows ps ≡ true → sortedRows qs ≡ true → Each (λ (r : List ℕ). 0 < length r) ps → Each (λ (r : List ℕ). 0 < length r) qs
+    → ((k : List ℕ) → get k ps ≡ get k qs) → ps ≡ qs
+
+-- the bytes of the last row become zero where a row leaves
+abbrev pub FreedIsZero : Type 0
+FreedIsZero =
+    (n : ℕ) (k t : List ℕ) → n * row-wide ≤ length t → (get k (rows n t) ≡ [] → ⊥)
+    → part ((n - 1) * row-wide) row-wide (store row-wide n (remove k (rows n t)) t) ≡ replicate row-wide 0
+
+-- the bytes behind the rows before and after keep their contents, and there are as many of them
+abbrev pub RestKept : Type 0
+RestKept =
+    (n : ℕ) (t : List ℕ) → n * row-wide ≤ length t
+    → ((r : List ℕ) → length r ≡ row-wide
+    → let qs = put r (rows n t) in
+    (length (store row-wide n qs t) ≡ length t) × (drop (length qs * row-wide) (store row-wide n qs t) ≡ drop (length qs * row-wide) t))
+    × ((k : List ℕ)
+    → let qs = remove k (rows n t) in
+    (length (store row-wide n qs t) ≡ length t) × (drop (n * row-wide) (store row-wide n qs t) ≡ drop (n * row-wide) t))
+
+-- all of these
+abbrev pub All : Type 0
+All =
+    PutChangesOnlyItsKey
+    × RemoveTakesOnlyItsKey
+    × SortedTablesEqual
+    × FreedIsZero
+    × RestKept

@@ -1,2 +1,0 @@
-pub mod WriteLaws
-pub mod Determined

@@ -1,0 +1,210 @@
+// The lines of the input. Each function does what it has to do at its letters, and nothing at others.
+use crate::held;
+use crate::held::Held;
+use crate::say;
+use calls::Counts;
+use calls::Outcome;
+
+// At one letter the lent bytes get another value, at another one byte is changed: b and p for the book, t and q for the table.
+fn lend(s: &mut [u8], fill: u8, v: u8, poke: u8, h: Held) {
+    if h.letter == fill {
+        held::pad(s, 0, h.a, v);
+        return;
+    }
+    if h.letter == poke {
+        held::pad(s, h.a, 1, held::byte(h.b));
+    }
+}
+
+// The dossier d is kept under k, its size in front.
+fn lay(kept: &mut [u8], k: usize, d: &[u8]) {
+    let at = k % 5 * 66004;
+    held::append(kept, at + 4, d);
+    if kept.len() < at + 4 {
+        return;
+    }
+    lists::put_number(kept, at, 4, held::word(d.len()));
+}
+
+// The dossier that is kept under k.
+fn shelf(kept: &[u8], k: usize) -> &[u8] {
+    let at = k % 5 * 66004;
+    if kept.len() < at + 4 {
+        return kept;
+    }
+    let n = lists::get_number(kept, at, 4) as usize;
+    held::part(kept, at + 3, at + 4 + n)
+}
+
+// k keeps the dossier under a number from 0 to 3, / as the planning.
+fn keep(kept: &mut [u8], letter: u8, k: usize, d: &[u8]) {
+    match letter {
+        b'k' => lay(kept, k % 4, d),
+        b'/' => lay(kept, 4, d),
+        _ => {}
+    }
+}
+
+// What a line would write: g the dossier that is kept under a number, others what follows the letter.
+fn text<'a>(line: &'a [u8], kept: &'a [u8], letter: u8, k: usize) -> &'a [u8] {
+    if letter == b'g' {
+        return shelf(kept, k % 4);
+    }
+    held::after(line, 0)
+}
+
+// + puts a line with its line end behind the dossier, - bytes without one, x so many letters; 0 begins it anew, and so do / and g.
+fn write(desk: &mut [u8], letter: u8, a: usize, n: usize, t: &[u8]) -> usize {
+    match letter {
+        b'+' => {
+            let end = held::append(desk, n, t);
+            let last = held::pad(desk, end, 1, 13);
+            held::pad(desk, last, 1, 10)
+        }
+        b'-' => held::append(desk, n, t),
+        b'x' => held::pad(desk, n, a, b'a'),
+        b'g' => held::append(desk, held::DOSSIER, t),
+        b'0' | b'/' => held::DOSSIER,
+        _ => n,
+    }
+}
+
+// A pair: the sender, then the owner in ten bytes.
+fn pair(desk: &mut [u8], sender: u8, n: usize, owner: &[u8]) -> usize {
+    let name = held::pad(desk, n, 1, sender);
+    let end = held::pad(desk, name, 10, 0);
+    held::append(desk, name, owner);
+    end
+}
+
+// r puts a pair as `r3 CXX` behind the register, z so many zero bytes; R begins it anew.
+fn enrol(desk: &mut [u8], letter: u8, a: usize, n: usize, owner: &[u8]) -> usize {
+    match letter {
+        b'r' => pair(desk, held::byte(a), n, owner),
+        b'z' => held::pad(desk, n, a, 0),
+        b'R' => 1,
+        _ => n,
+    }
+}
+
+// What a line does on the desk.
+fn papers(line: &[u8], desk: &mut [u8], kept: &mut [u8], h: Held) -> Held {
+    keep(kept, h.letter, h.a, held::part(desk, 1000, h.dossier));
+    let mut n = h;
+    n.dossier = write(
+        desk,
+        h.letter,
+        h.a,
+        h.dossier,
+        text(line, kept, h.letter, h.a),
+    );
+    n.register = enrol(desk, h.letter, h.a, h.register, held::second(line));
+    n
+}
+
+// O opens, M is a message from a sender, W withdraws a message for a sender.
+fn ask(
+    plan: &[u8],
+    dossier: &[u8],
+    register: &[u8],
+    letter: u8,
+    a: usize,
+    b: usize,
+    book: &mut [u8],
+    table: &mut [u8],
+    c: Counts,
+) -> Outcome {
+    match letter {
+        b'O' => opening::open(plan, dossier, book, table, c),
+        b'M' => messages::message(dossier, held::byte(a), register, book, table, c),
+        _ => withdrawals::withdraw(held::word(a), held::byte(b), book, table, c),
+    }
+}
+
+// What is answered is printed, and the counts are held.
+fn told(r: Outcome, book: &[u8], table: &[u8], h: Held) -> Held {
+    let a = r.answer;
+    say::answer(a);
+    let c = r.counts;
+    say::sums(c.used, c.rows, book, table);
+    let mut n = h;
+    n.used = c.used;
+    n.rows = c.rows;
+    n
+}
+
+fn asked(
+    plan: &[u8],
+    dossier: &[u8],
+    register: &[u8],
+    book: &mut [u8],
+    table: &mut [u8],
+    h: Held,
+) -> Held {
+    let c = Counts {
+        used: h.used,
+        rows: h.rows,
+    };
+    let r = ask(plan, dossier, register, h.letter, h.a, h.b, book, table, c);
+    told(r, book, table, h)
+}
+
+fn asks(letter: u8) -> bool {
+    match letter {
+        b'O' | b'M' | b'W' => true,
+        _ => false,
+    }
+}
+
+fn call(desk: &[u8], kept: &[u8], book: &mut [u8], table: &mut [u8], h: Held) -> Held {
+    if asks(h.letter) {
+        let b = held::front_mut(book, h.book);
+        let t = held::front_mut(table, h.table);
+        let plan = shelf(kept, 4);
+        let dossier = held::part(desk, 1000, h.dossier);
+        let register = held::part(desk, 0, h.register);
+        return asked(plan, dossier, register, b, t, h);
+    }
+    h
+}
+
+// H prints all used bytes of what is lent, # is a heading.
+fn show(line: &[u8], book: &[u8], table: &[u8], h: Held) {
+    let letter = h.letter;
+    match letter {
+        b'H' => {
+            say::bytes(held::front(held::front(book, h.book), h.used), h.a);
+            let t = held::front(table, h.table);
+            say::bytes(held::front(t, h.rows % 65536 * 67), 67);
+        }
+        b'#' => say::heading(line),
+        _ => {}
+    }
+}
+
+fn one(
+    line: &[u8],
+    desk: &mut [u8],
+    kept: &mut [u8],
+    book: &mut [u8],
+    table: &mut [u8],
+    h: Held,
+) -> Held {
+    let n = papers(line, desk, kept, held::read(line, h));
+    lend(book, b'b', 170, b'p', n);
+    lend(table, b't', 187, b'q', n);
+    show(line, book, table, n);
+    call(desk, kept, book, table, n)
+}
+
+pub fn run(input: &[u8], desk: &mut [u8], kept: &mut [u8], book: &mut [u8], table: &mut [u8]) {
+    let mut h = held::nothing();
+    let mut rest = input;
+    while 0 < rest.len() {
+        let n = turbo::find(rest, 10);
+        let line = &rest[0..n];
+        let next = held::after(rest, n);
+        rest = next;
+        h = one(line, desk, kept, book, table, h);
+    }
+}

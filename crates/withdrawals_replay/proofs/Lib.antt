@@ -1,0 +1,9 @@
+pub mod SlotLaws
+pub mod SlotWriteLaws
+pub mod BeginLaws
+pub mod TableLaws
+pub mod SettleLaws
+pub mod Determined
+pub mod TakeLaws
+pub mod HeardLaws
+pub mod ReplaysDetermined
