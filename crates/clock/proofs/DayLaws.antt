@@ -1,17 +1,21 @@
 -- Day counts: they rise with the date, by one from day to day, and reach every number below 36,525. Assumes nothing.
-use mathlib.Core.Path.{_≡_, _∙_, sym, ap}
+use mathlib.Core.Path.{_≡_, _∙_, refl, sym, ap}
 use mathlib.Core.Bool.{true}
 use Prim.Native.Nat.{ℕ, zero, suc, _+_, _-_, _*_, _/_, _%_, _<_, _≤_}
 use native.Mathlib.Decide.{decLe}
 use native.Mathlib.Omega.{arith}
 use borrow.Author.Tests.{lt-ltb, le-ltb}
-use Rattle.clock.specs.Date.{year, month, day, dateOf, daysIn, isDate, dayAfter}
+use Rattle.clock.specs.Date.{year, month, day, dateFrom, daysIn, isDate, nextDate}
 use Rattle.clock.specs.Moment.{monthStart, monthOf, dayCount}
 use Rattle.clock.proofs.DateLaws.{Real, parts, days-31, days-range, year-made, month-made, day-made, made}
 use Rattle.clock.proofs.MonthLaws.{month-step, month-first, month-end, month-rise, month-after, day-within}
 
+pub first-day : (isDate 20000101 ≡ true) × (dayCount 20000101 ≡ 0)
+unfolding isDate daysIn dayCount monthStart
+first-day = (refl, refl)
+
 -- the day count of a date that is made of parts
-pub count-made : (y m d : ℕ) → Real y m d → dayCount (dateOf y m d) ≡ monthStart ((y - 2000) * 12 + (m - 1)) + (d - 1)
+pub count-made : (y m d : ℕ) → Real y m d → dayCount (dateFrom y m d) ≡ monthStart ((y - 2000) * 12 + (m - 1)) + (d - 1)
 unfolding dayCount
 count-made y m d r = rw (year-made y m d r, month-made y m d r, day-made y m d r)
 
@@ -24,7 +28,7 @@ module _ (n : ℕ) (e : isDate n ≡ true) where
   unfolding dayCount
   next-day h =
       let p = parts n e in
-      let q : dateOf (year n) (month n) (day n + 1) ≡ n + 1 = omega arith in
+      let q : dateFrom (year n) (month n) (day n + 1) ≡ n + 1 = omega arith in
       let r : Real (year n) (month n) (day n + 1) =
       record {
         from-2000 = p .from-2000;
@@ -45,14 +49,14 @@ module _ (n : ℕ) (e : isDate n ≡ true) where
 
     -- the first of month m of year y, where that is the month after
     first-of :
-        (y m : ℕ) → 2000 ≤ y → y ≤ 2099 → 1 ≤ m → m ≤ 12 → (y - 2000) * 12 + (m - 1) ≡ suc (monthOf n) → Next n (dateOf y m 1)
+        (y m : ℕ) → 2000 ≤ y → y ≤ 2099 → 1 ≤ m → m ≤ 12 → (y - 2000) * 12 + (m - 1) ≡ suc (monthOf n) → Next n (dateFrom y m 1)
     first-of y m a b c d q =
         let r : Real y m 1 =
         record { from-2000 = a; to-2099 = b; from-1 = c; to-12 = d; first = omega arith; last = days-range y m .0 }
         in
         (made y m 1 r, count-made y m 1 r ∙ omega (arith, ap monthStart q, turn))
 
-    next-month : month n < 12 → Next n (dateOf (year n) (month n + 1) 1)
+    next-month : month n < 12 → Next n (dateFrom (year n) (month n + 1) 1)
     next-month l =
         let p = parts n e in
         first-of (year n) (month n + 1) (p .from-2000) (p .to-2099) (omega arith) (omega arith) (omega arith)
@@ -62,7 +66,7 @@ module _ (n : ℕ) (e : isDate n ≡ true) where
         let p = parts n e in
         omega (arith, days-31 (year n) (month n) (λ z. omega arith) (λ z. omega arith) (λ z. omega arith) (λ z. omega arith) (λ z. omega arith))
 
-    next-year : 12 ≤ month n → (n ≡ 20991231 → ⊥) → Next n (dateOf (year n + 1) 1 1)
+    next-year : 12 ≤ month n → (n ≡ 20991231 → ⊥) → Next n (dateFrom (year n + 1) 1 1)
     next-year l x =
         let p = parts n e in
         let y : year n < 2099 = before (decLe 2099 (year n)) in
@@ -72,11 +76,11 @@ module _ (n : ℕ) (e : isDate n ≡ true) where
         before (yes g) = let p = parts n e in let d = december l in absurd (x (omega arith))
         before (no g) = omega (arith, g)
 
-pub after : (n : ℕ) → isDate n ≡ true → (n ≡ 20991231 → ⊥) → Next n (dayAfter n)
-unfolding dayAfter
+pub after : (n : ℕ) → isDate n ≡ true → (n ≡ 20991231 → ⊥) → Next n (nextDate n)
+unfolding nextDate
 after n e x = go (decLe (daysIn (year n) (month n)) (day n)) (decLe 12 (month n))
   where
-    go : Dec (daysIn (year n) (month n) ≤ day n) → Dec (12 ≤ month n) → Next n (dayAfter n)
+    go : Dec (daysIn (year n) (month n) ≤ day n) → Dec (12 ≤ month n) → Next n (nextDate n)
     go (no h) m =
         let l : day n < daysIn (year n) (month n) = omega (arith, h) in
         rw (lt-ltb (day n) (daysIn (year n) (month n)) l) (next-day n e l)
@@ -134,6 +138,15 @@ counts-tell a b ea eb h = go (decLe b a) (decLe a b)
     go (yes l) (no m) = absurd (omega (arith, counts-rise b a eb ea (omega (arith, m))))
     go (yes l) (yes m) = let q : a ≡ b = omega arith in absurd (omega (arith, ap dayCount q))
 
+-- so two dates with one day count are the same
+pub counts-same : (a b : ℕ) → isDate a ≡ true → isDate b ≡ true → dayCount a ≡ dayCount b → a ≡ b
+counts-same a b ea eb e = go (decLe a b) (decLe b a)
+  where
+    go : Dec (a ≤ b) → Dec (b ≤ a) → a ≡ b
+    go (yes l) (yes m) = omega arith
+    go (yes l) (no m) = absurd (omega (arith, counts-rise a b ea eb (omega (arith, m))))
+    go (no l) m = absurd (omega (arith, counts-rise b a eb ea (omega (arith, l))))
+
 -- the month in which day t lies
 abbrev Month : ℕ → ℕ → Type 0
 Month t k = (j : ℕ) × (j < k) × (monthStart j ≤ t) × (t < monthStart (suc j))
@@ -149,7 +162,7 @@ locate t (suc k) h = go (decLe (monthStart k) t) (locate t k)
 -- the day of day t, in month j
 module _ (t j : ℕ) (h : j < 1200) (l : monthStart j ≤ t) (u : t < monthStart (suc j)) where
   abbrev date : ℕ
-  date = dateOf (2000 + j / 12) (j % 12 + 1) (t - monthStart j + 1)
+  date = dateFrom (2000 + j / 12) (j % 12 + 1) (t - monthStart j + 1)
 
   real : Real (2000 + j / 12) (j % 12 + 1) (t - monthStart j + 1)
   real =

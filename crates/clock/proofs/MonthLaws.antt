@@ -1,18 +1,18 @@
--- Month starts: they rise, and a formula gives them, proved by a test of its step at each of the 1,200 months. Assumes nothing.
+-- Month starts: they rise, and a formula gives them, proved by a test of its step at each month of the century and the first after it. Assumes nothing.
 use mathlib.Core.Path.{_≡_, _∙_, refl, sym, ap}
-use mathlib.Core.Bool.{Bool, true}
+use mathlib.Core.Bool.{Bool, true, _&&_}
 use mathlib.Core.List.{List, [], _∷_}
 use Prim.Native.Nat.{ℕ, zero, suc, _+_, _*_, _/_, _%_, _<_, _≤_}
 use native.Mathlib.Nat.{add-zero}
 use native.Mathlib.Decide.{decLe}
 use native.Mathlib.Omega.{arith}
 use borrow.Author.Tests.{lt-ltb, le-ltb, eq-eqb, ne-eqb}
-use lib.Dec.{eqb, leb, ltb, eqb→eq, leb→le}
+use lib.Dec.{eqb, leb, ltb, eqb→eq, leb→le, ltb→lt}
 use lib.ListN.{getD}
 use Rattle.lists.specs.Logic.{on}
 use Rattle.clock.specs.Date.{year, month, daysIn, isDate}
 use Rattle.clock.specs.Moment.{monthStart, monthOf, dayCount}
-use Rattle.clock.proofs.BelowLaws.{below-at}
+use Rattle.clock.proofs.BelowLaws.{both-left, both-right, below-at}
 use Rattle.clock.proofs.DateLaws.{parts}
 
 -- a month starts where the one before ends
@@ -56,29 +56,43 @@ steps : ℕ → Bool
 unfolding formula daysIn
 steps k = eqb (formula (suc k)) (formula k + daysIn (2000 + k / 12) (k % 12 + 1))
 
-month-formula : (k : ℕ) → k < 1200 → monthStart k ≡ formula k
+month-formula : (k : ℕ) → k < 1202 → monthStart k ≡ formula k
 unfolding monthStart formula steps daysIn
 month-formula zero h = refl
 month-formula (suc k) h =
     ap (λ (n : ℕ). n + daysIn (2000 + k / 12) (k % 12 + 1)) (month-formula k (omega arith))
-    ∙ sym (eqb→eq (formula (suc k)) (formula k + daysIn (2000 + k / 12) (k % 12 + 1)) (below-at steps 1199 tt k (omega arith)))
+    ∙ sym (eqb→eq (formula (suc k)) (formula k + daysIn (2000 + k / 12) (k % 12 + 1)) (below-at steps 1201 tt k (omega arith)))
 
-module _ (k : ℕ) (h : k < 1200) where
-  pub common-most : common k ≤ 36494
+module _ (k : ℕ) (h : k < 1201) where
+  pub common-most : common k ≤ 36859
   common-most = omega (arith, before-most (k % 12) (omega arith))
 
   pub month-early : k % 12 < 2 → common k ≡ monthStart k
   unfolding formula
-  month-early e = sym (month-formula k h ∙ rw (lt-ltb (k % 12) 2 e) (add-zero (common k)))
+  month-early e = sym (month-formula k (omega arith) ∙ rw (lt-ltb (k % 12) 2 e) (add-zero (common k)))
 
   pub month-leap : 2 ≤ k % 12 → k / 12 % 4 ≡ 0 → common k + 1 ≡ monthStart k
   unfolding formula
-  month-leap l e = sym (month-formula k h ∙ rw (le-ltb (k % 12) 2 l, eq-eqb (k / 12 % 4) 0 e))
+  month-leap l e = sym (month-formula k (omega arith) ∙ rw (le-ltb (k % 12) 2 l, eq-eqb (k / 12 % 4) 0 e))
 
   pub month-common : 2 ≤ k % 12 → (k / 12 % 4 ≡ 0 → ⊥) → common k ≡ monthStart k
   unfolding formula
   month-common l e =
-      sym (month-formula k h ∙ rw (le-ltb (k % 12) 2 l, ne-eqb (k / 12 % 4) 0 e) (add-zero (common k)))
+      sym (month-formula k (omega arith) ∙ rw (le-ltb (k % 12) 2 l, ne-eqb (k / 12 % 4) 0 e) (add-zero (common k)))
+
+-- a month's number is at most what the guess from its days gives, and that is at most one more
+guessed : ℕ → Bool
+unfolding formula
+guessed k = leb (k * 487) (formula k * 16 + 26) && ltb (formula (suc k) * 16 + 10) (k * 487 + 974)
+
+pub month-guessed : (k : ℕ) → k < 1201 → (k * 487 ≤ monthStart k * 16 + 26) × (monthStart (suc k) * 16 + 10 < k * 487 + 974)
+unfolding guessed formula
+month-guessed k h =
+    let t = below-at guessed 1201 tt k h in
+    rw (month-formula k (omega arith), month-formula (suc k) (omega arith)) (
+      leb→le (k * 487) (formula k * 16 + 26) (both-left (leb (k * 487) (formula k * 16 + 26)) (ltb (formula (suc k) * 16 + 10) (k * 487 + 974)) t),
+      ltb→lt (formula (suc k) * 16 + 10) (k * 487 + 974) (both-right (leb (k * 487) (formula k * 16 + 26)) (ltb (formula (suc k) * 16 + 10) (k * 487 + 974)) t),
+    )
 
 -- a date's month is one of the 1,200, and has its length
 module _ (n : ℕ) (e : isDate n ≡ true) where

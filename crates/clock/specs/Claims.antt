@@ -4,8 +4,9 @@ use mathlib.Core.Path.{_≡_}
 use mathlib.Core.Bool.{true}
 use mathlib.Core.Logic.{_⊎_, _↔_}
 use Rattle.clock.specs.declared.OperatingSeconds.{OperatingSeconds}
-use Rattle.clock.specs.Date.{leap, gregorian, isDate, dayAfter}
-use Rattle.clock.specs.Moment.{dayCount, momentOf}
+use Rattle.clock.specs.Date.{leap, gregorian, isDate, nextDate}
+use Rattle.clock.specs.declared.ClockSeconds.{ClockSeconds}
+use Rattle.clock.specs.Moment.{dayCount, momentOf, dateOn, dateAt, secondAt}
 
 -- The leap years used are those of the full Gregorian rule, for every year from 2000 to 2099.
 abbrev pub LeapYears : Type 0
@@ -18,7 +19,7 @@ FirstDay = (isDate 20000101 ≡ true) × (dayCount 20000101 ≡ 0)
 -- After each date but 2099-12-31 comes a date, whose day count is one more.
 abbrev pub NextDay : Type 0
 NextDay =
-    (d : ℕ) → isDate d ≡ true → (d ≡ 20991231 → ⊥) → (isDate (dayAfter d) ≡ true) × (dayCount (dayAfter d) ≡ dayCount d + 1)
+    (d : ℕ) → isDate d ≡ true → (d ≡ 20991231 → ⊥) → (isDate (nextDate d) ≡ true) × (dayCount (nextDate d) ≡ dayCount d + 1)
 
 -- Each day count is below 36,525.
 abbrev pub DaysBelow : Type 0
@@ -40,7 +41,7 @@ DatesTold = (a b : ℕ) → isDate a ≡ true → isDate b ≡ true → dayCount
 abbrev pub NextMoment : Type 0
 NextMoment =
     (d s : ℕ) → isDate d ≡ true → (d ≡ 20991231 → ⊥)
-    → momentOf d (record { 0 = 86400 + s }) ≡ momentOf (dayAfter d) (record { 0 = s })
+    → momentOf d (record { 0 = 86400 + s }) ≡ momentOf (nextDate d) (record { 0 = s })
 
 -- Moments order as day count times 86,400 plus time, however late the time.
 abbrev pub MomentsOrdered : Type 0
@@ -53,6 +54,28 @@ abbrev pub SameDayOrdered : Type 0
 SameDayOrdered =
     (a b : ℕ) (s t : OperatingSeconds) → isDate a ≡ true → isDate b ≡ true → s .0 < 86400 → t .0 < 86400
     → (momentOf a s .0 < momentOf b t .0) ↔ ((a < b) ⊎ ((a ≡ b) × (s .0 < t .0)))
+
+-- The date counted to from 2000-01-01, as many days as a date's count, is that date.
+abbrev pub DatesCounted : Type 0
+DatesCounted = (d : ℕ) → isDate d ≡ true → dateOn (dayCount d) ≡ d
+
+-- The moment of the date and the second that are read from a moment is that moment, to the end of 2099.
+abbrev pub MomentsRead : Type 0
+MomentsRead =
+    (m : ClockSeconds) → m .0 < 36525 * 86400 → (isDate (dateAt m) ≡ true) × (momentOf (dateAt m) (record { 0 = secondAt m }) ≡ m)
+
+-- A time before midnight is read back as it was, a later one as the next date with a day of seconds less.
+abbrev pub TimesRead : Type 0
+TimesRead =
+    (d s : ℕ) → isDate d ≡ true → s < 86400
+    → (dateAt (momentOf d (record { 0 = s })) ≡ d)
+    × (secondAt (momentOf d (record { 0 = s })) ≡ s)
+    × (dateAt (momentOf d (record { 0 = 86400 + s })) ≡ nextDate d)
+    × (secondAt (momentOf d (record { 0 = 86400 + s })) ≡ s)
+
+-- The last date's next one, on which its operating day ends, is 2100-01-01.
+abbrev pub AfterLastDay : Type 0
+AfterLastDay = nextDate 20991231 ≡ 21000101
 
 -- All of them.
 abbrev pub All : Type 0
@@ -67,3 +90,7 @@ All =
     × NextMoment
     × MomentsOrdered
     × SameDayOrdered
+    × DatesCounted
+    × MomentsRead
+    × TimesRead
+    × AfterLastDay

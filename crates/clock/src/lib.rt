@@ -1,9 +1,10 @@
-// Dates and moments as numbers: a date is YYYYMMDD, a moment counts seconds from 2000-01-01, and every day has 86,400 of them.
+// Dates and moments as numbers: a date is YYYYMMDD, a moment counts seconds from 2000-01-01, and every day has 86,400 of them. A time of an
+// operating day, which goes on past midnight, becomes a moment through its date, and a moment is read back as a date and a second.
 ghost use mathlib.Core.Path.{_≡_};
 ghost use mathlib.Core.Bool.{true};
-ghost use Prim.Native.Nat.{_<_};
+ghost use Prim.Native.Nat.{_*_, _<_};
 ghost use Rattle.clock.specs.Date.{daysIn, isDate};
-ghost use Rattle.clock.specs.Moment.{monthStart, dayCount, momentOf};
+ghost use Rattle.clock.specs.Moment.{monthStart, monthOf, dayCount, momentOf, dateOn, dateAt, secondAt};
 
 // Seconds within an operating day, 0 to 115,199.
 pub struct OperatingSeconds(pub u32);
@@ -22,13 +23,13 @@ fn days_in(y: u32, m: u32) -> u32
     }
 }
 
-// Whether `n` is a real date YYYYMMDD of the years 2000 to 2099.
-pub fn is_date(n: u32) -> bool
-    ensures { λ r. ⌜ r ≡ isDate n ⌝ }
+// Whether a number is a real date YYYYMMDD of the years 2000 to 2099.
+pub fn is_date(number: u32) -> bool
+    ensures { λ r. ⌜ r ≡ isDate number ⌝ }
 {
-    let y = n / 10000;
-    let m = n / 100 % 100;
-    let d = n % 100;
+    let y = number / 10000;
+    let m = number / 100 % 100;
+    let d = number % 100;
     if y < 2000 {
         return false;
     }
@@ -52,7 +53,7 @@ const BEFORE: [u32; 12] = [0, 31, 59, 90, 120, 151, 181, 212, 243, 273, 304, 334
 
 // The day count at the first of month `k`, counted from January 2000.
 fn month_start(k: u32) -> u32
-    requires { ⌜ k < 1200 ⌝ }
+    requires { ⌜ k < 1201 ⌝ }
     ensures { λ r. ⌜ r ≡ monthStart k ⌝ }
 {
     let y = k / 12;
@@ -76,10 +77,40 @@ pub fn day_count(date: u32) -> u32
     month_start(k) + (date % 100 - 1)
 }
 
-// The moment at which the operating day `date` shows `s`.
-pub fn moment(date: u32, s: OperatingSeconds) -> ClockSeconds
-    requires { ⌜ (isDate date ≡ true) × (s .0 < 115200) ⌝ }
-    ensures { λ r. ⌜ r ≡ momentOf date s ⌝ }
+// The moment at which the operating day `date` shows `time`.
+pub fn moment(date: u32, time: OperatingSeconds) -> ClockSeconds
+    requires { ⌜ (isDate date ≡ true) × (time .0 < 115200) ⌝ }
+    ensures { λ r. ⌜ r ≡ momentOf date time ⌝ }
 {
-    ClockSeconds(day_count(date) * 86400 + s.0)
+    ClockSeconds(day_count(date) * 86400 + time.0)
+}
+
+// The month, counted from January 2000, in which a day lies. A month has 30 and 7/16 days on average: so reckoned it is that month or the next.
+fn month_at(day: u32) -> u32
+    requires { ⌜ day < 36526 ⌝ }
+    ensures { λ r. ⌜ r ≡ monthOf (dateOn day) ⌝ }
+{
+    let k = (day * 16 + 26) / 487;
+    if day < month_start(k) {
+        return k - 1;
+    }
+    k
+}
+
+// The date that the clock shows at a moment, 2100-01-01 too: the last operating day ends on it.
+pub fn date_at(moment: ClockSeconds) -> u32
+    requires { ⌜ moment .0 < 36526 * 86400 ⌝ }
+    ensures { λ r. ⌜ r ≡ dateAt moment ⌝ }
+{
+    let day = moment.0 / 86400;
+    let k = month_at(day);
+    let first = month_start(k);
+    (2000 + k / 12) * 10000 + (k % 12 + 1) * 100 + (day - first + 1)
+}
+
+// The second of that date.
+pub fn second_at(moment: ClockSeconds) -> u32
+    ensures { λ r. ⌜ r ≡ secondAt moment ⌝ }
+{
+    moment.0 % 86400
 }

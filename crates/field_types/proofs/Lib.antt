@@ -1,13 +1,9 @@
 pub mod DigitLaws
 pub mod TripleLaws
+pub mod StampLaws
+pub mod NameLaws
 pub mod WrittenLaws
+pub mod ExactLaws
+pub mod RangeLaws
 pub mod Claims
 pub mod Determined
-pub mod StampLaws
-pub mod StampsWrittenLaws
-pub mod RangeLaws
-pub mod StampsClaims
-pub mod StampsDetermined
-pub mod NameLaws
-pub mod WordsClaims
-pub mod WordsDetermined

@@ -4,23 +4,42 @@ use mathlib.Core.Bool.{Bool, true, false}
 use mathlib.Core.List.{List, [], _∷_}
 use Prim.Native.Nat.{ℕ, suc, _+_, _-_, _<_, _≤_}
 use Prim.Native.String.{String}
+use native.Mathlib.Nat.{add-zero, add-suc}
 use native.Mathlib.Omega.{arith}
-use lib.ListN.{length, getD}
+use lib.ListN.{length, getD, drop}
+use lib.Seq.{drop-cons, drop-length}
 use Rattle.lists.specs.Logic.{on}
 use Rattle.lists.specs.Text.{bytes, same}
 use Rattle.lists.proofs.TextLaws.{same-equal}
-use Rattle.field_types.specs.declared.Number.the-variants.{Is}
+use Rattle.field_types.specs.declared.Number.the-variants.{Is, Wrong}
 use Rattle.field_types.specs.Names.{nameFrom}
 use Rattle.field_types.proofs.DigitLaws.{never, same-is}
 
-module _ (k : ℕ) (w : String) (ws : List String) (f : List ℕ) where
-  -- the field is the first word
-  pub name-here : true ≡ same f (bytes w) → nameFrom k (w ∷ ws) f ≡ Is k
-  name-here e = rw (← e)
+-- what a reader knows that has tried the first i words, coded from k on: the field, and that the words behind them decide
+pub record Tried (k : ℕ) (ws : List String) (i : ℕ) : Type 0 where
+  pub field : List ℕ
+  pub left : nameFrom k ws field ≡ nameFrom (k + i) (drop i ws) field
 
-  -- the field is not the first word
-  pub name-next : false ≡ same f (bytes w) → nameFrom k (w ∷ ws) f ≡ nameFrom (suc k) ws f
-  name-next e = rw (← e)
+pub nothing-tried : (k : ℕ) (ws : List String) (f : List ℕ) → nameFrom k ws f ≡ nameFrom (k + 0) ws f
+nothing-tried k ws f = ap (λ (n : ℕ). nameFrom n ws f) (sym (add-zero k))
+
+abbrev pub untried : (k : ℕ) (ws : List String) → List ℕ → Tried k ws 0
+untried k ws f = record { field = f; left = nothing-tried k ws f }
+
+-- word i is tried, b the test's answer: the field is that word and has its code, or is another
+module _ {k : ℕ} {ws : List String} {i : ℕ} (t : Tried k ws i) {b : Bool} (h : i < length ws) where
+  pub this-word : b ≡ true → b ≡ same (t .field) (bytes (getD ws i "")) → Is (k + i) ≡ nameFrom k ws (t .field)
+  this-word p q = sym (t .left ∙ rw (drop-cons ws i "" h, sym q ∙ p))
+
+  pub one-more : b ≡ false → b ≡ same (t .field) (bytes (getD ws i "")) → nameFrom k ws (t .field) ≡ nameFrom (k + suc i) (drop (suc i) ws) (t .field)
+  one-more p q = t .left ∙ rw (drop-cons ws i "" h, sym q ∙ p, add-suc)
+
+  abbrev pub other-word : b ≡ false → b ≡ same (t .field) (bytes (getD ws i "")) → Tried k ws (suc i)
+  other-word p q = record { field = t .field; left = one-more p q }
+
+-- all words are tried
+pub no-word : {k : ℕ} {ws : List String} → (t : Tried k ws (length ws)) → Wrong ≡ nameFrom k ws (t .field)
+no-word {k} {ws} t = sym (t .left ∙ rw (drop-length ws))
 
 -- the field is the word at the place that it gives
 pub record Named (k : ℕ) (ws : List String) (f : List ℕ) (n : ℕ) : Type 0 where

@@ -5,20 +5,15 @@ use mathlib.Core.List.{List}
 use Prim.Native.Nat.{ℕ, _+_, _-_, _*_, _/_, _%_, _<_, _≤_}
 use native.Mathlib.Decide.{decLe}
 use native.Mathlib.Omega.{arith}
-use lib.Dec.{eqb}
-use lib.ListN.{getD, take, drop}
 use Rattle.clock.specs.Date.{isDate}
 use Rattle.clock.specs.Moment.{dayCount}
 use Rattle.clock.proofs.MonthLaws.{day-below}
 use Rattle.clock.proofs.DayLaws.{reached}
 use Rattle.field_types.specs.declared.Number.the-variants.{Is}
-use Rattle.field_types.specs.Times.{clock}
-use Rattle.field_types.specs.Dates.{date}
-use Rattle.field_types.specs.Stamps.{offset, stampSeconds, stampShape, stamp, writtenStamp}
-use Rattle.field_types.proofs.DigitLaws.{given-is, then-is, same-is}
-use Rattle.field_types.proofs.TripleLaws.{clock-below, date-real}
-use Rattle.field_types.proofs.StampLaws.{offset-most}
-use Rattle.field_types.proofs.StampsWrittenLaws.{stamp-written}
+use Rattle.field_types.specs.Stamps.{stampSeconds, stamp}
+use Rattle.field_types.specs.Written.{writtenStamp}
+use Rattle.field_types.proofs.WrittenLaws.{stamp-written}
+use Rattle.field_types.proofs.ExactLaws.{stamp-exact}
 
 -- n is in the range, and some field gives n
 abbrev InRange : ℕ → Type 0
@@ -33,16 +28,10 @@ seconds-range true d s o e h k = let l = day-below d e in (omega arith, omega ar
 seconds-range false d s o e h k = let l = day-below d e in (omega arith, omega arith)
 
 pub given-in-range : (n : ℕ) → Given n → InRange n
-unfolding stamp
 given-in-range n p =
-    let f = p .0 in
-    let g = given-is (stampShape f) _ (sym (p .1)) in
-    let d = then-is (date (take 10 f)) _ (g .1) in
-    let s = then-is (clock 23 (take 8 (drop 11 f))) _ (d .2) in
-    let o = then-is (offset (take 5 (drop 20 f))) _ (s .2) in
-    let west = eqb (getD f 19 0) 45 in
-    let r = seconds-range west (d .0) (s .0) (o .0) (date-real _ (d .1)) (clock-below 23 _ (s .1)) (offset-most _ (o .1)) in
-    let q : n ≡ stampSeconds west (d .0) (s .0) (o .0) = same-is (o .2) in
+    let t = stamp-exact (p .0) (sym (p .1)) in
+    let q = t .seconds in
+    let r = seconds-range (t .west) (t .date) (t .second) (t .minutes * 60) (t .real) (t .within) (omega (arith, t .most)) in
     (omega arith, omega arith)
 
 -- t is second s of a date, at UTC

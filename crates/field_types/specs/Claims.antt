@@ -1,43 +1,116 @@
--- What is claimed of the types of fields that are written in digits. Assumes nothing.
-use Prim.Native.Nat.{ℕ, _^_, _<_, _≤_}
+-- What is claimed of the types of fields. Assumes nothing.
+use Prim.Native.Nat.{ℕ, _+_, _*_, _^_, _<_, _≤_}
+use Prim.Native.String.{String}
 use mathlib.Core.Path.{_≡_}
-use mathlib.Core.Bool.{true}
-use mathlib.Core.List.{List}
-use lib.ListN.{length}
+use mathlib.Core.Bool.{Bool, true}
+use mathlib.Core.List.{List, []}
+use mathlib.Core.Logic.{_↔_}
+use lib.ListN.{length, getD}
+use Rattle.lists.specs.Text.{bytes}
 use Rattle.clock.specs.declared.OperatingSeconds.{OperatingSeconds}
 use Rattle.clock.specs.Date.{isDate}
-use Rattle.field_types.specs.declared.Number.the-variants.{Is}
+use Rattle.field_types.specs.declared.Number.{Number}
+use Rattle.field_types.specs.declared.Number.the-variants.{Is, Wrong}
 use Rattle.field_types.specs.declared.Time.the-variants as Times
-use Rattle.field_types.specs.Digits.{allDigits, number, written}
-use Rattle.field_types.specs.Times.{time, writtenTime}
-use Rattle.field_types.specs.Dates.{date, writtenDate}
+use Rattle.field_types.specs.Digits.{numeral}
+use Rattle.field_types.specs.Times.{time}
+use Rattle.field_types.specs.Dates.{date}
+use Rattle.field_types.specs.Stamps.{stampSeconds, stamp, inStampRange}
+use Rattle.field_types.specs.Names.{bits, statuses, stopTypes, flexibles, bit, status, stopType, flexible}
+use Rattle.field_types.specs.Written.{written, writtenTime, writtenDate, writtenStamp}
 
--- Each number below ten to the k, written with k digits, is read as itself where k digits are allowed.
+-- ---- numbers, times, dates and stamps: what is read is exactly what is written
+
+-- A field is read as n exactly where it is n, written with 1 to most digits.
 abbrev pub NumbersRead : Type 0
-NumbersRead = (most k n : ℕ) → 1 ≤ k → k ≤ most → n < 10 ^ k → number most (written k n) ≡ Is n
+NumbersRead =
+    (most : ℕ) (f : List ℕ) (n : ℕ)
+    → (numeral most f ≡ Is n) ↔ ((k : ℕ) × (1 ≤ k) × (k ≤ most) × (n < 10 ^ k) × (f ≡ written k n))
 
--- What is read as a number is 1 to most bytes, all digits, and the number is below ten to the most.
-abbrev pub NumbersOnly : Type 0
-NumbersOnly =
-    (most : ℕ) (f : List ℕ) (n : ℕ) → number most f ≡ Is n
-    → (1 ≤ length f) × (length f ≤ most) × (allDigits f ≡ true) × (n < 10 ^ most)
-
--- Each time from 0 to 115,199, written HH:MM:SS, is read as itself.
+-- A field is read as a time exactly where it is that time, from 0 to 115,199, written HH:MM:SS.
 abbrev pub TimesRead : Type 0
-TimesRead = (s : ℕ) → s < 115200 → time (writtenTime s) ≡ Times.Is (record { 0 = s })
+TimesRead =
+    (f : List ℕ) (s : OperatingSeconds) → (time f ≡ Times.Is s) ↔ ((s .0 < 115200) × (f ≡ writtenTime (s .0)))
 
--- Each time that is read is from 0 to 115,199.
-abbrev pub TimesOnly : Type 0
-TimesOnly = (f : List ℕ) (s : OperatingSeconds) → time f ≡ Times.Is s → s .0 < 115200
-
--- Each date, written YYYY-MM-DD, is read as itself.
+-- A field is read as a date exactly where it is that date, written YYYY-MM-DD.
 abbrev pub DatesRead : Type 0
-DatesRead = (d : ℕ) → isDate d ≡ true → date (writtenDate d) ≡ Is d
+DatesRead = (f : List ℕ) (d : ℕ) → (date f ≡ Is d) ↔ ((isDate d ≡ true) × (f ≡ writtenDate d))
 
--- Each date that is read is a date.
-abbrev pub DatesOnly : Type 0
-DatesOnly = (f : List ℕ) (d : ℕ) → date f ≡ Is d → isDate d ≡ true
+-- A field is a second of a date, written up to 14:00 west or east of UTC, and n its seconds since 1970.
+abbrev pub WrittenAs : List ℕ → ℕ → Type 0
+WrittenAs f n =
+    (west : Bool) × (d : ℕ) × (s : ℕ) × (m : ℕ)
+    × (isDate d ≡ true)
+    × (s < 86400)
+    × (m ≤ 840)
+    × (f ≡ writtenStamp west d s m)
+    × (n ≡ stampSeconds west d s (m * 60))
+
+-- A field is read as a stamp exactly where it is written so.
+abbrev pub StampsRead : Type 0
+StampsRead = (f : List ℕ) (n : ℕ) → (stamp f ≡ Is n) ↔ WrittenAs f n
+
+-- The stamps that a U field can give are exactly those from 946,634,400 to 4,102,495,199.
+abbrev pub StampsGiven : Type 0
+StampsGiven = (n : ℕ) → ((946634400 ≤ n) × (n ≤ 4102495199)) ↔ ((f : List ℕ) × (stamp f ≡ Is n))
+
+-- The test of a stamp's range passes exactly there.
+abbrev pub StampsTested : Type 0
+StampsTested = (n : ℕ) → (inStampRange n ≡ true) ↔ ((946634400 ≤ n) × (n ≤ 4102495199))
+
+-- ---- words
+
+-- A field that the rule reads as k and n more is the word at place n of ws, and no other bytes.
+abbrev pub WordsOnly : (List ℕ → Number) → ℕ → List String → Type 0
+WordsOnly rule k ws = (f : List ℕ) (n : ℕ) → rule f ≡ Is (k + n) → (n < length ws) × (f ≡ bytes (getD ws n ""))
+
+-- What the rule reads is from k on and below m.
+abbrev pub WordsWithin : (List ℕ → Number) → ℕ → ℕ → Type 0
+WordsWithin rule k m = (f : List ℕ) (n : ℕ) → rule f ≡ Is n → (k ≤ n) × (n < m)
+
+-- B gives 0 or 1, a status 0 to 5, a stop type 0 to 2, a ShowFlexibleTrip 1 to 3, each for its own word only.
+abbrev pub Words : Type 0
+Words =
+    WordsWithin bit 0 2
+    × WordsWithin status 0 6
+    × WordsWithin stopType 0 3
+    × WordsWithin flexible 1 4
+    × WordsOnly bit 0 bits
+    × WordsOnly status 0 statuses
+    × WordsOnly stopType 0 stopTypes
+    × WordsOnly flexible 1 flexibles
+
+-- ---- fields outside every type
+
+-- No type reads the field.
+abbrev pub Outside : List ℕ → Type 0
+Outside f =
+    ((most : ℕ) → numeral most f ≡ Wrong)
+    × (time f ≡ Times.Wrong)
+    × (date f ≡ Wrong)
+    × (stamp f ≡ Wrong)
+    × (bit f ≡ Wrong)
+    × (status f ≡ Wrong)
+    × (stopType f ≡ Wrong)
+    × (flexible f ≡ Wrong)
+
+-- A field with no bytes is outside every type.
+abbrev pub EmptyOutside : Type 0
+EmptyOutside = Outside []
+
+-- A field `\0` is outside every type.
+abbrev pub NoContentOutside : Type 0
+NoContentOutside = Outside (bytes "\\0")
 
 -- All of them.
 abbrev pub All : Type 0
-All = NumbersRead × NumbersOnly × TimesRead × TimesOnly × DatesRead × DatesOnly
+All =
+    NumbersRead
+    × TimesRead
+    × DatesRead
+    × StampsRead
+    × StampsGiven
+    × StampsTested
+    × Words
+    × EmptyOutside
+    × NoContentOutside

@@ -1,11 +1,8 @@
 pub mod Digits
 pub mod Times
 pub mod Dates
-pub mod Cases
-pub mod Claims
 pub mod Stamps
-pub mod StampsCases
-pub mod StampsClaims
 pub mod Names
-pub mod WordsCases
-pub mod WordsClaims
+pub mod Written
+pub mod Claims
+pub mod Cases

@@ -2,6 +2,7 @@
 use mathlib.Core.List.{List, [], _∷_, _++_}
 use Prim.Native.Nat.{ℕ, zero, suc, _<_}
 use native.Mathlib.Nat.{le-of-suc-le-suc, not-suc-le-zero}
+use native.Mathlib.Omega.{arith}
 use lib.ListN.{length, take, drop, getD, set}
 use Rattle.lists.specs.Each.{Each, Bytes}
 use Rattle.lists.specs.Part.{part}
@@ -30,6 +31,11 @@ module _ {A : Type 0} (P : A → Type 0) where
   each-at [] i d h k = absurd (not-suc-le-zero k)
   each-at (x ∷ l) zero d h k = h .0
   each-at (x ∷ l) (suc i) d h k = each-at l i d (h .1) (le-of-suc-le-suc k)
+
+  -- what holds at each place holds of each element
+  pub each-all : (l : List A) (d : A) → ((i : ℕ) → i < length l → P (getD l i d)) → Each P l
+  each-all [] d f = tt
+  each-all (x ∷ l) d f = (f 0 (omega arith), each-all l d (λ i h. f (suc i) (omega arith)))
 
   -- what holds at each index, with a default past the end, holds of each element
   pub each-known : (l : List A) (d : A) → ((i : ℕ) → P (getD l i d)) → Each P l

@@ -1,5 +1,6 @@
 -- Parts of lists, and writes over them. Assumes nothing.
 use Prim.Native.Nat.{ℕ, zero, suc}
+use mathlib.Core.Bool.{Bool, true, false}
 use mathlib.Core.List.{List, [], _∷_}
 use lib.ListN.{take, drop}
 
@@ -19,3 +20,8 @@ unfolding onto
 over zero vs d = onto vs d
 over (suc at) vs [] = []
 over (suc at) vs (x ∷ d) = x ∷ over at vs d
+
+-- there is at least one
+abbrev pub some : List ℕ → Bool
+some [] = false
+some (b ∷ l) = true

@@ -7,15 +7,15 @@ ghost use Rattle.lists.specs.Part.{part, over};
 ghost use Rattle.lists.specs.BigEndian.{number, spelled};
 
 // Whether the two slices hold the same bytes.
-pub fn same_bytes(a: &[u8], b: &[u8]) -> bool
-    ensures { λ r. ⌜ r ≡ same (now (a .entry)) (now (b .entry)) ⌝ }
+pub fn same_bytes(left: &[u8], right: &[u8]) -> bool
+    ensures { λ r. ⌜ r ≡ same (now (left .entry)) (now (right .entry)) ⌝ }
 {
-    if a.len() != b.len() {
+    if left.len() != right.len() {
         return false;
     }
     let mut i = 0;
-    while i < a.len() {
-        if a[i] != b[i] {
+    while i < left.len() {
+        if left[i] != right[i] {
             return false;
         }
         i += 1;
@@ -23,80 +23,80 @@ pub fn same_bytes(a: &[u8], b: &[u8]) -> bool
     true
 }
 
-// All of b is written from a on.
-pub fn copy_to(s: &mut [u8], a: usize, b: &[u8])
-    requires { ⌜ a + length (now b) ≤ length (now s) ⌝ }
-    ensures { λ _. ⌜ now (s .exit) ≡ over a (now (b .entry)) (now (s .entry)) ⌝ }
+// All of `source` is written from `at` on.
+pub fn copy_to(bytes: &mut [u8], at: usize, source: &[u8])
+    requires { ⌜ at + length (now source) ≤ length (now bytes) ⌝ }
+    ensures { λ _. ⌜ now (bytes .exit) ≡ over at (now (source .entry)) (now (bytes .entry)) ⌝ }
 {
     let mut i = 0;
-    while i < b.len() {
-        s[a + i] = b[i];
+    while i < source.len() {
+        bytes[at + i] = source[i];
         i += 1;
     }
 }
 
-// n zero bytes from a on.
-pub fn clear(s: &mut [u8], a: usize, n: usize)
-    requires { ⌜ a + n ≤ length (now s) ⌝ }
-    ensures { λ _. ⌜ now (s .exit) ≡ over a (replicate n 0) (now (s .entry)) ⌝ }
+// `count` zero bytes from `at` on.
+pub fn clear(bytes: &mut [u8], at: usize, count: usize)
+    requires { ⌜ at + count ≤ length (now bytes) ⌝ }
+    ensures { λ _. ⌜ now (bytes .exit) ≡ over at (replicate count 0) (now (bytes .entry)) ⌝ }
 {
     let mut i = 0;
-    while i < n {
-        s[a + i] = 0;
+    while i < count {
+        bytes[at + i] = 0;
         i += 1;
     }
 }
 
-// The bytes from a up to e are copied to the place `by` further on.
-pub fn shift_up(s: &mut [u8], a: usize, e: usize, by: usize)
-    requires { ⌜ (a ≤ e) × (e + by ≤ length (now s)) ⌝ }
-    ensures { λ _. ⌜ now (s .exit) ≡ over (a + by) (part a (e - a) (now (s .entry))) (now (s .entry)) ⌝ }
+// The bytes from `start` up to `end` are copied to the place `by` further on.
+pub fn shift_up(bytes: &mut [u8], start: usize, end: usize, by: usize)
+    requires { ⌜ (start ≤ end) × (end + by ≤ length (now bytes)) ⌝ }
+    ensures { λ _. ⌜ now (bytes .exit) ≡ over (start + by) (part start (end - start) (now (bytes .entry))) (now (bytes .entry)) ⌝ }
 {
-    let mut i = e;
-    while a < i {
+    let mut i = end;
+    while start < i {
         i -= 1;
-        s[i + by] = s[i];
+        bytes[i + by] = bytes[i];
     }
 }
 
-// The n bytes that stand `by` behind a are copied to a.
-pub fn shift_down(s: &mut [u8], a: usize, n: usize, by: usize)
-    requires { ⌜ a + by + n ≤ length (now s) ⌝ }
-    ensures { λ _. ⌜ now (s .exit) ≡ over a (part (a + by) n (now (s .entry))) (now (s .entry)) ⌝ }
+// The `count` bytes that stand `by` behind `at` are copied to `at`.
+pub fn shift_down(bytes: &mut [u8], at: usize, count: usize, by: usize)
+    requires { ⌜ at + by + count ≤ length (now bytes) ⌝ }
+    ensures { λ _. ⌜ now (bytes .exit) ≡ over at (part (at + by) count (now (bytes .entry))) (now (bytes .entry)) ⌝ }
 {
     let mut done = 0;
-    while done < n {
-        let p = a + done;
-        s[p] = s[p + by];
+    while done < count {
+        let p = at + done;
+        bytes[p] = bytes[p + by];
         done += 1;
     }
 }
 
-// The number that the w bytes from `at` on spell.
-pub fn get_number(s: &[u8], at: usize, w: usize) -> u32
-    requires { ⌜ (at + w ≤ length (now s)) × (w ≤ 4) ⌝ }
-    ensures { λ r. ⌜ r ≡ number (part at w (now (s .entry))) ⌝ }
+// The number that the `width` bytes from `at` on spell.
+pub fn get_number(bytes: &[u8], at: usize, width: usize) -> u32
+    requires { ⌜ (at + width ≤ length (now bytes)) × (width ≤ 4) ⌝ }
+    ensures { λ r. ⌜ r ≡ number (part at width (now (bytes .entry))) ⌝ }
 {
     let mut n: u32 = 0;
     let mut i = 0;
-    while i < w {
-        let b = s[at + i] as u32;
+    while i < width {
+        let b = bytes[at + i] as u32;
         n = n * 256 + b;
         i += 1;
     }
     n
 }
 
-// The last w bytes of v are written from `at` on.
-pub fn put_number(s: &mut [u8], at: usize, w: usize, v: u32)
-    requires { ⌜ at + w ≤ length (now s) ⌝ }
-    ensures { λ _. ⌜ now (s .exit) ≡ over at (spelled w v) (now (s .entry)) ⌝ }
+// The last `width` bytes of the value are written from `at` on.
+pub fn put_number(bytes: &mut [u8], at: usize, width: usize, value: u32)
+    requires { ⌜ at + width ≤ length (now bytes) ⌝ }
+    ensures { λ _. ⌜ now (bytes .exit) ≡ over at (spelled width value) (now (bytes .entry)) ⌝ }
 {
-    let mut rest = v;
-    let mut i = w;
+    let mut rest = value;
+    let mut i = width;
     while 0 < i {
         i -= 1;
-        s[at + i] = (rest % 256) as u8;
+        bytes[at + i] = (rest % 256) as u8;
         rest = rest / 256;
     }
 }

@@ -1,14 +1,14 @@
 use Prim.Native.Nat.{ℕ, _+_, _≤_, _<_}
 use native.Mathlib.Omega.{arith}
 use mathlib.Core.Path.{_≡_, refl, sym, ap, _∙_}
-use mathlib.Core.Bool.{Bool, true, false}
+use mathlib.Core.Bool.{Bool, true, false, _||_}
 use mathlib.Core.Logic.{_⊎_, inl, inr, ⊎-elim}
 use mathlib.Core.List.{List}
 use borrow.Author.Tests.{ne-eqb, eqb-true}
 use lib.ListN.{length, getD, drop}
 use lib.Dec.{eqb, ltb}
-use Rattle.lists.specs.Logic.{on, either}
-use Rattle.syntax.specs.Quiet.{loud}
+use Rattle.lists.specs.Logic.{on}
+use Rattle.syntax.specs.inner.Quiet.{loud}
 use Rattle.syntax.specs.declared.Kind.{Kind}
 use Rattle.syntax.specs.declared.Kind.the-variants.{Nothing, Group, Table, Rows}
 use Rattle.syntax.specs.declared.State.{State}
@@ -16,8 +16,8 @@ use Rattle.syntax.specs.declared.State.the-variants.{Open, Mark, First, 
 use Rattle.syntax.specs.declared.Next.the-variants.{To, Bad}
 use Rattle.syntax.specs.declared.Verdict.the-variants.{FaultAt}
 use Rattle.syntax.specs.declared.Started.the-variants.{In, Never}
-use Rattle.syntax.specs.Machine.{field, escape, firstEscape, nul, ret, opened, marked, step, accepting, run}
-use Rattle.syntax.specs.Scan.{inText, markedStart, plainStart, fromStart, Begun}
+use Rattle.syntax.specs.Machine.{fieldStep, escapeStep, firstEscapeStep, nullStep, returnStep, startStep, markStep, step, accepting, run}
+use Rattle.syntax.specs.inner.Scan.{inText, markedStart, plainStart, fromStart, Begun}
 use Rattle.syntax.proofs.RunLaws.{run-to, run-bad, run-short, run-alike}
 
 -- Where the machine goes from a loud byte of a field's text, and from a line's start. Assumes nothing.
@@ -28,7 +28,7 @@ slashed true k = FirstEsc k
 slashed false k = InsideEsc k
 
 slash-step : (f : Bool) (k : Kind) → step (inText f k) 92 ≡ To (slashed f k)
-unfolding step field
+unfolding step fieldStep
 slash-step true k = refl
 slash-step false k = refl
 
@@ -42,16 +42,16 @@ abbrev Letter : ℕ → Type 0
 Letter b = (b ≡ 105) ⊎ ((b ≡ 110) ⊎ ((b ≡ 112) ⊎ (b ≡ 114)))
 
 slash-good : (f : Bool) (k : Kind) (b : ℕ) → Letter b → step (slashed f k) b ≡ To (Inside k)
-unfolding step firstEscape escape
+unfolding step firstEscapeStep escapeStep
 slash-good true k b h = ⊎-elim (λ e. rw e) (λ h. ⊎-elim (λ e. rw e) (λ h. ⊎-elim (λ e. rw e) (λ e. rw e) h) h) h
 slash-good false k b h = ⊎-elim (λ e. rw e) (λ h. ⊎-elim (λ e. rw e) (λ h. ⊎-elim (λ e. rw e) (λ e. rw e) h) h) h
 
-escape-bad : (k : Kind) (b : ℕ) → (Letter b → ⊥) → escape k b ≡ Bad
-unfolding escape
+escape-bad : (k : Kind) (b : ℕ) → (Letter b → ⊥) → escapeStep k b ≡ Bad
+unfolding escapeStep
 escape-bad k b h = rw (ne-eqb b 105 (λ e. h (inl e)), ne-eqb b 110 (λ e. h (inr (inl e))), ne-eqb b 112 (λ e. h (inr (inr (inl e)))), ne-eqb b 114 (λ e. h (inr (inr (inr e)))))
 
 slash-bad : (f : Bool) (k : Kind) (b : ℕ) → (Letter b → ⊥) → (b ≡ 48 → ⊥) → step (slashed f k) b ≡ Bad
-unfolding step firstEscape
+unfolding step firstEscapeStep
 slash-bad true k b h z = rw (ne-eqb b 48 z) (escape-bad k b h)
 slash-bad false k b h z = escape-bad k b h
 
@@ -70,19 +70,19 @@ module _ (d : List ℕ) (j : ℕ) (here : j < length d) (slash : getD d j 0 ≡ 
 
 -- `\0`
 nul-inside : (k : Kind) → step (InsideEsc k) 48 ≡ Bad
-unfolding step escape
+unfolding step escapeStep
 nul-inside k = refl
 
 nul-first : (k : Kind) → step (FirstEsc k) 48 ≡ To (Null k)
-unfolding step firstEscape
+unfolding step firstEscapeStep
 nul-first k = refl
 
 nul-end : (k : Kind) (b : ℕ) → (b ≡ 13) ⊎ (b ≡ 124) → step (Null k) b ≡ step (Inside k) b
-unfolding step nul field
+unfolding step nullStep fieldStep
 nul-end k b h = ⊎-elim (λ e. rw e) (λ e. rw e) h
 
 nul-bad : (k : Kind) (b : ℕ) → ((b ≡ 13) ⊎ (b ≡ 124) → ⊥) → step (Null k) b ≡ Bad
-unfolding step nul
+unfolding step nullStep
 nul-bad k b h = rw (ne-eqb b 124 (λ e. h (inr e)), ne-eqb b 13 (λ e. h (inl e)))
 
 module _ (d : List ℕ) (j : ℕ) (here : j + 1 < length d) (slash : getD d j 0 ≡ 92) (zero-there : getD d (j + 1) 0 ≡ 48) (k : Kind) where
@@ -106,10 +106,10 @@ module _ (d : List ℕ) (j : ℕ) (here : j + 1 < length d) (slash : getD d j 0 
 
 -- CR LF
 loud-step : (f : Bool) (k : Kind) (b : ℕ) → loud b ≡ true → (b ≡ 92 → ⊥) → (b ≡ 13 → ⊥) → step (inText f k) b ≡ Bad
-unfolding step field loud
+unfolding step fieldStep loud
 loud-step f k b l s r = go f (bar (eqb b 124) refl) (low (ltb b 32) (rw (ne-eqb b 92 s) at l))
   where
-    low : (t : Bool) → either t false ≡ true → t ≡ true
+    low : (t : Bool) → (t || false) ≡ true → t ≡ true
     low true e = refl
     low false e = e
 
@@ -125,16 +125,16 @@ loud-step f k b l s r = go f (bar (eqb b 124) refl) (low (ltb b 32) (rw (ne-eqb 
     go false x y = rw (ne-eqb b 92 s, x, ne-eqb b 13 r, y)
 
 ret-step : (f : Bool) (k : Kind) → step (inText f k) 13 ≡ To (Ret k)
-unfolding step field
+unfolding step fieldStep
 ret-step true k = refl
 ret-step false k = refl
 
 ret-good : (k : Kind) → step (Ret k) 10 ≡ To (Open k)
-unfolding step ret
+unfolding step returnStep
 ret-good k = refl
 
 ret-bad : (k : Kind) (b : ℕ) → (b ≡ 10 → ⊥) → step (Ret k) b ≡ Bad
-unfolding step ret
+unfolding step returnStep
 ret-bad k b h = rw (ne-eqb b 10 h)
 
 module _ (d : List ℕ) (j : ℕ) (here : j < length d) (f : Bool) (k : Kind) where
@@ -161,12 +161,12 @@ plain-bad k b h = rw (ne-eqb b 92 h)
 
 -- at a data line's start and in its first field the machine differs in a backslash alone
 rows-alike : (b : ℕ) → (b ≡ 92 → ⊥) → step (Open Rows) b ≡ step (First Rows) b
-unfolding step opened field
+unfolding step startStep fieldStep
 rows-alike b h = rw (ne-eqb b 92 h)
 
 module _ (d : List ℕ) (i : ℕ) (here : i < length d) where
   pub plain-line : (k : Kind) → (getD d i 0 ≡ 92 → ⊥) → run (Open k) (drop i d) i ≡ fromStart d (plainStart k i)
-  unfolding plainStart step opened
+  unfolding plainStart step startStep
   plain-line Nothing h = run-bad _ d i here (plain-bad Nothing _ h)
   plain-line Group h = run-bad _ d i here (plain-bad Group _ h)
   plain-line Table h = run-bad _ d i here (plain-bad Table _ h)
@@ -181,7 +181,7 @@ module _ (d : List ℕ) (i : ℕ) (here : i < length d) where
 
 -- a line that begins with a backslash
 open-slash : (k : Kind) → step (Open k) 92 ≡ To (Mark k)
-unfolding step opened field
+unfolding step startStep fieldStep
 open-slash Nothing = refl
 open-slash Group = refl
 open-slash Table = refl
@@ -210,7 +210,7 @@ module _ (d : List ℕ) (i : ℕ) (here : i < length d) (slash : getD d i 0 ≡ 
     no-table e = mark-run Rows ∙ run-alike _ _ d (i + 1) there e ∙ sym (slash-run d i here slash true Rows)
 
     pub marked-line : (k : Kind) → run (Open k) (drop i d) i ≡ fromStart d (markedStart k (getD d (i + 1) 0) i)
-    unfolding markedStart step marked
+    unfolding markedStart step markStep
     marked-line Nothing = go (eqb (getD d (i + 1) 0) 71) refl
       where
         go : (t : Bool) → eqb (getD d (i + 1) 0) 71 ≡ t → run (Open Nothing) (drop i d) i ≡ fromStart d (on t (In Group (i + 2)) (Never (i + 1)))

@@ -11,8 +11,9 @@ use Rattle.syntax.specs.declared.State.the-variants.{Open, Mark, First, 
 use Rattle.syntax.specs.declared.Next.{Next}
 use Rattle.syntax.specs.declared.Next.the-variants.{To, Bad}
 use Rattle.syntax.specs.declared.Verdict.the-variants.{Fine, FaultAt}
+use Rattle.lists.specs.Each.{Bytes}
 use Rattle.lists.specs.Logic.{on}
-use Rattle.syntax.specs.Machine.{follow, field, escape, firstEscape, nul, ret, opened, marked, step, accepting, run, fault}
+use Rattle.syntax.specs.Machine.{follow, fieldStep, escapeStep, firstEscapeStep, nullStep, returnStep, startStep, markStep, step, accepting, run, fault}
 use Rattle.grammar.specs.Grammar.{WellFormed}
 use Rattle.syntax.proofs.GrammarLaws.{fine, formed}
 
@@ -41,14 +42,14 @@ finish (Null k) = 13 ∷ 10 ∷ close k
 finish (Ret k) = 10 ∷ close k
 
 close-fine : (k : Kind) (i : ℕ) → run (Open k) (close k) i ≡ Fine
-unfolding close run step field ret opened marked accepting
+unfolding close run step fieldStep returnStep startStep markStep accepting
 close-fine Nothing i = refl
 close-fine Group i = refl
 close-fine Table i = refl
 close-fine Rows i = refl
 
 finish-fine : (s : State) (i : ℕ) → run s (finish s) i ≡ Fine
-unfolding close finish run step field escape firstEscape nul ret opened marked accepting
+unfolding close finish run step fieldStep escapeStep firstEscapeStep nullStep returnStep startStep markStep accepting
 finish-fine (Open k) i = close-fine k i
 finish-fine (Mark Nothing) i = refl
 finish-fine (Mark Group) i = refl
@@ -60,6 +61,27 @@ finish-fine (FirstEsc k) i = close-fine k (i + 1 + 1 + 1)
 finish-fine (InsideEsc k) i = close-fine k (i + 1 + 1 + 1)
 finish-fine (Null k) i = close-fine k (i + 1 + 1)
 finish-fine (Ret k) i = close-fine k (i + 1)
+
+close-bytes : (k : Kind) → Bytes (close k)
+unfolding close
+close-bytes Nothing = (omega arith, (omega arith, (omega arith, (omega arith, tt))))
+close-bytes Group = tt
+close-bytes Table = (omega arith, (omega arith, (omega arith, (omega arith, tt))))
+close-bytes Rows = tt
+
+finish-bytes : (s : State) → Bytes (finish s)
+unfolding finish
+finish-bytes (Open k) = close-bytes k
+finish-bytes (Mark Nothing) = (omega arith, (omega arith, (omega arith, tt)))
+finish-bytes (Mark Group) = (omega arith, (omega arith, (omega arith, close-bytes Table)))
+finish-bytes (Mark Table) = (omega arith, (omega arith, (omega arith, tt)))
+finish-bytes (Mark Rows) = (omega arith, (omega arith, (omega arith, tt)))
+finish-bytes (First k) = (omega arith, (omega arith, close-bytes k))
+finish-bytes (Inside k) = (omega arith, (omega arith, close-bytes k))
+finish-bytes (FirstEsc k) = (omega arith, (omega arith, (omega arith, close-bytes k)))
+finish-bytes (InsideEsc k) = (omega arith, (omega arith, (omega arith, close-bytes k)))
+finish-bytes (Null k) = (omega arith, (omega arith, close-bytes k))
+finish-bytes (Ret k) = (omega arith, close-bytes k)
 
 -- where a run that ends in a fault came to: m bytes were read, into t
 record Came (s : State) (d : List ℕ) (i j : ℕ) : Type 0 where
@@ -98,11 +120,11 @@ at-start d j h = let c : Came (Open Nothing) d 0 j = came d (Open Nothing) 0 j h
 pub within : (d : List ℕ) (j : ℕ) → fault d ≡ FaultAt j → j ≤ length d
 within d j h = let (c, q) = at-start d j h in let w = c .inside in omega arith
 
-pub viable : (d : List ℕ) (j : ℕ) → fault d ≡ FaultAt j → (e : List ℕ) × WellFormed (take j d ++ e)
+pub viable : (d : List ℕ) (j : ℕ) → fault d ≡ FaultAt j → (e : List ℕ) × Bytes e × WellFormed (take j d ++ e)
 unfolding fault
 viable d j h =
     let (c, q) = at-start d j h in
-    (finish (c .t), formed _ (ap (λ (n : ℕ). run (Open Nothing) (take n d ++ finish (c .t)) 0) (sym q) ∙ c .reached (finish (c .t)) ∙ finish-fine (c .t) j))
+    (finish (c .t), finish-bytes (c .t), formed _ (ap (λ (n : ℕ). run (Open Nothing) (take n d ++ finish (c .t)) 0) (sym q) ∙ c .reached (finish (c .t)) ∙ finish-fine (c .t) j))
 
 pub dead : (d : List ℕ) (j : ℕ) → fault d ≡ FaultAt j → j < length d → (e : List ℕ) → WellFormed (take (suc j) d ++ e) → ⊥
 unfolding fault

@@ -14,7 +14,7 @@ use Rattle.syntax.specs.declared.State.the-variants.{Open, Mark, First, 
 use Rattle.syntax.specs.declared.Next.{Next}
 use Rattle.syntax.specs.declared.Next.the-variants.{To, Bad}
 use Rattle.syntax.specs.declared.Verdict.the-variants.{Fine, FaultAt}
-use Rattle.syntax.specs.Machine.{follow, field, escape, firstEscape, nul, ret, opened, marked, step, accepting, mayEnd, run, fault}
+use Rattle.syntax.specs.Machine.{follow, fieldStep, escapeStep, firstEscapeStep, nullStep, returnStep, startStep, markStep, step, accepting, mayEnd, run, fault}
 use Rattle.grammar.specs.Grammar.{ended, headed, Plain, Esc, Text, Field, Fields, Tables, Lines, WellFormed}
 
 -- The machine and the grammar say the same: `fine` and `formed`. And a fault lies at the first byte that no well-formed dossier could have: `dead`, `viable`.
@@ -28,33 +28,33 @@ acc-cons : (s t : State) (b : ℕ) (l : List ℕ) → step s b ≡ To t → Acc 
 unfolding run
 acc-cons s t b l e h i = rw e (h (i + 1))
 
-plain-step : (e : State) (k : Kind) (b : ℕ) → Plain b → field e k b ≡ To (Inside k)
-unfolding field
+plain-step : (e : State) (k : Kind) (b : ℕ) → Plain b → fieldStep e k b ≡ To (Inside k)
+unfolding fieldStep
 plain-step e k b p = simp (ne-eqb _ _ (p .no-slash), ne-eqb _ _ (p .no-bar), ne-eqb b 13 (λ q. let h = p .above in omega arith), le-ltb b 32 (p .above))
 
-esc-step : (k : Kind) (b : ℕ) → Esc b → escape k b ≡ To (Inside k)
-unfolding escape
+esc-step : (k : Kind) (b : ℕ) → Esc b → escapeStep k b ≡ To (Inside k)
+unfolding escapeStep
 esc-step k b Esc.slash = refl
 esc-step k b Esc.lf = refl
 esc-step k b Esc.bar = refl
 esc-step k b Esc.cr = refl
 
-first-esc-step : (k : Kind) (b : ℕ) → Esc b → firstEscape k b ≡ To (Inside k)
-unfolding escape firstEscape
+first-esc-step : (k : Kind) (b : ℕ) → Esc b → firstEscapeStep k b ≡ To (Inside k)
+unfolding escapeStep firstEscapeStep
 first-esc-step k b Esc.slash = refl
 first-esc-step k b Esc.lf = refl
 first-esc-step k b Esc.bar = refl
 first-esc-step k b Esc.cr = refl
 
-mark-esc-step : (b : ℕ) → Esc b → marked Rows b ≡ To (Inside Rows)
-unfolding escape firstEscape marked
+mark-esc-step : (b : ℕ) → Esc b → markStep Rows b ≡ To (Inside Rows)
+unfolding escapeStep firstEscapeStep markStep
 mark-esc-step b Esc.slash = refl
 mark-esc-step b Esc.lf = refl
 mark-esc-step b Esc.bar = refl
 mark-esc-step b Esc.cr = refl
 
 text-acc : {x : List ℕ} → Text x → (k : Kind) (l : List ℕ) → Acc (Inside k) l → Acc (Inside k) (x ++ l)
-unfolding step field
+unfolding step fieldStep
 text-acc Text.empty k l h = h
 text-acc (Text.plain {b} {l = x} p t) k l h = acc-cons _ _ b (x ++ l) (plain-step _ k b p) (text-acc t k l h)
 text-acc (Text.esc {e} {l = x} p t) k l h = acc-cons _ _ 92 (e ∷ x ++ l) refl (acc-cons _ _ e (x ++ l) (esc-step k e p) (text-acc t k l h))
@@ -66,7 +66,7 @@ record Stop (k : Kind) (l : List ℕ) : Type 0 where
   null : Acc (Null k) l
 
 field-acc : {f : List ℕ} → Field f → (k : Kind) (l : List ℕ) → Stop k l → Acc (First k) (f ++ l)
-unfolding step field firstEscape
+unfolding step fieldStep firstEscapeStep
 field-acc (Field.text Text.empty) k l h = h .first
 field-acc (Field.text (Text.plain {b} {l = x} p t)) k l h = acc-cons _ _ b (x ++ l) (plain-step _ k b p) (text-acc t k l (h .inside))
 field-acc (Field.text (Text.esc {e} {l = x} p t)) k l h = acc-cons _ _ 92 (e ∷ x ++ l) refl (acc-cons _ _ e (x ++ l) (first-esc-step k e p) (text-acc t k l (h .inside)))
@@ -74,18 +74,18 @@ field-acc Field.null k l h = acc-cons _ _ 92 (48 ∷ l) refl (acc-cons _ _ 48 l 
 
 -- the same at the start of a data line
 open-acc : {f : List ℕ} → Field f → (l : List ℕ) → Stop Rows l → Acc (Open Rows) l → Acc (Open Rows) (f ++ l)
-unfolding step field opened marked firstEscape
+unfolding step fieldStep startStep markStep firstEscapeStep
 open-acc (Field.text Text.empty) l h o = o
 open-acc (Field.text (Text.plain {b} {l = x} p t)) l h o = acc-cons _ _ b (x ++ l) (plain-step _ Rows b p) (text-acc t Rows l (h .inside))
 open-acc (Field.text (Text.esc {e} {l = x} p t)) l h o = acc-cons _ _ 92 (e ∷ x ++ l) refl (acc-cons _ _ e (x ++ l) (mark-esc-step e p) (text-acc t Rows l (h .inside)))
 open-acc Field.null l h o = acc-cons _ _ 92 (48 ∷ l) refl (acc-cons _ _ 48 l refl (h .null))
 
 bar-stop : (k : Kind) (l : List ℕ) → Acc (First k) l → Stop k (124 ∷ l)
-unfolding step field nul
+unfolding step fieldStep nullStep
 bar-stop k l h = record { first = acc-cons _ _ 124 l refl h; inside = acc-cons _ _ 124 l refl h; null = acc-cons _ _ 124 l refl h }
 
 end-stop : (k : Kind) (l : List ℕ) → Acc (Open k) l → Stop k (13 ∷ 10 ∷ l)
-unfolding step field nul ret
+unfolding step fieldStep nullStep returnStep
 end-stop k l h =
     let r : Acc (Ret k) (10 ∷ l) = acc-cons _ _ 10 l refl h in
     record { first = acc-cons _ _ 13 (10 ∷ l) refl r; inside = acc-cons _ _ 13 (10 ∷ l) refl r; null = acc-cons _ _ 13 (10 ∷ l) refl r }
@@ -98,7 +98,7 @@ line-acc : {f : List ℕ} → Fields f → (k : Kind) (l : List ℕ) → Acc (Op
 line-acc f k l h = fields-acc f k (13 ∷ 10 ∷ l) (end-stop k l h)
 
 data-acc : {f : List ℕ} → Fields f → (l : List ℕ) → Acc (Open Rows) l → Acc (Open Rows) (ended f l)
-unfolding step opened field ret
+unfolding step startStep fieldStep returnStep
 data-acc (Fields.one f) l h = open-acc f (13 ∷ 10 ∷ l) (end-stop Rows l h) (acc-cons _ _ 13 (10 ∷ l) refl (acc-cons _ _ 10 l refl h))
 data-acc (Fields.more {f = a} {l = m} f g) l h =
     rw (append-assoc a (124 ∷ m) (13 ∷ 10 ∷ l))
@@ -106,26 +106,26 @@ data-acc (Fields.more {f = a} {l = m} f g) l h =
 
 -- the `\T` and `\L` lines and what follows, from the kind of line before
 table-acc : (k : Kind) {t l : List ℕ} → step (Open k) 92 ≡ To (Mark k) → step (Mark k) 84 ≡ To (First Table) → Fields t → Fields l → (r : List ℕ) → Acc (Open Rows) r → Acc (Open k) (headed t l r)
-unfolding step opened marked
+unfolding step startStep markStep
 table-acc k p q t l r h =
     acc-cons _ _ 92 _ p
     (acc-cons _ _ 84 _ q
     (line-acc t Table _ (acc-cons _ _ 92 _ refl (acc-cons _ _ 76 _ refl (line-acc l Rows r h)))))
 
 lines-acc : {l : List ℕ} → Lines l → Acc (Open Rows) l
-unfolding step opened marked field run accepting
+unfolding step startStep markStep fieldStep run accepting
 lines-acc Lines.end = λ i. refl
 lines-acc (Lines.line {r} f d) = data-acc f r (lines-acc d)
 lines-acc (Lines.table {r} t l d) = table-acc Rows refl refl t l r (lines-acc d)
 
 tables-acc : {l : List ℕ} → Tables l → Acc (Open Group) l
-unfolding step opened marked run accepting
+unfolding step startStep markStep run accepting
 tables-acc Tables.none = λ i. refl
 tables-acc (Tables.table {r} t l d) = table-acc Group refl refl t l r (lines-acc d)
 
 -- what the grammar has, the machine takes
 pub fine : {d : List ℕ} → WellFormed d → fault d ≡ Fine
-unfolding fault step opened marked
+unfolding fault step startStep markStep
 fine (WellFormed.dossier {t} g ts) = acc-cons _ _ 92 _ refl (acc-cons _ _ 71 _ refl (line-acc g Group t (tables-acc ts))) 0
 
 -- The other way. What may be read from each state, in the grammar's terms.
@@ -207,8 +207,8 @@ abbrev Goes : List ℕ → ℕ → Next → Type 0
 Goes l i n = follow n (λ t. run t l (i + 1)) (FaultAt i) ≡ Fine
 
 module _ (l : List ℕ) (ih : (s : State) (i : ℕ) → run s l i ≡ Fine → Lang s l) where
-  read : (e : State) (k : Kind) (b i : ℕ) → Goes l i (field e k b) → Read l e k b
-  unfolding field
+  read : (e : State) (k : Kind) (b i : ℕ) → Goes l i (fieldStep e k b) → Read l e k b
+  unfolding fieldStep
   read e k b i h = slash (test b 92)
     where
       plain-or : eqb b 92 ≡ false → eqb b 124 ≡ false → eqb b 13 ≡ false → (t : Bool) → ltb b 32 ≡ t → Read l e k b
@@ -227,8 +227,8 @@ module _ (l : List ℕ) (ih : (s : State) (i : ℕ) → run s l i ≡ Fine → L
       slash (inl q) = rw q (r-slash (ih e (i + 1) (rw q at h)))
       slash (inr x) = bar-or x (test b 124)
 
-  read-esc : (k : Kind) (b i : ℕ) → Goes l i (escape k b) → Esc b × Lang (Inside k) l
-  unfolding escape
+  read-esc : (k : Kind) (b i : ℕ) → Goes l i (escapeStep k b) → Esc b × Lang (Inside k) l
+  unfolding escapeStep
   read-esc k b i h = one-of (test b 105)
     where
       four : eqb b 105 ≡ false → eqb b 110 ≡ false → eqb b 112 ≡ false → (b ≡ 114) ⊎ (eqb b 114 ≡ false) → Esc b × Lang (Inside k) l
@@ -247,8 +247,8 @@ module _ (l : List ℕ) (ih : (s : State) (i : ℕ) → run s l i ≡ Fine → L
       one-of (inl q) = (rw q Esc.slash, ih (Inside k) (i + 1) (rw q at h))
       one-of (inr x) = two x (test b 110)
 
-  read-first-esc : (k : Kind) (b i : ℕ) → Goes l i (firstEscape k b) → Line k (92 ∷ b ∷ l)
-  unfolding firstEscape
+  read-first-esc : (k : Kind) (b i : ℕ) → Goes l i (firstEscapeStep k b) → Line k (92 ∷ b ∷ l)
+  unfolding firstEscapeStep
   read-first-esc k b i h = go (test b 48)
     where
       go : (b ≡ 48) ⊎ (eqb b 48 ≡ false) → Line k (92 ∷ b ∷ l)
@@ -263,16 +263,16 @@ module _ (l : List ℕ) (ih : (s : State) (i : ℕ) → run s l i ≡ Fine → L
       go (inl q) = (q, ih t (i + 1) (simp (eq-eqb _ _ q) at h))
       go (inr x) = no-fault i (simp x at h)
 
-  read-null : (k : Kind) (b i : ℕ) → Goes l i (nul k b) → Line k (92 ∷ 48 ∷ b ∷ l)
-  unfolding nul
+  read-null : (k : Kind) (b i : ℕ) → Goes l i (nullStep k b) → Line k (92 ∷ 48 ∷ b ∷ l)
+  unfolding nullStep
   read-null k b i h = go (test b 124)
     where
       go : (b ≡ 124) ⊎ (eqb b 124 ≡ false) → Line k (92 ∷ 48 ∷ b ∷ l)
       go (inl q) = rw q (line-bar k l Field.null (ih (First k) (i + 1) (rw q at h)))
       go (inr x) = let r : (b ≡ 13) × Lang (Ret k) l = only (Ret k) b 13 i (simp x at h) in rw (r .0) (line-ret k l Field.null (r .1))
 
-  read-open : (k : Kind) (b i : ℕ) → Goes l i (opened k b) → After k (b ∷ l)
-  unfolding opened
+  read-open : (k : Kind) (b i : ℕ) → Goes l i (startStep k b) → After k (b ∷ l)
+  unfolding startStep
   read-open Nothing b i h = let r = only (Mark Nothing) b 92 i h in rw (r .0) (r .1)
   read-open Group b i h = let r = only (Mark Group) b 92 i h in rw (r .0) (r .1)
   read-open Table b i h = let r = only (Mark Table) b 92 i h in rw (r .0) (r .1)
@@ -281,8 +281,8 @@ module _ (l : List ℕ) (ih : (s : State) (i : ℕ) → run s l i ≡ Fine → L
   headed-of : (P : List ℕ → Type 0) → ((t m r : List ℕ) → Fields t → Fields m → Lines r → P (headed t m r)) → Line Table l → P (92 ∷ 84 ∷ l)
   headed-of P p (t, r, ts, (m, s, ms, a, e′), e) = rw (e, e′) (p t m s ts ms a)
 
-  read-mark : (k : Kind) (b i : ℕ) → Goes l i (marked k b) → After k (92 ∷ b ∷ l)
-  unfolding marked
+  read-mark : (k : Kind) (b i : ℕ) → Goes l i (markStep k b) → After k (92 ∷ b ∷ l)
+  unfolding markStep
   read-mark Nothing b i h = go (only (First Group) b 71 i h)
     where
       go : (b ≡ 71) × Line Group l → WellFormed (92 ∷ b ∷ l)
@@ -299,7 +299,7 @@ module _ (l : List ℕ) (ih : (s : State) (i : ℕ) → run s l i ≡ Fine → L
       go (inr x) = lines-of _ (read-first-esc Rows b i (simp x at h))
 
   step-lang : (s : State) (b i : ℕ) → Goes l i (step s b) → Lang s (b ∷ l)
-  unfolding step ret
+  unfolding step returnStep
   step-lang (Open k) b i h = read-open k b i h
   step-lang (Mark k) b i h = read-mark k b i h
   step-lang (First k) b i h = from-first l k b (read (FirstEsc k) k b i h)

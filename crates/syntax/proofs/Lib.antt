@@ -1,4 +1,5 @@
 pub mod RunLaws
+pub mod QuietLaws
 pub mod ScanLaws
 pub mod EndLaws
 pub mod LineLaws
@@ -6,5 +7,3 @@ pub mod GrammarLaws
 pub mod FaultLaws
 pub mod Claims
 pub mod Determined
-pub mod QuietLaws
-pub mod SkipsDetermined

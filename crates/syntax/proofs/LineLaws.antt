@@ -4,7 +4,7 @@ use mathlib.Core.Path.{_≡_, refl, sym, ap, _∙_}
 use mathlib.Core.Bool.{Bool, true, false}
 use mathlib.Core.List.{List}
 use lib.ListN.{length, getD, drop}
-use Rattle.syntax.specs.Quiet.{loud, quietFor, freshAt}
+use Rattle.syntax.specs.inner.Quiet.{loud, quietFor, freshAt}
 use Rattle.syntax.proofs.QuietLaws.{quiet-within, quiet-stop}
 use Rattle.syntax.specs.declared.Kind.{Kind}
 use Rattle.syntax.specs.declared.State.the-variants.{Open, First}
@@ -14,7 +14,7 @@ use Rattle.syntax.specs.declared.Reached.the-variants.{On, Stuck}
 use Rattle.syntax.specs.declared.Started.{Started}
 use Rattle.syntax.specs.declared.Started.the-variants.{In, Never}
 use Rattle.syntax.specs.Machine.{run, accepting, fault}
-use Rattle.syntax.specs.Scan.{inText, Ahead, Begun, Passed, fromLine, fromEscape, fromStart, fromNext}
+use Rattle.syntax.specs.inner.Scan.{inText, Ahead, Begun, Passed, fromLine, fromEscape, fromStart, fromNext}
 use Rattle.syntax.proofs.RunLaws.{run-short}
 use Rattle.syntax.proofs.ScanLaws.{quiet-run}
 

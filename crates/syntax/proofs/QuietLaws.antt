@@ -9,8 +9,8 @@ use lib.ListN.{length, getD, drop, drop-of-length-le, length-drop}
 use lib.Seq.{drop-cons, drop-drop}
 use lib.Dec.{eqb, ltb}
 use Rattle.lists.specs.Logic.{on}
-use Rattle.lists.proofs.LogicLaws.{either-false}
-use Rattle.syntax.specs.Quiet.{loud, quietFor}
+use Rattle.lists.proofs.LogicLaws.{or-fail}
+use Rattle.syntax.specs.inner.Quiet.{loud, quietFor}
 
 -- What the loops over quiet bytes cite: which bytes are loud, and how far the quiet ones go. Assumes nothing.
 
@@ -25,7 +25,7 @@ loud-high b h = rw (le-ltb b 32 h)
 
 pub not-loud : (b : ℕ) → loud b ≡ false → (32 ≤ b) × (b ≡ 92 → ⊥)
 unfolding loud
-not-loud b e = let p = either-false (ltb b 32) (eqb b 92) e in (ltb-false _ _ (p .0), eqb-false _ _ (p .1))
+not-loud b e = let p = or-fail (ltb b 32) (eqb b 92) e in (ltb-false _ _ (p .0), eqb-false _ _ (p .1))
 
 -- how far the quiet bytes go from i on
 module _ (d : List ℕ) (i : ℕ) where

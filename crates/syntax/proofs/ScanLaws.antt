@@ -8,21 +8,21 @@ use borrow.Author.Tests.{ne-eqb, lt-ltb, le-ltb}
 use lib.ListN.{length, getD, drop}
 use lib.Dec.{eqb}
 use Rattle.lists.specs.Logic.{on}
-use Rattle.syntax.specs.Quiet.{loud, quietFor, freshAt}
+use Rattle.syntax.specs.inner.Quiet.{loud, quietFor, freshAt}
 use Rattle.syntax.proofs.QuietLaws.{not-loud, loud-here, quiet-skip}
 use Rattle.syntax.specs.declared.Kind.{Kind}
 use Rattle.syntax.specs.declared.State.{State}
 use Rattle.syntax.specs.declared.State.the-variants.{First, Inside, FirstEsc, InsideEsc}
 use Rattle.syntax.specs.declared.Next.the-variants.{To}
-use Rattle.syntax.specs.Machine.{field, step, run}
-use Rattle.syntax.specs.Scan.{inText}
+use Rattle.syntax.specs.Machine.{fieldStep, step, run}
+use Rattle.syntax.specs.inner.Scan.{inText}
 use Rattle.syntax.proofs.RunLaws.{run-to}
 
 -- The machine over runs of quiet bytes. Assumes nothing.
 
 -- the machine over a quiet byte of a field's text
-quiet-field : (e : State) (k : Kind) (b : ℕ) → loud b ≡ false → field e k b ≡ To (inText (eqb b 124) k)
-unfolding field
+quiet-field : (e : State) (k : Kind) (b : ℕ) → loud b ≡ false → fieldStep e k b ≡ To (inText (eqb b 124) k)
+unfolding fieldStep
 quiet-field e k b q =
     let p = not-loud b q in
     let h = p .0 in

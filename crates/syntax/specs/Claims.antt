@@ -4,6 +4,7 @@ use Prim.Native.Nat.{ℕ, suc, _≤_, _<_}
 use mathlib.Core.Path.{_≡_}
 use mathlib.Core.List.{List, _++_}
 use lib.ListN.{length, take}
+use Rattle.lists.specs.Each.{Bytes}
 use Rattle.syntax.specs.declared.Verdict.the-variants.{Fine, FaultAt}
 use Rattle.syntax.specs.Machine.{fault}
 use Rattle.grammar.specs.Grammar.{WellFormed}
@@ -16,9 +17,9 @@ FineIsWellFormed = (d : List ℕ) → (fault d ≡ Fine → WellFormed d) × (We
 abbrev pub FaultIsWithin : Type 0
 FaultIsWithin = (d : List ℕ) (j : ℕ) → fault d ≡ FaultAt j → j ≤ length d
 
--- the bytes before a fault can be completed to a well-formed dossier
+-- the bytes before a fault can be completed, by bytes, to a well-formed dossier
 abbrev pub BeforeIsViable : Type 0
-BeforeIsViable = (d : List ℕ) (j : ℕ) → fault d ≡ FaultAt j → (e : List ℕ) × WellFormed (take j d ++ e)
+BeforeIsViable = (d : List ℕ) (j : ℕ) → fault d ≡ FaultAt j → (e : List ℕ) × Bytes e × WellFormed (take j d ++ e)
 
 -- with the byte at the fault they cannot
 abbrev pub ThroughIsNot : Type 0

@@ -1,5 +1,4 @@
 pub mod Machine
 pub mod Claims
 pub mod Cases
-pub mod Scan
-pub mod Quiet
+pub mod inner

@@ -16,52 +16,52 @@ use Rattle.syntax.specs.declared.Verdict.{Verdict}
 use Rattle.syntax.specs.declared.Verdict.the-variants.{Fine, FaultAt}
 
 -- a byte of a field's text: a backslash leads to e, a bar to the next field, CR to the line's end; no other byte below 32
-unfoldable pub field : State → Kind → ℕ → Next
-field e k b = on (eqb b 92) (To e) (on (eqb b 124) (To (First k)) (on (eqb b 13) (To (Ret k)) (on (ltb b 32) Bad (To (Inside k)))))
+unfoldable pub fieldStep : State → Kind → ℕ → Next
+fieldStep e k b = on (eqb b 92) (To e) (on (eqb b 124) (To (First k)) (on (eqb b 13) (To (Ret k)) (on (ltb b 32) Bad (To (Inside k)))))
 
 -- after a backslash in a field: i, n, p, r
-unfoldable pub escape : Kind → ℕ → Next
-escape k b = on (eqb b 105) (To (Inside k)) (on (eqb b 110) (To (Inside k)) (on (eqb b 112) (To (Inside k)) (on (eqb b 114) (To (Inside k)) Bad)))
+unfoldable pub escapeStep : Kind → ℕ → Next
+escapeStep k b = on (eqb b 105) (To (Inside k)) (on (eqb b 110) (To (Inside k)) (on (eqb b 112) (To (Inside k)) (on (eqb b 114) (To (Inside k)) Bad)))
 
 -- after a backslash that begins a field: 0 too
-unfoldable pub firstEscape : Kind → ℕ → Next
-firstEscape k b = on (eqb b 48) (To (Null k)) (escape k b)
+unfoldable pub firstEscapeStep : Kind → ℕ → Next
+firstEscapeStep k b = on (eqb b 48) (To (Null k)) (escapeStep k b)
 
 -- after a `\0`: the field ends
-unfoldable pub nul : Kind → ℕ → Next
-nul k b = on (eqb b 124) (To (First k)) (on (eqb b 13) (To (Ret k)) Bad)
+unfoldable pub nullStep : Kind → ℕ → Next
+nullStep k b = on (eqb b 124) (To (First k)) (on (eqb b 13) (To (Ret k)) Bad)
 
 -- after CR: LF
-unfoldable pub ret : Kind → ℕ → Next
-ret k b = on (eqb b 10) (To (Open k)) Bad
+unfoldable pub returnStep : Kind → ℕ → Next
+returnStep k b = on (eqb b 10) (To (Open k)) Bad
 
 -- a mark's backslash
-abbrev pub slash : Kind → ℕ → Next
-slash k b = on (eqb b 92) (To (Mark k)) Bad
+abbrev pub slashStep : Kind → ℕ → Next
+slashStep k b = on (eqb b 92) (To (Mark k)) Bad
 
 -- at a line's start, k the kind of the line before
-unfoldable pub opened : Kind → ℕ → Next
-opened Nothing b = slash Nothing b
-opened Group b = slash Group b
-opened Table b = slash Table b
-opened Rows b = field (Mark Rows) Rows b
+unfoldable pub startStep : Kind → ℕ → Next
+startStep Nothing b = slashStep Nothing b
+startStep Group b = slashStep Group b
+startStep Table b = slashStep Table b
+startStep Rows b = fieldStep (Mark Rows) Rows b
 
 -- after a backslash at a line's start: G first, T after it, L after T, and T or a field's escape after L
-unfoldable pub marked : Kind → ℕ → Next
-marked Nothing b = on (eqb b 71) (To (First Group)) Bad
-marked Group b = on (eqb b 84) (To (First Table)) Bad
-marked Table b = on (eqb b 76) (To (First Rows)) Bad
-marked Rows b = on (eqb b 84) (To (First Table)) (firstEscape Rows b)
+unfoldable pub markStep : Kind → ℕ → Next
+markStep Nothing b = on (eqb b 71) (To (First Group)) Bad
+markStep Group b = on (eqb b 84) (To (First Table)) Bad
+markStep Table b = on (eqb b 76) (To (First Rows)) Bad
+markStep Rows b = on (eqb b 84) (To (First Table)) (firstEscapeStep Rows b)
 
 unfoldable pub step : State → ℕ → Next
-step (Open k) b = opened k b
-step (Mark k) b = marked k b
-step (First k) b = field (FirstEsc k) k b
-step (Inside k) b = field (InsideEsc k) k b
-step (FirstEsc k) b = firstEscape k b
-step (InsideEsc k) b = escape k b
-step (Null k) b = nul k b
-step (Ret k) b = ret k b
+step (Open k) b = startStep k b
+step (Mark k) b = markStep k b
+step (First k) b = fieldStep (FirstEsc k) k b
+step (Inside k) b = fieldStep (InsideEsc k) k b
+step (FirstEsc k) b = firstEscapeStep k b
+step (InsideEsc k) b = escapeStep k b
+step (Null k) b = nullStep k b
+step (Ret k) b = returnStep k b
 
 -- the bytes may end after the group line, a label line or a data line
 abbrev pub mayEnd : Kind → Bool

@@ -3,19 +3,19 @@ use syntax::Kind;
 use syntax::Next;
 use syntax::State;
 ghost use mathlib.Core.Path.{_≡_};
-ghost use Rattle.syntax.specs.Machine.{field, escape, firstEscape, nul, ret, slash, opened, marked, step, accepting};
+ghost use Rattle.syntax.specs.Machine.{fieldStep, escapeStep, firstEscapeStep, nullStep, returnStep, slashStep, startStep, markStep, step, accepting};
 
 // A byte of a field's text; `e` is where a backslash leads.
 fn read_field(e: State, k: Kind, b: u8) -> Next
-    ensures { λ r. ⌜ r ≡ field e k b ⌝ }
+    ensures { λ r. ⌜ r ≡ fieldStep e k b ⌝ }
 {
-    if b == 92 {
+    if b == b'\\' {
         return Next::To(e);
     }
-    if b == 124 {
+    if b == b'|' {
         return Next::To(State::First(k));
     }
-    if b == 13 {
+    if b == b'\r' {
         return Next::To(State::Ret(k));
     }
     if b < 32 {
@@ -26,19 +26,19 @@ fn read_field(e: State, k: Kind, b: u8) -> Next
 
 // The byte after a backslash in a field.
 fn read_escape(k: Kind, b: u8) -> Next
-    ensures { λ r. ⌜ r ≡ escape k b ⌝ }
+    ensures { λ r. ⌜ r ≡ escapeStep k b ⌝ }
 {
     match b {
-        105 | 110 | 112 | 114 => Next::To(State::Inside(k)),
+        b'i' | b'n' | b'p' | b'r' => Next::To(State::Inside(k)),
         _ => Next::Bad,
     }
 }
 
 // The byte after a backslash that begins a field.
 fn read_first_escape(k: Kind, b: u8) -> Next
-    ensures { λ r. ⌜ r ≡ firstEscape k b ⌝ }
+    ensures { λ r. ⌜ r ≡ firstEscapeStep k b ⌝ }
 {
-    if b == 48 {
+    if b == b'0' {
         return Next::To(State::Null(k));
     }
     read_escape(k, b)
@@ -46,20 +46,20 @@ fn read_first_escape(k: Kind, b: u8) -> Next
 
 // The byte after `\0`.
 fn read_nul(k: Kind, b: u8) -> Next
-    ensures { λ r. ⌜ r ≡ nul k b ⌝ }
+    ensures { λ r. ⌜ r ≡ nullStep k b ⌝ }
 {
     match b {
-        124 => Next::To(State::First(k)),
-        13 => Next::To(State::Ret(k)),
+        b'|' => Next::To(State::First(k)),
+        b'\r' => Next::To(State::Ret(k)),
         _ => Next::Bad,
     }
 }
 
 // The byte after CR.
 fn read_ret(k: Kind, b: u8) -> Next
-    ensures { λ r. ⌜ r ≡ ret k b ⌝ }
+    ensures { λ r. ⌜ r ≡ returnStep k b ⌝ }
 {
-    if b == 10 {
+    if b == b'\n' {
         return Next::To(State::Open(k));
     }
     Next::Bad
@@ -67,9 +67,9 @@ fn read_ret(k: Kind, b: u8) -> Next
 
 // The backslash of a mark.
 fn read_slash(k: Kind, b: u8) -> Next
-    ensures { λ r. ⌜ r ≡ slash k b ⌝ }
+    ensures { λ r. ⌜ r ≡ slashStep k b ⌝ }
 {
-    if b == 92 {
+    if b == b'\\' {
         return Next::To(State::Mark(k));
     }
     Next::Bad
@@ -77,7 +77,7 @@ fn read_slash(k: Kind, b: u8) -> Next
 
 // At a line's start.
 fn read_open(k: Kind, b: u8) -> Next
-    ensures { λ r. ⌜ r ≡ opened k b ⌝ }
+    ensures { λ r. ⌜ r ≡ startStep k b ⌝ }
 {
     match k {
         Kind::Nothing => read_slash(Kind::Nothing, b),
@@ -89,29 +89,29 @@ fn read_open(k: Kind, b: u8) -> Next
 
 // The byte after a backslash at a line's start.
 fn read_mark(k: Kind, b: u8) -> Next
-    ensures { λ r. ⌜ r ≡ marked k b ⌝ }
+    ensures { λ r. ⌜ r ≡ markStep k b ⌝ }
 {
     match k {
         Kind::Nothing => {
-            if b == 71 {
+            if b == b'G' {
                 return Next::To(State::First(Kind::Group));
             }
             Next::Bad
         }
         Kind::Group => {
-            if b == 84 {
+            if b == b'T' {
                 return Next::To(State::First(Kind::Table));
             }
             Next::Bad
         }
         Kind::Table => {
-            if b == 76 {
+            if b == b'L' {
                 return Next::To(State::First(Kind::Rows));
             }
             Next::Bad
         }
         Kind::Rows => {
-            if b == 84 {
+            if b == b'T' {
                 return Next::To(State::First(Kind::Table));
             }
             read_first_escape(Kind::Rows, b)
@@ -120,26 +120,26 @@ fn read_mark(k: Kind, b: u8) -> Next
 }
 
 // One byte more.
-pub fn next_state(s: State, b: u8) -> Next
-    ensures { λ r. ⌜ r ≡ step s b ⌝ }
+pub fn next_state(state: State, byte: u8) -> Next
+    ensures { λ r. ⌜ r ≡ step state byte ⌝ }
 {
-    match s {
-        State::Open(k) => read_open(k, b),
-        State::Mark(k) => read_mark(k, b),
-        State::First(k) => read_field(State::FirstEsc(k), k, b),
-        State::Inside(k) => read_field(State::InsideEsc(k), k, b),
-        State::FirstEsc(k) => read_first_escape(k, b),
-        State::InsideEsc(k) => read_escape(k, b),
-        State::Null(k) => read_nul(k, b),
-        State::Ret(k) => read_ret(k, b),
+    match state {
+        State::Open(k) => read_open(k, byte),
+        State::Mark(k) => read_mark(k, byte),
+        State::First(k) => read_field(State::FirstEsc(k), k, byte),
+        State::Inside(k) => read_field(State::InsideEsc(k), k, byte),
+        State::FirstEsc(k) => read_first_escape(k, byte),
+        State::InsideEsc(k) => read_escape(k, byte),
+        State::Null(k) => read_nul(k, byte),
+        State::Ret(k) => read_ret(k, byte),
     }
 }
 
 // Whether the bytes may end here.
-pub fn may_end(s: State) -> bool
-    ensures { λ r. ⌜ r ≡ accepting s ⌝ }
+pub fn may_end(state: State) -> bool
+    ensures { λ r. ⌜ r ≡ accepting state ⌝ }
 {
-    match s {
+    match state {
         State::Open(k) => syntax::ends_after(k),
         State::Mark(_) => false,
         State::First(_) => false,

@@ -12,9 +12,10 @@ use lib.Seq.{drop-cons}
 use Rattle.lists.specs.Logic.{on, within}
 use Rattle.lists.specs.Part.{over}
 use Rattle.lists.proofs.OverLaws.{onto-front}
-use Rattle.lists.proofs.LogicLaws.{both-true, within-true, in-range, below-range, above-range}
+use Rattle.lists.proofs.LogicLaws.{and-pass, within-true, in-range, below-range, above-range}
 use Rattle.turbo.specs.Escape.{decodeAfter, decode}
-use Rattle.texts.specs.Texts.{allText, padded, textGiven, plainByte, allPlain, plain, text}
+use Rattle.texts.specs.Texts.{allText, padded, textGiven, text}
+use Rattle.texts.specs.inner.Steps.{plainByte, allPlain, plain}
 
 -- ---- the test of a field
 
@@ -68,19 +69,19 @@ byte-is b e = go (eqb b 92) e
 plain-decoded : (f : List ℕ) → allPlain f ≡ true → decodeAfter false f ≡ f
 plain-decoded [] e = refl
 plain-decoded (x ∷ f) e =
-    let b = both-true (plainByte x) (allPlain f) e in
+    let b = and-pass (plainByte x) (allPlain f) e in
     rw (byte-is x (b .0) .0) (ap (λ (l : List ℕ). x ∷ l) (plain-decoded f (b .1)))
 
 plain-all : (f : List ℕ) → allPlain f ≡ true → allText f ≡ true
 plain-all [] e = refl
 plain-all (x ∷ f) e =
-    let b = both-true (plainByte x) (allPlain f) e in
+    let b = and-pass (plainByte x) (allPlain f) e in
     rw (byte-is x (b .0) .1, plain-all f (b .1))
 
 pub plain-is : (f : List ℕ) → plain f ≡ true → (1 ≤ length f) × (length f ≤ 10) × (allPlain f ≡ true)
 unfolding plain
 plain-is f e =
-    let b = both-true (within 1 10 (length f)) (allPlain f) e in
+    let b = and-pass (within 1 10 (length f)) (allPlain f) e in
     let r = within-true 1 10 (length f) (b .0) in
     (r .0, r .1, b .1)
 

@@ -12,8 +12,9 @@ use Rattle.texts.specs.declared.Step.{Step}
 use Rattle.texts.specs.declared.Step.the-variants.{Mark, Byte, Bad}
 use Rattle.lists.specs.Logic.{on, within}
 use Rattle.turbo.specs.Escape.{escaped, decodeAfter, decode}
-use Rattle.texts.specs.Texts.{allText, padded, textGiven, text, keptStep, stepOf}
-use Rattle.lists.proofs.LogicLaws.{both-false, both-true, in-range, above-range}
+use Rattle.texts.specs.Texts.{allText, padded, textGiven, text}
+use Rattle.lists.proofs.LogicLaws.{and-false, and-pass, in-range, above-range}
+use Rattle.texts.specs.inner.Steps.{keptStep, stepOf}
 
 -- what a step tells of l, the bytes that the field stands for from here on, where rest is left of the field
 abbrev Told : Step → List ℕ → List ℕ → Type 0
@@ -61,12 +62,12 @@ begin f =
 text-more : (t : List ℕ) (v : ℕ) → allText t ≡ true → within 32 126 v ≡ true → allText (t ++ (v ∷ [])) ≡ true
 text-more [] v e h = rw h
 text-more (x ∷ t) v e h =
-    let b = both-true (within 32 126 x) (allText t) e in
+    let b = and-pass (within 32 126 x) (allText t) e in
     rw (b .0, text-more t v (b .1) h)
 
 text-never : (t : List ℕ) (v : ℕ) (l : List ℕ) → within 32 126 v ≡ false → allText (t ++ v ∷ l) ≡ false
 text-never [] v l h = rw h
-text-never (x ∷ t) v l h = rw (text-never t v l h) (both-false (within 32 126 x))
+text-never (x ∷ t) v l h = rw (text-never t v l h) (and-false (within 32 126 x))
 
 put : (t : List ℕ) (v : ℕ) → length t < 10 → set (padded t) (length t) v ≡ padded (t ++ (v ∷ []))
 put t v h =
@@ -82,7 +83,7 @@ outcome-none f e = rw e
 
 outcome-never : (f t : List ℕ) (v : ℕ) (l : List ℕ) → decode f ≡ t ++ v ∷ l → within 32 126 v ≡ false → textGiven false [] ≡ text f
 unfolding text
-outcome-never f t v l e h = rw (e, text-never t v l h, both-false (within 1 10 (length (t ++ v ∷ l))))
+outcome-never f t v l e h = rw (e, text-never t v l h, and-false (within 1 10 (length (t ++ v ∷ l))))
 
 outcome-long : (f t : List ℕ) (v : ℕ) (l : List ℕ) → decode f ≡ t ++ v ∷ l → length t ≡ 10 → textGiven false [] ≡ text f
 unfolding text

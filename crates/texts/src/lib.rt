@@ -5,7 +5,8 @@ ghost use mathlib.Core.List.{[]};
 ghost use Prim.Native.Nat.{_+_, _≤_};
 ghost use lib.ListN.{length};
 ghost use Rattle.lists.specs.Part.{over};
-ghost use Rattle.texts.specs.Texts.{keptStep, stepOf, padded, plain, textGiven, text};
+ghost use Rattle.texts.specs.Texts.{padded, textGiven, text};
+ghost use Rattle.texts.specs.inner.Steps.{keptStep, stepOf, plain};
 
 // A text that is kept, padded with zero bytes; all zero where it is not ok.
 pub struct Text {
@@ -39,7 +40,7 @@ fn step_at(after: bool, b: u8) -> Step
     if after {
         return kept_step(turbo::escaped(b));
     }
-    if b == 92 {
+    if b == b'\\' {
         return Step::Mark;
     }
     kept_step(b)
@@ -55,15 +56,15 @@ fn refused() -> Text
 }
 
 // A text that is kept: 1 to 10 bytes, each 32 to 126, after decoding.
-pub fn read_text(f: &[u8]) -> Text
-    ensures { λ r. ⌜ r ≡ text (now (f .entry)) ⌝ }
+pub fn read_text(field: &[u8]) -> Text
+    ensures { λ r. ⌜ r ≡ text (now (field .entry)) ⌝ }
 {
     let mut out = [0u8; 10];
     let mut n: usize = 0;
     let mut after = false;
     let mut i: usize = 0;
-    while i < f.len() {
-        let b = f[i];
+    while i < field.len() {
+        let b = field[i];
         i += 1;
         match step_at(after, b) {
             Step::Mark => {
@@ -95,25 +96,25 @@ pub fn read_text(f: &[u8]) -> Text
 }
 
 // Whether the field is 1 to 10 bytes, each 32 to 126 and no backslash. It is then a text that stands for itself.
-pub fn is_plain(f: &[u8]) -> bool
-    ensures { λ r. ⌜ r ≡ plain (now (f .entry)) ⌝ }
+pub fn is_plain(field: &[u8]) -> bool
+    ensures { λ r. ⌜ r ≡ plain (now (field .entry)) ⌝ }
 {
-    if f.len() < 1 {
+    if field.len() < 1 {
         return false;
     }
-    if 10 < f.len() {
+    if 10 < field.len() {
         return false;
     }
     let mut i: usize = 0;
-    while i < f.len() {
-        let c = f[i];
+    while i < field.len() {
+        let c = field[i];
         if c < 32 {
             return false;
         }
         if 126 < c {
             return false;
         }
-        if c == 92 {
+        if c == b'\\' {
             return false;
         }
         i += 1;
@@ -122,11 +123,11 @@ pub fn is_plain(f: &[u8]) -> bool
 }
 
 // The field as it stands, padded with zero bytes to ten. It goes straight into the row: bytes stored in an array one by one and then read as one word would stall.
-pub fn write_plain(f: &[u8], row: &mut [u8], at: usize)
-    requires { ⌜ (at + 10 ≤ length (now row)) × (length (now f) ≤ 10) ⌝ }
-    ensures { λ _. ⌜ now (row .exit) ≡ over at (padded (now (f .entry))) (now (row .entry)) ⌝ }
+pub fn write_plain(field: &[u8], row: &mut [u8], at: usize)
+    requires { ⌜ (at + 10 ≤ length (now row)) × (length (now field) ≤ 10) ⌝ }
+    ensures { λ _. ⌜ now (row .exit) ≡ over at (padded (now (field .entry))) (now (row .entry)) ⌝ }
 {
     let zeros = [0u8; 10];
     lists::copy_to(row, at, &zeros);
-    lists::copy_to(row, at, f);
+    lists::copy_to(row, at, field);
 }

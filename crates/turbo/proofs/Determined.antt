@@ -18,6 +18,8 @@ use Rattle.turbo.proofs.read_field.Kinds as read-field
 use Rattle.turbo.proofs.read_field.Reads as read-field-reads
 use Rattle.turbo.proofs.field_of.Kinds as field-of
 use Rattle.turbo.proofs.field_of.Reads as field-of-reads
+use Rattle.turbo.proofs.count_fields.Kinds as count-fields
+use Rattle.turbo.proofs.count_fields.Reads as count-fields-reads
 
 pub escaped-determined : OneResult 0 escaped.ps escaped.r escaped-reads.Post
 escaped-determined κs a x y s t p q = p ∙ sym q
@@ -45,3 +47,6 @@ read-field-size-determined κs a x y s t p q = p .1 ∙ sym (q .1)
 
 pub field-of-determined : Determined 1 field-of.ps field-of.r field-of-reads.Post (λ κs x s. now x)
 field-of-determined κs a x y s t p q = p ∙ sym q
+
+pub count-fields-determined : OneResult 1 count-fields.ps count-fields.r count-fields-reads.Post
+count-fields-determined κs a x y s t p q = p ∙ sym q

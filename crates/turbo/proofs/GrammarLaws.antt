@@ -6,7 +6,7 @@ use mathlib.Core.List.{List, [], _∷_, _++_}
 use borrow.Author.Tests.{ne-eqb}
 use Rattle.grammar.specs.Grammar.{Esc, Text, Field, Fields}
 use Rattle.turbo.specs.Escape.{escaped, decodeAfter, decode}
-use Rattle.turbo.specs.Split.{onto, fields}
+use Rattle.turbo.specs.Split.{intoFirst, fields}
 use Rattle.turbo.specs.Told.{fieldsIn, escapeIn, contentIn}
 
 -- The walk's split of a line is the grammar's: a bar stands only between fields. Assumes nothing.
@@ -39,12 +39,12 @@ field-bar Field.null = byte (differ 92 124 (omega arith)) (byte (differ 48 124 (
 field-alone : {f : List ℕ} → Free 124 f → fields f ≡ f ∷ []
 unfolding fields
 field-alone none = refl
-field-alone (byte {b} n f) = rw (ne-eqb b 124 n) (ap (onto b) (field-alone f))
+field-alone (byte {b} n f) = rw (ne-eqb b 124 n) (ap (intoFirst b) (field-alone f))
 
 field-before : {f : List ℕ} (l : List ℕ) → Free 124 f → fields (f ++ 124 ∷ l) ≡ f ∷ fields l
 unfolding fields
 field-before l none = refl
-field-before l (byte {b} n f) = rw (ne-eqb b 124 n) (ap (onto b) (field-before l f))
+field-before l (byte {b} n f) = rw (ne-eqb b 124 n) (ap (intoFirst b) (field-before l f))
 
 pub fields-grammar : {l : List ℕ} (f : Fields l) → fields l ≡ fieldsIn f
 fields-grammar (Fields.one f) = field-alone (field-bar f)

@@ -1,6 +1,5 @@
 pub mod SplitLaws
 pub mod GrammarLaws
+pub mod BarLaws
 pub mod Claims
 pub mod Determined
-pub mod BarLaws
-pub mod BarsDetermined

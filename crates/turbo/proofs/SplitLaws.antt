@@ -10,7 +10,7 @@ use lib.Seq.{drop-cons, take-all}
 use lib.Dec.{eqb, ltb}
 use Rattle.lists.specs.Logic.{on}
 use Rattle.lists.proofs.PartLaws.{tail-all}
-use Rattle.turbo.specs.Split.{until, past, onto, fields, fieldAt, tailAt}
+use Rattle.turbo.specs.Split.{until, past, intoFirst, fields, fieldAt, tailAt}
 
 -- Laws of fields: by the first of them, and what the walk over them cites. Assumes nothing.
 
@@ -49,7 +49,7 @@ unfolding until past fields
 fields-more [] h = absurd (omega arith)
 fields-more (b ∷ l) h = go (eqb b 124) h (fields-more l)
   where
-    go : (t : Bool) → length (on t [] (b ∷ until 124 l)) < suc (length l) → (length (until 124 l) < length l → fields l ≡ until 124 l ∷ fields (past 124 l)) → on t ([] ∷ fields l) (onto b (fields l)) ≡ on t [] (b ∷ until 124 l) ∷ fields (on t l (past 124 l))
+    go : (t : Bool) → length (on t [] (b ∷ until 124 l)) < suc (length l) → (length (until 124 l) < length l → fields l ≡ until 124 l ∷ fields (past 124 l)) → on t ([] ∷ fields l) (intoFirst b (fields l)) ≡ on t [] (b ∷ until 124 l) ∷ fields (on t l (past 124 l))
     go true g f = refl
     go false g f = rw (f (omega arith)) refl
 
@@ -58,7 +58,7 @@ unfolding until fields
 fields-one [] h = refl
 fields-one (b ∷ l) h = go (eqb b 124) h (fields-one l)
   where
-    go : (t : Bool) → suc (length l) ≤ length (on t [] (b ∷ until 124 l)) → (length l ≤ length (until 124 l) → fields l ≡ l ∷ []) → on t ([] ∷ fields l) (onto b (fields l)) ≡ (b ∷ l) ∷ []
+    go : (t : Bool) → suc (length l) ≤ length (on t [] (b ∷ until 124 l)) → (length l ≤ length (until 124 l) → fields l ≡ l ∷ []) → on t ([] ∷ fields l) (intoFirst b (fields l)) ≡ (b ∷ l) ∷ []
     go true g f = absurd (omega arith)
     go false g f = rw (f (omega arith)) refl
 
@@ -141,7 +141,7 @@ tail-past zero l = ap (past 124) (tail-zero l) ∙ sym (tail-next 0 l ∙ tail-z
 tail-past (suc k) l = ap (past 124) (tail-next k l) ∙ tail-past k (past 124 l) ∙ sym (tail-next (suc k) l)
 
 -- how many fields there are
-pub onto-length : (b : ℕ) (fs : List (List ℕ)) → 0 < length fs → length (onto b fs) ≡ length fs
+pub onto-length : (b : ℕ) (fs : List (List ℕ)) → 0 < length fs → length (intoFirst b fs) ≡ length fs
 onto-length b [] h = absurd (omega arith)
 onto-length b (f ∷ fs) h = refl
 
@@ -150,7 +150,7 @@ unfolding fields
 fields-some [] = omega arith
 fields-some (b ∷ l) = go (eqb b 124) (fields-some l)
   where
-    go : (t : Bool) → 0 < length (fields l) → 0 < length (on t ([] ∷ fields l) (onto b (fields l)))
+    go : (t : Bool) → 0 < length (fields l) → 0 < length (on t ([] ∷ fields l) (intoFirst b (fields l)))
     go true h = omega arith
     go false h = omega (arith, onto-length b (fields l) h)
 

@@ -3,3 +3,4 @@ pub mod Split
 pub mod Told
 pub mod Claims
 pub mod Cases
+pub mod inner

@@ -16,14 +16,14 @@ past x [] = []
 past x (b ∷ l) = on (eqb b x) l (past x l)
 
 -- a byte more at the front of the first field
-abbrev pub onto : ℕ → List (List ℕ) → List (List ℕ)
-onto b [] = (b ∷ []) ∷ []
-onto b (f ∷ fs) = (b ∷ f) ∷ fs
+abbrev pub intoFirst : ℕ → List (List ℕ) → List (List ℕ)
+intoFirst b [] = (b ∷ []) ∷ []
+intoFirst b (f ∷ fs) = (b ∷ f) ∷ fs
 
 -- the fields of a line: one more than it has bars
 unfoldable pub fields : List ℕ → List (List ℕ)
 fields [] = [] ∷ []
-fields (b ∷ l) = on (eqb b 124) ([] ∷ fields l) (onto b (fields l))
+fields (b ∷ l) = on (eqb b 124) ([] ∷ fields l) (intoFirst b (fields l))
 
 -- field k, from 0; nothing past the last
 unfoldable pub fieldAt : ℕ → List ℕ → List ℕ

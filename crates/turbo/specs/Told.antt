@@ -1,4 +1,4 @@
--- What a well-formed line says, read off the grammar alone: its fields, and a text's content. Assumes nothing.
+-- What a well-formed line says, read off the grammar alone: its fields, and a text's content. The claims hold the walk to it. Assumes nothing.
 use Prim.Native.Nat.{ℕ}
 use mathlib.Core.List.{List, [], _∷_}
 use Rattle.grammar.specs.Grammar.{Esc, Text, Fields}

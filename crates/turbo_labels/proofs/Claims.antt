@@ -1,9 +1,7 @@
 -- The claims of `specs/Claims.antt`. Assumes nothing.
-use mathlib.Core.Path.{ap}
-use Prim.Native.Nat.{ℕ}
-use Rattle.turbo.specs.Split.{fieldAt}
 use Rattle.turbo_labels.specs.Claims.{All}
-use Rattle.turbo_labels.proofs.PlaceLaws.{place-most, place-there, place-before, place-missing, second-find, each-place, place-once}
+use Rattle.turbo_labels.proofs.PlaceLaws.{place-most, place-there, place-before, place-missing, second-find, each-place}
+use Rattle.turbo_labels.proofs.LookupLaws.{lookup-by-name}
 
 pub claims : All
 claims = (
@@ -11,5 +9,5 @@ claims = (
   λ w fs. (place-most w fs, place-missing w fs),
   second-find,
   each-place,
-  λ line w fs j h q n. ap (λ (k : ℕ). fieldAt k line) (place-once w fs j h q n),
+  lookup-by-name,
 )

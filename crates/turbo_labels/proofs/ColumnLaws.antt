@@ -14,27 +14,28 @@ use Rattle.lists.specs.Text.{same}
 use Rattle.turbo_labels.specs.declared.Columns.{Columns}
 use Rattle.turbo_labels.specs.declared.Seen.the-variants.{First, Twice}
 use Rattle.turbo.specs.Split.{until, past, fields, tailAt}
-use Rattle.turbo_labels.specs.Columns.{count, place, anyTwice, placesFrom, columnsOf, noted, seenBy, sought, most}
+use Rattle.turbo_labels.specs.Columns.{count, columnOf, anyTwice, placesFrom, columnsOf, most}
 use Rattle.turbo.proofs.SplitLaws.{rest-is, tail-past, fields-cons, fields-last}
+use Rattle.turbo_labels.specs.inner.Search.{seenAfter, seenBy, sought}
 
 -- Laws of the search for column names. Assumes nothing.
 
 -- the place of a name, n where the first bar of what is left was found
 module _ (name l : List ℕ) (n : ℕ) (e : n ≡ length (until 124 l)) where
-  pub place-hit : n ≤ length l → same (take n l) name ≡ true → place name (fields l) ≡ 0
-  unfolding place
+  pub place-hit : n ≤ length l → same (take n l) name ≡ true → columnOf name (fields l) ≡ 0
+  unfolding columnOf
   place-hit h y = go (ltb n (length l)) refl
     where
-      go : (t : Bool) → ltb n (length l) ≡ t → place name (fields l) ≡ 0
+      go : (t : Bool) → ltb n (length l) ≡ t → columnOf name (fields l) ≡ 0
       go true k = rw (fields-cons l n e (ltb-true _ _ k)) (rw y)
       go false k = let k′ : length l ≤ n = ltb-false _ _ k in rw (fields-last l n e (omega arith)) (rw y)
 
-  pub place-last : n ≡ length l → same (take n l) name ≡ false → place name (fields l) ≡ 1
-  unfolding place
+  pub place-last : n ≡ length l → same (take n l) name ≡ false → columnOf name (fields l) ≡ 1
+  unfolding columnOf
   place-last h y = rw (fields-last l n e h) (rw y)
 
-  pub place-more : n < length l → same (take n l) name ≡ false → place name (fields l) ≡ suc (place name (fields (take (length l - (n + 1)) (drop (n + 1) l))))
-  unfolding place
+  pub place-more : n < length l → same (take n l) name ≡ false → columnOf name (fields l) ≡ suc (columnOf name (fields (take (length l - (n + 1)) (drop (n + 1) l))))
+  unfolding columnOf
   place-more h y = rw (fields-cons l n e h) (rw y)
 
 -- the search for one name, column by column, is by its count and its place
@@ -56,26 +57,26 @@ unfolding sought count
 sought-again none first k w [] h = refl
 sought-again none first k w (f ∷ fs) h = go (same f w) (sought-again none first (suc k) w fs h)
   where
-    go : (t : Bool) → sought none first (suc k) w fs ≡ on (leb 1 (count w fs)) Twice (First first) → seenBy (noted none first k t) (λ at. sought none at (suc k) w fs) Twice ≡ on (leb 1 (on t (suc (count w fs)) (count w fs))) Twice (First first)
+    go : (t : Bool) → sought none first (suc k) w fs ≡ on (leb 1 (count w fs)) Twice (First first) → seenBy (seenAfter none first k t) (λ at. sought none at (suc k) w fs) Twice ≡ on (leb 1 (on t (suc (count w fs)) (count w fs))) Twice (First first)
     go true ih = rw (ne-eqb first none h, le-leb 1 (suc (count w fs)) (omega arith))
     go false ih = ih
 
-sought-first : (none k : ℕ) (w : List ℕ) (fs : List (List ℕ)) → k + length fs ≡ none → sought none none k w fs ≡ on (leb 2 (count w fs)) Twice (First (k + place w fs))
-unfolding sought count place
+sought-first : (none k : ℕ) (w : List ℕ) (fs : List (List ℕ)) → k + length fs ≡ none → sought none none k w fs ≡ on (leb 2 (count w fs)) Twice (First (k + columnOf w fs))
+unfolding sought count columnOf
 sought-first none k w [] h = ap First (sym h)
 sought-first none k w (f ∷ fs) h = go (same f w) (sought-first none (suc k) w fs (omega arith))
   where
-    go : (t : Bool) → sought none none (suc k) w fs ≡ on (leb 2 (count w fs)) Twice (First (suc k + place w fs)) → seenBy (noted none none k t) (λ at. sought none at (suc k) w fs) Twice ≡ on (leb 2 (on t (suc (count w fs)) (count w fs))) Twice (First (k + on t 0 (suc (place w fs))))
+    go : (t : Bool) → sought none none (suc k) w fs ≡ on (leb 2 (count w fs)) Twice (First (suc k + columnOf w fs)) → seenBy (seenAfter none none k t) (λ at. sought none at (suc k) w fs) Twice ≡ on (leb 2 (on t (suc (count w fs)) (count w fs))) Twice (First (k + on t 0 (suc (columnOf w fs))))
     go true ih =
         let z : k + 0 ≡ k = omega arith in
         rw (eq-eqb none none refl, z, ← less-one (count w fs)) (sought-again none k (suc k) w fs (λ e. omega arith))
     go false ih =
-        let z : k + suc (place w fs) ≡ suc k + place w fs = omega arith in
+        let z : k + suc (columnOf w fs) ≡ suc k + columnOf w fs = omega arith in
         rw z ih
 
-pub sought-is : (none : ℕ) (w : List ℕ) (fs : List (List ℕ)) → none ≡ length fs → sought none none 0 w fs ≡ on (leb 2 (count w fs)) Twice (First (place w fs))
+pub sought-is : (none : ℕ) (w : List ℕ) (fs : List (List ℕ)) → none ≡ length fs → sought none none 0 w fs ≡ on (leb 2 (count w fs)) Twice (First (columnOf w fs))
 sought-is none w fs h =
-    let z : 0 + place w fs ≡ place w fs = omega arith in
+    let z : 0 + columnOf w fs ≡ columnOf w fs = omega arith in
     sought-first none 0 w fs (omega arith) ∙ ap (λ (p : ℕ). on (leb 2 (count w fs)) Twice (First p)) z
 
 found-once : (t : Bool) (p q : ℕ) → on t Twice (First p) ≡ First q → (t ≡ false) × (p ≡ q)
@@ -88,16 +89,16 @@ found-twice false p e = absurd (let z : _≡_ {A = ℕ} 0 1 = cc in omega arith)
 
 -- a turn over the columns, n where the first bar of what is left was found
 module _ (none first k : ℕ) (name l : List ℕ) (n : ℕ) (e : n ≡ length (until 124 l)) where
-  pub column-next : (p : ℕ) → n < length l → noted none first k (same (take n l) name) ≡ First p
+  pub column-next : (p : ℕ) → n < length l → seenAfter none first k (same (take n l) name) ≡ First p
       → sought none first k name (fields l) ≡ sought none p (k + 1) name (fields (take (length l - (n + 1)) (drop (n + 1) l)))
   unfolding sought
   column-next p h q = rw (fields-cons l n e h, q, add-one k)
 
-  pub column-last : (p : ℕ) → n ≡ length l → noted none first k (same (take n l) name) ≡ First p → sought none first k name (fields l) ≡ First p
+  pub column-last : (p : ℕ) → n ≡ length l → seenAfter none first k (same (take n l) name) ≡ First p → sought none first k name (fields l) ≡ First p
   unfolding sought
   column-last p h q = rw (fields-last l n e h, q)
 
-  pub column-twice : n ≤ length l → noted none first k (same (take n l) name) ≡ Twice → sought none first k name (fields l) ≡ Twice
+  pub column-twice : n ≤ length l → seenAfter none first k (same (take n l) name) ≡ Twice → sought none first k name (fields l) ≡ Twice
   unfolding sought
   column-twice h q = go (ltb n (length l)) refl
     where

@@ -12,7 +12,7 @@ use Rattle.turbo_labels.proofs.find_columns.Reads as find-columns-reads
 pub column-of-determined : OneResult 2 column-of.ps column-of.r column-of-reads.Post
 column-of-determined κs a x y s t p q = p ∙ sym q
 
-pub lookup-determined : Determined 3 lookup.ps lookup.r lookup-reads.Post (λ κs x s. now x)
+pub lookup-determined : Determined 1 lookup.ps lookup.r lookup-reads.Post (λ κs x s. now x)
 lookup-determined κs a x y s t p q = p ∙ sym q
 
 pub find-columns-determined : OneResult 2 find-columns.ps find-columns.r find-columns-reads.Post

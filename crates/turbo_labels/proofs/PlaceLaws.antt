@@ -13,7 +13,7 @@ use Rattle.lists.specs.Logic.{on}
 use Rattle.lists.specs.Text.{same}
 use Rattle.lists.proofs.TextLaws.{same-refl, same-equal}
 use Rattle.turbo_labels.specs.declared.Columns.{Columns}
-use Rattle.turbo_labels.specs.Columns.{count, place, anyTwice, placesFrom, columnsOf, most}
+use Rattle.turbo_labels.specs.Columns.{count, columnOf, anyTwice, placesFrom, columnsOf, most}
 use Rattle.turbo_labels.specs.Claims.{Twice}
 
 -- What a place and a count among names say of the names. Assumes nothing.
@@ -24,40 +24,40 @@ same-not f w e q = let z : same f w ≡ true = rw q (same-refl w) in let y : _�
 same-yes : (f w : List ℕ) → f ≡ w → same f w ≡ true
 same-yes f w q = rw q (same-refl w)
 
-pub place-most : (w : List ℕ) (fs : List (List ℕ)) → place w fs ≤ length fs
-unfolding place
+pub place-most : (w : List ℕ) (fs : List (List ℕ)) → columnOf w fs ≤ length fs
+unfolding columnOf
 place-most w [] = omega arith
 place-most w (f ∷ fs) = go (same f w) (place-most w fs)
   where
-    go : (t : Bool) → place w fs ≤ length fs → on t 0 (suc (place w fs)) ≤ suc (length fs)
+    go : (t : Bool) → columnOf w fs ≤ length fs → on t 0 (suc (columnOf w fs)) ≤ suc (length fs)
     go true h = omega arith
     go false h = omega arith
 
-pub place-there : (w : List ℕ) (fs : List (List ℕ)) → place w fs < length fs → getD fs (place w fs) [] ≡ w
-unfolding place
+pub place-there : (w : List ℕ) (fs : List (List ℕ)) → columnOf w fs < length fs → getD fs (columnOf w fs) [] ≡ w
+unfolding columnOf
 place-there w [] h = absurd (omega arith)
 place-there w (f ∷ fs) h = go (same f w) refl h (place-there w fs)
   where
-    go : (t : Bool) → same f w ≡ t → on t 0 (suc (place w fs)) < suc (length fs) → (place w fs < length fs → getD fs (place w fs) [] ≡ w) → getD (f ∷ fs) (on t 0 (suc (place w fs))) [] ≡ w
+    go : (t : Bool) → same f w ≡ t → on t 0 (suc (columnOf w fs)) < suc (length fs) → (columnOf w fs < length fs → getD fs (columnOf w fs) [] ≡ w) → getD (f ∷ fs) (on t 0 (suc (columnOf w fs))) [] ≡ w
     go true e k ih = same-equal f w e
     go false e k ih = ih (omega arith)
 
 -- no name before the place
-pub place-before : (w : List ℕ) (fs : List (List ℕ)) (j : ℕ) → j < place w fs → getD fs j [] ≡ w → ⊥
-unfolding place
+pub place-before : (w : List ℕ) (fs : List (List ℕ)) (j : ℕ) → j < columnOf w fs → getD fs j [] ≡ w → ⊥
+unfolding columnOf
 place-before w [] j h q = omega arith
 place-before w (f ∷ fs) j h q = go (same f w) refl j h q (place-before w fs)
   where
-    go : (t : Bool) → same f w ≡ t → (j : ℕ) → j < on t 0 (suc (place w fs)) → getD (f ∷ fs) j [] ≡ w → ((j : ℕ) → j < place w fs → getD fs j [] ≡ w → ⊥) → ⊥
+    go : (t : Bool) → same f w ≡ t → (j : ℕ) → j < on t 0 (suc (columnOf w fs)) → getD (f ∷ fs) j [] ≡ w → ((j : ℕ) → j < columnOf w fs → getD fs j [] ≡ w → ⊥) → ⊥
     go true e j k q ih = omega arith
     go false e zero k q ih = same-not f w e q
     go false e (suc j) k q ih = ih j (omega arith) q
 
-pub place-missing : (w : List ℕ) (fs : List (List ℕ)) → (place w fs ≡ length fs) ↔ ((j : ℕ) → j < length fs → getD fs j [] ≡ w → ⊥)
-place-missing w fs = (λ e j h q. place-before w fs j (omega arith) q, λ f. go f (decLt (place w fs) (length fs)))
+pub place-missing : (w : List ℕ) (fs : List (List ℕ)) → (columnOf w fs ≡ length fs) ↔ ((j : ℕ) → j < length fs → getD fs j [] ≡ w → ⊥)
+place-missing w fs = (λ e j h q. place-before w fs j (omega arith) q, λ f. go f (decLt (columnOf w fs) (length fs)))
   where
-    go : ((j : ℕ) → j < length fs → getD fs j [] ≡ w → ⊥) → Dec (place w fs < length fs) → place w fs ≡ length fs
-    go f (yes h) = absurd (f (place w fs) h (place-there w fs h))
+    go : ((j : ℕ) → j < length fs → getD fs j [] ≡ w → ⊥) → Dec (columnOf w fs < length fs) → columnOf w fs ≡ length fs
+    go f (yes h) = absurd (f (columnOf w fs) h (place-there w fs h))
     go f (no h) = omega (arith, h, place-most w fs)
 
 -- a count of one or more is a find, a count of two or more is two finds
@@ -137,30 +137,30 @@ second-find ws fs =
 places-kept : (i : ℕ) (ws fs : List (List ℕ)) (ps : List ℕ) (j : ℕ) → j < i → getD (placesFrom i ws fs ps) j 0 ≡ getD ps j 0
 unfolding placesFrom
 places-kept i [] fs ps j h = refl
-places-kept i (w ∷ ws) fs ps j h = places-kept (suc i) ws fs (set ps i (place w fs)) j (omega arith) ∙ getD-set-other ps i j (place w fs) 0 (λ e. omega arith)
+places-kept i (w ∷ ws) fs ps j h = places-kept (suc i) ws fs (set ps i (columnOf w fs)) j (omega arith) ∙ getD-set-other ps i j (columnOf w fs) 0 (λ e. omega arith)
 
-places-at : (i : ℕ) (ws fs : List (List ℕ)) (ps : List ℕ) (j : ℕ) → j < length ws → i + length ws ≤ length ps → getD (placesFrom i ws fs ps) (i + j) 0 ≡ place (getD ws j []) fs
+places-at : (i : ℕ) (ws fs : List (List ℕ)) (ps : List ℕ) (j : ℕ) → j < length ws → i + length ws ≤ length ps → getD (placesFrom i ws fs ps) (i + j) 0 ≡ columnOf (getD ws j []) fs
 unfolding placesFrom
 places-at i [] fs ps j h k = absurd (omega arith)
 places-at i (w ∷ ws) fs ps zero h k =
     let e : i + 0 ≡ i = omega arith in
-    rw e (places-kept (suc i) ws fs (set ps i (place w fs)) i (omega arith) ∙ getD-set-same ps i (place w fs) 0 (omega arith))
+    rw e (places-kept (suc i) ws fs (set ps i (columnOf w fs)) i (omega arith) ∙ getD-set-same ps i (columnOf w fs) 0 (omega arith))
 places-at i (w ∷ ws) fs ps (suc j) h k =
     let e : i + suc j ≡ suc i + j = omega arith in
-    let l : length (set ps i (place w fs)) ≡ length ps = length-set ps i (place w fs) in
-    rw e (places-at (suc i) ws fs (set ps i (place w fs)) j (omega arith) (omega arith))
+    let l : length (set ps i (columnOf w fs)) ≡ length ps = length-set ps i (columnOf w fs) in
+    rw e (places-at (suc i) ws fs (set ps i (columnOf w fs)) j (omega arith) (omega arith))
 
-pub each-place : (ws fs : List (List ℕ)) → length ws ≤ most → columnsOf ws fs .twice ≡ false → (i : ℕ) → i < length ws → getD (columnsOf ws fs .places) i 0 ≡ place (getD ws i []) fs
+pub each-place : (ws fs : List (List ℕ)) → length ws ≤ most → columnsOf ws fs .twice ≡ false → (i : ℕ) → i < length ws → getD (columnsOf ws fs .places) i 0 ≡ columnOf (getD ws i []) fs
 unfolding columnsOf
 each-place ws fs h e i k =
     let z : 0 + i ≡ i = omega arith in
     rw (sym (columns-twice ws fs) ∙ e) (ap (λ (n : ℕ). getD (placesFrom 0 ws fs (replicate most 0)) n 0) (sym z) ∙ places-at 0 ws fs (replicate most 0) i k (omega (arith, length-replicate {A = ℕ} most 0)))
 
 -- a name that stands once stands at its place
-pub place-once : (w : List ℕ) (fs : List (List ℕ)) (j : ℕ) → j < length fs → getD fs j [] ≡ w → (Twice w fs → ⊥) → place w fs ≡ j
-place-once w fs j h q n = go (decLt (place w fs) j) (decLt j (place w fs))
+pub place-once : (w : List ℕ) (fs : List (List ℕ)) (j : ℕ) → j < length fs → getD fs j [] ≡ w → (Twice w fs → ⊥) → columnOf w fs ≡ j
+place-once w fs j h q n = go (decLt (columnOf w fs) j) (decLt j (columnOf w fs))
   where
-    go : Dec (place w fs < j) → Dec (j < place w fs) → place w fs ≡ j
-    go (yes a) b = absurd (n (place w fs, j, a, h, place-there w fs (omega arith), q))
+    go : Dec (columnOf w fs < j) → Dec (j < columnOf w fs) → columnOf w fs ≡ j
+    go (yes a) b = absurd (n (columnOf w fs, j, a, h, place-there w fs (omega arith), q))
     go (no a) (yes b) = absurd (place-before w fs j b q)
     go (no a) (no b) = omega (arith, a, b)

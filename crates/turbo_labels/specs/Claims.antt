@@ -6,19 +6,19 @@ use mathlib.Core.List.{List, []}
 use mathlib.Core.Logic.{_↔_}
 use lib.ListN.{length, getD}
 use Rattle.turbo.specs.Split.{fieldAt}
-use Rattle.turbo_labels.specs.Columns.{place, columnsOf, most}
+use Rattle.turbo_labels.specs.Columns.{columnOf, fieldUnder, columnsOf, most}
 
 -- a place among the columns is the first column with the name
 abbrev pub PlaceIsFirst : Type 0
 PlaceIsFirst =
-    (w : List ℕ) (fs : List (List ℕ)) → place w fs < length fs →
-    (getD fs (place w fs) [] ≡ w) × ((j : ℕ) → j < place w fs → getD fs j [] ≡ w → ⊥)
+    (w : List ℕ) (fs : List (List ℕ)) → columnOf w fs < length fs →
+    (getD fs (columnOf w fs) [] ≡ w) × ((j : ℕ) → j < columnOf w fs → getD fs j [] ≡ w → ⊥)
 
 -- and the number of columns where none has the name
 abbrev pub PlaceIsMissing : Type 0
 PlaceIsMissing =
     (w : List ℕ) (fs : List (List ℕ)) →
-    (place w fs ≤ length fs) × ((place w fs ≡ length fs) ↔ ((j : ℕ) → j < length fs → getD fs j [] ≡ w → ⊥))
+    (columnOf w fs ≤ length fs) × ((columnOf w fs ≡ length fs) ↔ ((j : ℕ) → j < length fs → getD fs j [] ≡ w → ⊥))
 
 -- two columns have the name w
 abbrev pub Twice : List ℕ → List (List ℕ) → Type 0
@@ -33,13 +33,14 @@ SecondFind =
 abbrev pub EachPlace : Type 0
 EachPlace =
     (ws fs : List (List ℕ)) → length ws ≤ most → columnsOf ws fs .twice ≡ false →
-    (i : ℕ) → i < length ws → getD (columnsOf ws fs .places) i 0 ≡ place (getD ws i []) fs
+    (i : ℕ) → i < length ws → getD (columnsOf ws fs .places) i 0 ≡ columnOf (getD ws i []) fs
 
--- a field that is looked up by its column's name, which stands once, is the field in that column and no neighbour's
+-- a field that is looked up by its column's name, where that stands once, is the field in that column and no neighbour's; where the name is missing it has no bytes
 abbrev pub LookupIsByName : Type 0
 LookupIsByName =
-    (line w : List ℕ) (fs : List (List ℕ)) (j : ℕ) → j < length fs → getD fs j [] ≡ w → (Twice w fs → ⊥) →
-    fieldAt (place w fs) line ≡ fieldAt j line
+    (line w : List ℕ) (fs : List (List ℕ)) →
+    ((j : ℕ) → j < length fs → getD fs j [] ≡ w → (Twice w fs → ⊥) → fieldUnder (columnOf w fs) (length fs) line ≡ fieldAt j line)
+    × (((j : ℕ) → j < length fs → getD fs j [] ≡ w → ⊥) → fieldUnder (columnOf w fs) (length fs) line ≡ [])
 
 abbrev pub All : Type 0
 All = PlaceIsFirst × PlaceIsMissing × SecondFind × EachPlace × LookupIsByName

@@ -1,3 +1,4 @@
 pub mod Columns
 pub mod Claims
 pub mod Cases
+pub mod inner

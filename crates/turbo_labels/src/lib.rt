@@ -2,17 +2,18 @@
 ghost use mathlib.Core.Path.{_≡_};
 ghost use Prim.Native.Nat.{_≤_, _<_};
 ghost use lib.ListN.{length, getD};
-ghost use Rattle.turbo.specs.Split.{until, fields, fieldAt};
-ghost use Rattle.turbo_labels.specs.Columns.{place, noted, columnsOf, most, Measured};
+ghost use Rattle.turbo.specs.Split.{until, fields};
+ghost use Rattle.turbo_labels.specs.Columns.{columnOf, fieldUnder, columnsOf, most};
+ghost use Rattle.turbo_labels.specs.inner.Search.{seenAfter, Measured};
 
 // The first column with the name, or the number of columns.
 pub fn column_of(labels: &[u8], name: &[u8]) -> usize
-    ensures { λ r. ⌜ r ≡ place (now (name .entry)) (fields (now (labels .entry))) ⌝ }
+    ensures { λ r. ⌜ r ≡ columnOf (now (name .entry)) (fields (now (labels .entry))) ⌝ }
 {
     let mut column: usize = 0;
     let mut l = labels;
     loop {
-        let n = turbo::find(l, 124);
+        let n = turbo::find(l, b'|');
         if lists::same_bytes(&l[..n], name) {
             return column;
         }
@@ -25,12 +26,14 @@ pub fn column_of(labels: &[u8], name: &[u8]) -> usize
     }
 }
 
-// The named column's field, a part of the lent line.
-pub fn lookup<'a>(line: &'a [u8], labels: &[u8], name: &[u8]) -> &'a [u8]
-    ensures { λ r. ⌜ now r ≡ fieldAt (place (now (name .entry)) (fields (now (labels .entry)))) (now (line .entry)) ⌝ }
+// The named column's field, a part of the lent line. The column is as `column_of` gives it, among so many columns; a name that is missing has no field, and gets no bytes.
+pub fn lookup<'a>(line: &'a [u8], column: usize, columns: usize) -> &'a [u8]
+    ensures { λ r. ⌜ now r ≡ fieldUnder column columns (now (line .entry)) ⌝ }
 {
-    let k = column_of(labels, name);
-    turbo::field_of(line, k)
+    if column < columns {
+        return turbo::field_of(line, column);
+    }
+    &line[..0]
 }
 
 // What the search for one name has found so far.
@@ -47,7 +50,7 @@ pub struct Columns {
 
 // One column more in the search for a name.
 fn note(none: usize, first: usize, k: usize, hit: bool) -> Seen
-    ensures { λ r. ⌜ r ≡ noted none first k hit ⌝ }
+    ensures { λ r. ⌜ r ≡ seenAfter none first k hit ⌝ }
 {
     if hit {
         if first == none {
@@ -82,7 +85,7 @@ fn size_at(sizes: &[usize], k: usize, l: &[u8]) -> usize
     if k < sizes.len() {
         return sizes[k];
     }
-    turbo::find(l, 124)
+    turbo::find(l, b'|')
 }
 
 // The places of the wanted names among the columns of a label line; both are names parted by bars. The search ends at the second find.
@@ -96,7 +99,7 @@ fn search_columns(wanted: &[u8], labels: &[u8], sizes: &[usize]) -> Columns
     let mut i: usize = 0;
     let mut w = wanted;
     'names: loop {
-        let at = turbo::find(w, 124);
+        let at = turbo::find(w, b'|');
         let name = &w[..at];
         let mut first = none;
         let mut k: usize = 0;

@@ -4,11 +4,11 @@ use mathlib.Core.Path.{_≡_, refl, sym, ap, _∙_}
 use mathlib.Core.List.{List, [], _∷_, _++_, map, append-nil}
 use borrow.Author.Tests.{ne-eqb}
 use Rattle.grammar.specs.Grammar.{ended, headed, Plain, Esc, Text, Field, Fields, Lines, Tables, WellFormed}
-use Rattle.turbo.specs.Split.{onto}
+use Rattle.turbo.specs.Split.{intoFirst}
 use Rattle.turbo.proofs.GrammarLaws.{Free}
 use Rattle.turbo_lines.specs.declared.Mark.the-variants.{Group, Table, Labels, Data}
 use Rattle.turbo_lines.specs.Lines.{linesFrom, lines, letter, markOf, afterMark}
-use Rattle.turbo_lines.specs.Told.{Line, linesIn, tablesIn, dossierIn}
+use Rattle.turbo_lines.specs.Told.{MarkedLine, linesIn, tablesIn, dossierIn}
 use Rattle.turbo_lines.specs.Claims.{walked}
 
 -- The walk's split of a dossier is the grammar's: CR stands only in line ends. Assumes nothing.
@@ -47,7 +47,7 @@ fields-ret (Fields.more f g) = free-append 13 (field-ret f) (Free.byte (differ�
 line-before : {f : List ℕ} (r : List ℕ) → Free 13 f → lines (ended f r) ≡ f ∷ lines r
 unfolding linesFrom
 line-before r Free.none = refl
-line-before r (Free.byte {b} n f) = rw (ne-eqb b 13 n) (ap (onto b) (line-before r f))
+line-before r (Free.byte {b} n f) = rw (ne-eqb b 13 n) (ap (intoFirst b) (line-before r f))
 
 -- a line behind a mark's two bytes
 marked-before : (m : ℕ) {f : List ℕ} (r : List ℕ) → (m ≡ 13 → ⊥) → Free 13 f → lines (92 ∷ m ∷ ended f r) ≡ (92 ∷ m ∷ f) ∷ lines r
@@ -105,25 +105,25 @@ walked-group f = refl
 walked-head : {t l : List ℕ} (r : List ℕ) → Fields t → Fields l → map walked (lines (headed t l r)) ≡ (Table, t) ∷ (Labels, l) ∷ map walked (lines r)
 walked-head {t} {l} r g h =
     ap (map walked) (marked-before 84 _ (differ′ 84 13 (omega arith)) (fields-ret g) ∙ ap (λ (ls : List (List ℕ)). (92 ∷ 84 ∷ t) ∷ ls) (marked-before 76 r (differ′ 76 13 (omega arith)) (fields-ret h)))
-    ∙ ap (λ (a : Line). a ∷ walked (92 ∷ 76 ∷ l) ∷ map walked (lines r)) (walked-table t)
-    ∙ ap (λ (a : Line). (Table, t) ∷ a ∷ map walked (lines r)) (walked-labels l)
+    ∙ ap (λ (a : MarkedLine). a ∷ walked (92 ∷ 76 ∷ l) ∷ map walked (lines r)) (walked-table t)
+    ∙ ap (λ (a : MarkedLine). (Table, t) ∷ a ∷ map walked (lines r)) (walked-labels l)
 
 lines-grammar : {l : List ℕ} (d : Lines l) → map walked (lines l) ≡ linesIn d
 unfolding linesFrom
 lines-grammar Lines.end = refl
 lines-grammar (Lines.line {f} {r} g d) =
-    ap (map walked) (line-before r (fields-ret g)) ∙ ap (λ (a : Line). a ∷ map walked (lines r)) (walked-data g) ∙ ap (λ (ls : List Line). (Data, f) ∷ ls) (lines-grammar d)
+    ap (map walked) (line-before r (fields-ret g)) ∙ ap (λ (a : MarkedLine). a ∷ map walked (lines r)) (walked-data g) ∙ ap (λ (ls : List MarkedLine). (Data, f) ∷ ls) (lines-grammar d)
 lines-grammar (Lines.table {t} {l} {r} g h d) =
-    walked-head r g h ∙ ap (λ (ls : List Line). (Table, t) ∷ (Labels, l) ∷ ls) (lines-grammar d)
+    walked-head r g h ∙ ap (λ (ls : List MarkedLine). (Table, t) ∷ (Labels, l) ∷ ls) (lines-grammar d)
 
 tables-grammar : {l : List ℕ} (d : Tables l) → map walked (lines l) ≡ tablesIn d
 unfolding linesFrom
 tables-grammar Tables.none = refl
 tables-grammar (Tables.table {t} {l} {r} g h d) =
-    walked-head r g h ∙ ap (λ (ls : List Line). (Table, t) ∷ (Labels, l) ∷ ls) (lines-grammar d)
+    walked-head r g h ∙ ap (λ (ls : List MarkedLine). (Table, t) ∷ (Labels, l) ∷ ls) (lines-grammar d)
 
 pub dossier-grammar : {d : List ℕ} (w : WellFormed d) → map walked (lines d) ≡ dossierIn w
 dossier-grammar (WellFormed.dossier {g} {t} f d) =
     ap (map walked) (marked-before 71 t (differ′ 71 13 (omega arith)) (fields-ret f))
-    ∙ ap (λ (a : Line). a ∷ map walked (lines t)) (walked-group g)
-    ∙ ap (λ (ls : List Line). (Group, g) ∷ ls) (tables-grammar d)
+    ∙ ap (λ (a : MarkedLine). a ∷ map walked (lines t)) (walked-group g)
+    ∙ ap (λ (ls : List MarkedLine). (Group, g) ∷ ls) (tables-grammar d)

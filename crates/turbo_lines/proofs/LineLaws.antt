@@ -8,7 +8,7 @@ use lib.Seq.{drop-drop}
 use lib.Dec.{eqb}
 use Rattle.lists.specs.Logic.{on}
 use Rattle.lists.proofs.PartLaws.{tail-all}
-use Rattle.turbo.specs.Split.{until, past, onto}
+use Rattle.turbo.specs.Split.{until, past, intoFirst}
 use Rattle.turbo.proofs.SplitLaws.{past-drop}
 use Rattle.turbo_lines.specs.Lines.{linesFrom, lines}
 
@@ -37,12 +37,12 @@ unfolding linesFrom until past
 lines-cons [] h = absurd (omega arith)
 lines-cons (b ∷ []) h = go (eqb b 13)
   where
-    go : (t : Bool) → on t ([] ∷ []) (onto b []) ≡ on t [] (b ∷ []) ∷ linesFrom false (drop 1 (on t [] []))
+    go : (t : Bool) → on t ([] ∷ []) (intoFirst b []) ≡ on t [] (b ∷ []) ∷ linesFrom false (drop 1 (on t [] []))
     go true = refl
     go false = refl
 lines-cons (b ∷ c ∷ l) h = go (eqb b 13) (lines-cons (c ∷ l) (omega arith))
   where
-    go : (t : Bool) → lines (c ∷ l) ≡ until 13 (c ∷ l) ∷ lines (drop 1 (past 13 (c ∷ l))) → on t ([] ∷ linesFrom true (c ∷ l)) (onto b (lines (c ∷ l))) ≡ on t [] (b ∷ until 13 (c ∷ l)) ∷ lines (drop 1 (on t (c ∷ l) (past 13 (c ∷ l))))
+    go : (t : Bool) → lines (c ∷ l) ≡ until 13 (c ∷ l) ∷ lines (drop 1 (past 13 (c ∷ l))) → on t ([] ∷ linesFrom true (c ∷ l)) (intoFirst b (lines (c ∷ l))) ≡ on t [] (b ∷ until 13 (c ∷ l)) ∷ lines (drop 1 (on t (c ∷ l) (past 13 (c ∷ l))))
     go true e = refl
     go false e = rw e refl
 

@@ -4,10 +4,10 @@ use mathlib.Core.Path.{_≡_}
 use mathlib.Core.List.{List, map}
 use Rattle.grammar.specs.Grammar.{WellFormed}
 use Rattle.turbo_lines.specs.Lines.{lines, markOf, afterMark}
-use Rattle.turbo_lines.specs.Told.{Line, dossierIn}
+use Rattle.turbo_lines.specs.Told.{MarkedLine, dossierIn}
 
 -- a line as the walk has it
-abbrev pub walked : List ℕ → Line
+abbrev pub walked : List ℕ → MarkedLine
 walked l = (markOf l, afterMark l)
 
 -- the walk by lines gives the grammar's lines, each with its mark

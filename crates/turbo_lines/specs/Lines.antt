@@ -5,7 +5,7 @@ use mathlib.Core.List.{List, [], _∷_}
 use lib.ListN.{drop}
 use lib.Dec.{eqb}
 use Rattle.lists.specs.Logic.{on}
-use Rattle.turbo.specs.Split.{onto}
+use Rattle.turbo.specs.Split.{intoFirst}
 use Rattle.turbo_lines.specs.declared.Mark.{Mark}
 use Rattle.turbo_lines.specs.declared.Mark.the-variants.{Group, Table, Labels, Data}
 
@@ -14,7 +14,7 @@ unfoldable pub linesFrom : Bool → List ℕ → List (List ℕ)
 linesFrom true [] = []
 linesFrom true (b ∷ l) = linesFrom false l
 linesFrom false [] = []
-linesFrom false (b ∷ l) = on (eqb b 13) ([] ∷ linesFrom true l) (onto b (linesFrom false l))
+linesFrom false (b ∷ l) = on (eqb b 13) ([] ∷ linesFrom true l) (intoFirst b (linesFrom false l))
 
 abbrev pub lines : List ℕ → List (List ℕ)
 lines d = linesFrom false d

@@ -1,4 +1,4 @@
--- What a well-formed dossier says, read off the grammar alone: its lines with their marks. Assumes nothing.
+-- What a well-formed dossier says, read off the grammar alone: its lines with their marks. The claims hold the walk to it. Assumes nothing.
 use Prim.Native.Nat.{ℕ}
 use mathlib.Core.List.{List, [], _∷_}
 use Rattle.grammar.specs.Grammar.{Lines, Tables, WellFormed}
@@ -6,17 +6,17 @@ use Rattle.turbo_lines.specs.declared.Mark.{Mark}
 use Rattle.turbo_lines.specs.declared.Mark.the-variants.{Group, Table, Labels, Data}
 
 -- a line: its mark, and what stands behind the mark
-abbrev pub Line : Type 0
-Line = Mark × List ℕ
+abbrev pub MarkedLine : Type 0
+MarkedLine = Mark × List ℕ
 
-abbrev pub linesIn : {l : List ℕ} → Lines l → List Line
+abbrev pub linesIn : {l : List ℕ} → Lines l → List MarkedLine
 linesIn Lines.end = []
 linesIn (Lines.line {f} g r) = (Data, f) ∷ linesIn r
 linesIn (Lines.table {t} {l} g h r) = (Table, t) ∷ (Labels, l) ∷ linesIn r
 
-abbrev pub tablesIn : {l : List ℕ} → Tables l → List Line
+abbrev pub tablesIn : {l : List ℕ} → Tables l → List MarkedLine
 tablesIn Tables.none = []
 tablesIn (Tables.table {t} {l} g h r) = (Table, t) ∷ (Labels, l) ∷ linesIn r
 
-abbrev pub dossierIn : {d : List ℕ} → WellFormed d → List Line
+abbrev pub dossierIn : {d : List ℕ} → WellFormed d → List MarkedLine
 dossierIn (WellFormed.dossier {g} f t) = (Group, g) ∷ tablesIn t

@@ -5,48 +5,50 @@ ghost use lib.ListN.{length, drop};
 ghost use Rattle.turbo.specs.Split.{until, past};
 ghost use Rattle.turbo_lines.specs.Lines.{lines, letter, markOf, afterMark};
 
+// ---- lines
+
 // The first line of what is left of a dossier, without its CR LF.
-pub fn first_line<'a>(d: &'a [u8]) -> &'a [u8]
-    ensures { λ r. ⌜ now r ≡ until 13 (now (d .entry)) ⌝ }
+pub fn first_line<'a>(dossier: &'a [u8]) -> &'a [u8]
+    ensures { λ r. ⌜ now r ≡ until 13 (now (dossier .entry)) ⌝ }
 {
-    let n = turbo::find_far(d, 13);
-    &d[..n]
+    let n = turbo::find_far(dossier, b'\r');
+    &dossier[..n]
 }
 
 // What is left after that line's CR LF.
-pub fn rest_after_line<'a>(d: &'a [u8]) -> &'a [u8]
-    ensures { λ r. ⌜ now r ≡ drop 1 (past 13 (now (d .entry))) ⌝ }
+pub fn rest_after_line<'a>(dossier: &'a [u8]) -> &'a [u8]
+    ensures { λ r. ⌜ now r ≡ drop 1 (past 13 (now (dossier .entry))) ⌝ }
 {
-    let n = turbo::find_far(d, 13);
-    if 2 <= d.len() - n {
+    let n = turbo::find_far(dossier, b'\r');
+    if 2 <= dossier.len() - n {
         let a = n + 2;
-        return &d[a..];
+        return &dossier[a..];
     }
-    let e = d.len();
-    &d[e..]
+    let e = dossier.len();
+    &dossier[e..]
 }
 
 // One line in a single walk: how many bytes it has, and what is left after its CR LF.
-pub fn read_line<'a>(d: &'a [u8], size: &mut usize) -> &'a [u8]
-    ensures tail { λ r. ⌜ now r ≡ drop 1 (past 13 (now (d .entry))) ⌝ }
-    ensures size { λ r. ⌜ now (size .exit) ≡ length (until 13 (now (d .entry))) ⌝ }
+pub fn read_line<'a>(dossier: &'a [u8], size: &mut usize) -> &'a [u8]
+    ensures tail { λ r. ⌜ now r ≡ drop 1 (past 13 (now (dossier .entry))) ⌝ }
+    ensures size { λ r. ⌜ now (size .exit) ≡ length (until 13 (now (dossier .entry))) ⌝ }
 {
-    let n = turbo::find_far(d, 13);
+    let n = turbo::find_far(dossier, b'\r');
     *size = n;
-    if 2 <= d.len() - n {
+    if 2 <= dossier.len() - n {
         let next = n + 2;
-        return &d[next..];
+        return &dossier[next..];
     }
-    let e = d.len();
-    &d[e..]
+    let e = dossier.len();
+    &dossier[e..]
 }
 
 // How many lines a dossier has.
-pub fn count_lines(d: &[u8]) -> usize
-    ensures { λ r. ⌜ r ≡ length (lines (now (d .entry))) ⌝ }
+pub fn count_lines(dossier: &[u8]) -> usize
+    ensures { λ r. ⌜ r ≡ length (lines (now (dossier .entry))) ⌝ }
 {
     let mut n: usize = 0;
-    let mut t = d;
+    let mut t = dossier;
     while 0 < t.len() {
         let u = rest_after_line(t);
         t = u;
@@ -54,6 +56,8 @@ pub fn count_lines(d: &[u8]) -> usize
     }
     n
 }
+
+// ---- marks
 
 // What a line begins with.
 pub enum Mark {
@@ -68,31 +72,24 @@ fn mark_letter(b: u8) -> Mark
     ensures { λ r. ⌜ r ≡ letter b ⌝ }
 {
     match b {
-        71 => Mark::Group,
-        84 => Mark::Table,
-        76 => Mark::Labels,
+        b'G' => Mark::Group,
+        b'T' => Mark::Table,
+        b'L' => Mark::Labels,
         _ => Mark::Data,
     }
 }
 
+// The mark that a line begins with; a line with none is data.
 pub fn mark_of(line: &[u8]) -> Mark
     ensures { λ r. ⌜ r ≡ markOf (now (line .entry)) ⌝ }
 {
     if line.len() < 2 {
         return Mark::Data;
     }
-    if line[0] != 92 {
+    if line[0] != b'\\' {
         return Mark::Data;
     }
     mark_letter(line[1])
-}
-
-// The line behind its mark.
-pub fn after_mark<'a>(line: &'a [u8]) -> &'a [u8]
-    ensures { λ r. ⌜ now r ≡ afterMark (now (line .entry)) ⌝ }
-{
-    let a = mark_size(line);
-    &line[a..]
 }
 
 // How many bytes the line's mark takes.
@@ -106,4 +103,12 @@ fn mark_size(line: &[u8]) -> usize
         Mark::Labels => 2,
         Mark::Data => 0,
     }
+}
+
+// The line behind its mark.
+pub fn after_mark<'a>(line: &'a [u8]) -> &'a [u8]
+    ensures { λ r. ⌜ now r ≡ afterMark (now (line .entry)) ⌝ }
+{
+    let a = mark_size(line);
+    &line[a..]
 }

@@ -21,7 +21,7 @@ add-k : tie.Need-add-k
 add-k c = search needs
 
 month-start-requires : tie.Need-month-start-requires
-month-start-requires c κs = month-below _ (c .pre)
+month-start-requires c κs = omega (arith, month-below _ (c .pre))
 
 sub-result : tie.Need-sub-result
 sub-result c = parts _ (c .before .pre) .first

@@ -1,29 +1,17 @@
-use mathlib.Core.Path.{_≡_, _∙_, sym}
-use mathlib.Core.List.{List}
-use Prim.Native.Nat.{ℕ}
 use borrow.Author.Needs.{needs}
-use lib.ListN.{drop}
+use native.Mathlib.Omega.{arith}
 use denote.Ref.{now}
-use Rattle.field_types.specs.Names.{nameFrom, bits, bit}
-use Rattle.field_types.proofs.NameLaws.{name-here, name-next}
+use Rattle.field_types.specs.Names.{bits, bit}
+use Rattle.field_types.proofs.NameLaws.{Tried, untried, this-word, other-word, no-word}
 use Rattle.field_types.proofs.read_bit.Statement.{statement}
 use Rattle.field_types.proofs.read_bit.Tie as tie
 
--- the field, where it is not one of the first words, and what its type is worth from there
-abbrev f1 : tie.Else1 → List ℕ
-f1 c = now (c .before .before .before .before .args .f)
+-- the words tried so far
+abbrev past1 : tie.Else1 → Tried 0 bits 1
+past1 c = other-word (untried 0 bits (now (c .before .before .before .before .args .field))) (omega arith) (c .if1 .left) (c .before .same-bytes .ensures)
 
-past1 : (c : tie.Else1) → bit (f1 c) ≡ nameFrom 1 (drop 1 bits) (f1 c)
-unfolding bit
-past1 c = name-next 0 "0" (drop 1 bits) (f1 c) (sym (c .if1 .left) ∙ c .before .same-bytes .ensures)
-
-abbrev f2 : tie.Else2 → List ℕ
-f2 c = f1 (c .before .before .before)
-
-past2 : (c : tie.Else2) → bit (f2 c) ≡ nameFrom 2 (drop 2 bits) (f2 c)
-past2 c =
-    past1 (c .before .before .before)
-    ∙ name-next 1 "1" (drop 2 bits) (f2 c) (sym (c .if2 .left) ∙ c .before .same-bytes2 .ensures)
+abbrev past2 : tie.Else2 → Tried 0 bits 2
+past2 c = other-word (past1 (c .before .before .before)) (omega arith) (c .if2 .left) (c .before .same-bytes2 .ensures)
 
 slice-aggregate-same-bytes : tie.Need-slice-aggregate-same-bytes
 slice-aggregate-same-bytes c = search needs
@@ -33,7 +21,7 @@ same-bytes-requires c κs = search needs
 
 returns : tie.Need-returns
 unfolding bit
-returns c = sym (name-here 0 "0" (drop 1 bits) (now (c .before .before .before .before .args .f)) (sym (c .if1 .taken) ∙ c .before .same-bytes .ensures))
+returns c = this-word (untried 0 bits (now (c .before .before .before .before .args .field))) (omega arith) (c .if1 .taken) (c .before .same-bytes .ensures)
 
 slice-aggregate-same-bytes-2 : tie.Need-slice-aggregate-same-bytes-2
 slice-aggregate-same-bytes-2 c = search needs
@@ -42,13 +30,12 @@ same-bytes-requires-2 : tie.Need-same-bytes-requires-2
 same-bytes-requires-2 c κs = search needs
 
 returns-2 : tie.Need-returns-2
-returns-2 c =
-    sym
-    (past1 (c .before .before .before)
-    ∙ name-here 1 "1" (drop 2 bits) (f1 (c .before .before .before)) (sym (c .if2 .taken) ∙ c .before .same-bytes2 .ensures))
+unfolding bit
+returns-2 c = this-word (past1 (c .before .before .before)) (omega arith) (c .if2 .taken) (c .before .same-bytes2 .ensures)
 
 returns-3 : tie.Need-returns-3
-returns-3 c = sym (past2 c)
+unfolding bit
+returns-3 c = no-word (past2 c)
 
 pub read-bit-spec : {M : Type 1} → statement M
 read-bit-spec =

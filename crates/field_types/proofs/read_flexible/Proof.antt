@@ -1,37 +1,20 @@
-use mathlib.Core.Path.{_≡_, _∙_, sym}
-use mathlib.Core.List.{List}
-use Prim.Native.Nat.{ℕ}
 use borrow.Author.Needs.{needs}
-use lib.ListN.{drop}
+use native.Mathlib.Omega.{arith}
 use denote.Ref.{now}
-use Rattle.field_types.specs.Names.{nameFrom, flexibles, flexible}
-use Rattle.field_types.proofs.NameLaws.{name-here, name-next}
+use Rattle.field_types.specs.Names.{flexibles, flexible}
+use Rattle.field_types.proofs.NameLaws.{Tried, untried, this-word, other-word, no-word}
 use Rattle.field_types.proofs.read_flexible.Statement.{statement}
 use Rattle.field_types.proofs.read_flexible.Tie as tie
 
--- the field, where it is not one of the first words, and what its type is worth from there
-abbrev f1 : tie.Else1 → List ℕ
-f1 c = now (c .before .before .before .before .args .f)
+-- the words tried so far
+abbrev past1 : tie.Else1 → Tried 1 flexibles 1
+past1 c = other-word (untried 1 flexibles (now (c .before .before .before .before .args .field))) (omega arith) (c .if1 .left) (c .before .same-bytes .ensures)
 
-past1 : (c : tie.Else1) → flexible (f1 c) ≡ nameFrom 2 (drop 1 flexibles) (f1 c)
-unfolding flexible
-past1 c = name-next 1 "TRUE" (drop 1 flexibles) (f1 c) (sym (c .if1 .left) ∙ c .before .same-bytes .ensures)
+abbrev past2 : tie.Else2 → Tried 1 flexibles 2
+past2 c = other-word (past1 (c .before .before .before)) (omega arith) (c .if2 .left) (c .before .same-bytes2 .ensures)
 
-abbrev f2 : tie.Else2 → List ℕ
-f2 c = f1 (c .before .before .before)
-
-past2 : (c : tie.Else2) → flexible (f2 c) ≡ nameFrom 3 (drop 2 flexibles) (f2 c)
-past2 c =
-    past1 (c .before .before .before)
-    ∙ name-next 2 "FALSE" (drop 2 flexibles) (f2 c) (sym (c .if2 .left) ∙ c .before .same-bytes2 .ensures)
-
-abbrev f3 : tie.Else3 → List ℕ
-f3 c = f2 (c .before .before .before)
-
-past3 : (c : tie.Else3) → flexible (f3 c) ≡ nameFrom 4 (drop 3 flexibles) (f3 c)
-past3 c =
-    past2 (c .before .before .before)
-    ∙ name-next 3 "REALTIME" (drop 3 flexibles) (f3 c) (sym (c .if3 .left) ∙ c .before .same-bytes3 .ensures)
+abbrev past3 : tie.Else3 → Tried 1 flexibles 3
+past3 c = other-word (past2 (c .before .before .before)) (omega arith) (c .if3 .left) (c .before .same-bytes3 .ensures)
 
 slice-aggregate-same-bytes : tie.Need-slice-aggregate-same-bytes
 slice-aggregate-same-bytes c = search needs
@@ -41,7 +24,7 @@ same-bytes-requires c κs = search needs
 
 returns : tie.Need-returns
 unfolding flexible
-returns c = sym (name-here 1 "TRUE" (drop 1 flexibles) (now (c .before .before .before .before .args .f)) (sym (c .if1 .taken) ∙ c .before .same-bytes .ensures))
+returns c = this-word (untried 1 flexibles (now (c .before .before .before .before .args .field))) (omega arith) (c .if1 .taken) (c .before .same-bytes .ensures)
 
 slice-aggregate-same-bytes-2 : tie.Need-slice-aggregate-same-bytes-2
 slice-aggregate-same-bytes-2 c = search needs
@@ -50,10 +33,8 @@ same-bytes-requires-2 : tie.Need-same-bytes-requires-2
 same-bytes-requires-2 c κs = search needs
 
 returns-2 : tie.Need-returns-2
-returns-2 c =
-    sym
-    (past1 (c .before .before .before)
-    ∙ name-here 2 "FALSE" (drop 2 flexibles) (f1 (c .before .before .before)) (sym (c .if2 .taken) ∙ c .before .same-bytes2 .ensures))
+unfolding flexible
+returns-2 c = this-word (past1 (c .before .before .before)) (omega arith) (c .if2 .taken) (c .before .same-bytes2 .ensures)
 
 slice-aggregate-same-bytes-3 : tie.Need-slice-aggregate-same-bytes-3
 slice-aggregate-same-bytes-3 c = search needs
@@ -62,13 +43,12 @@ same-bytes-requires-3 : tie.Need-same-bytes-requires-3
 same-bytes-requires-3 c κs = search needs
 
 returns-3 : tie.Need-returns-3
-returns-3 c =
-    sym
-    (past2 (c .before .before .before)
-    ∙ name-here 3 "REALTIME" (drop 3 flexibles) (f2 (c .before .before .before)) (sym (c .if3 .taken) ∙ c .before .same-bytes3 .ensures))
+unfolding flexible
+returns-3 c = this-word (past2 (c .before .before .before)) (omega arith) (c .if3 .taken) (c .before .same-bytes3 .ensures)
 
 returns-4 : tie.Need-returns-4
-returns-4 c = sym (past3 c)
+unfolding flexible
+returns-4 c = no-word (past3 c)
 
 pub read-flexible-spec : {M : Type 1} → statement M
 read-flexible-spec =

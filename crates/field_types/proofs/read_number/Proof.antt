@@ -22,10 +22,10 @@ abbrev μ-loop : tie.MeasureT-loop
 μ-loop f most n₀ i₀ n i = length f - i
 
 returns : tie.Need-returns Inv-loop μ-loop
-returns c = number-none _ (now (c .before .args .f)) (c .if1 .taken)
+returns c = number-none _ (now (c .before .args .field)) (c .if1 .taken)
 
 returns-2 : tie.Need-returns-2 Inv-loop μ-loop
-returns-2 c = number-long _ (now (c .before .before .args .f)) (c .if2 .taken)
+returns-2 c = number-long _ (now (c .before .before .args .field)) (c .if2 .taken)
 
 loop-holds : tie.Need-loop-holds Inv-loop μ-loop
 loop-holds c = (search needs, search needs, refl, refl)
@@ -35,19 +35,19 @@ shared-slice-read-b c = search needs
 
 returns-3 : tie.Need-returns-3 Inv-loop μ-loop
 returns-3 c = let k = c .before .before .before .loop in
-    let f = now (c .before .before .before .before .before .before .args .f) in
+    let f = now (c .before .before .before .before .before .before .args .field) in
     number-other _ f (k .inv .2 ∙ digits-stop f (k .i) (search needs) (below-range 48 57 _ (c .if3 .taken)))
 
 returns-4 : tie.Need-returns-4 Inv-loop μ-loop
 returns-4 c = let k = c .before .before .before .before .loop in
-    let f = now (c .before .before .before .before .before .before .before .args .f) in
+    let f = now (c .before .before .before .before .before .before .before .args .field) in
     number-other _ f (k .inv .2 ∙ digits-stop f (k .i) (search needs) (above-range 48 57 _ (c .if4 .taken)))
 
 -- the next number has one digit more
 below-next :
     (c : tie.Else4 Inv-loop μ-loop)
     → let k = c .before .before .before .before .loop in
-    let b = getD (now (c .before .before .before .before .before .before .before .args .f)) (k .i) 0 in
+    let b = getD (now (c .before .before .before .before .before .before .before .args .field)) (k .i) 0 in
     k .n * 10 + (b - 48) < 10 ^ (k .i + 1)
 below-next c = more-digits _ _ _ (c .before .before .before .before .loop .inv .1) (omega arith)
 
@@ -68,7 +68,7 @@ loop-less c = search needs
 
 loop-again : tie.Need-loop-again Inv-loop μ-loop
 loop-again c = let k = c .before .before .before .before .loop in
-    let f = now (c .before .before .before .before .before .before .before .args .f) in (
+    let f = now (c .before .before .before .before .before .before .before .args .field) in (
       search needs,
       below-next c,
       k .inv .2 ∙ digits-step f (k .i) (search needs) (in-range 48 57 _ (c .before .if3 .left) (c .if4 .left)),
@@ -77,7 +77,7 @@ loop-again c = let k = c .before .before .before .before .loop in
 
 returns-5 : tie.Need-returns-5 Inv-loop μ-loop
 returns-5 c = let k = c .before .loop in
-    let f = now (c .before .before .before .before .args .f) in
+    let f = now (c .before .before .before .before .args .field) in
     let e : k .i ≡ length f = omega arith in
     number-is _ f _ (c .before .before .before .if1 .left) (c .before .before .if2 .left)
     (k .inv .2 ∙ ap (λ (i : ℕ). allDigits (drop i f)) e ∙ ap allDigits (drop-length f))

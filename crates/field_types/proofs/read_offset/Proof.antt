@@ -4,7 +4,7 @@ use borrow.Author.Needs.{needs}
 use lib.ListN.{take, drop}
 use denote.Ref.{now}
 use Rattle.field_types.specs.declared.Number.the-variants.{Is}
-use Rattle.field_types.specs.Digits.{number}
+use Rattle.field_types.specs.Digits.{numeral}
 use Rattle.field_types.proofs.DigitLaws.{number-told}
 use Rattle.field_types.proofs.StampLaws.{offset-length, offset-colon, offset-no-hour, offset-no-minute, offset-minute, offset-over, offset-is}
 use Rattle.field_types.proofs.read_offset.Statement.{statement}
@@ -13,7 +13,7 @@ use Rattle.field_types.proofs.read_offset.Tie as tie
 -- the hour as read
 hour :
     (c : tie.After-known-told)
-    → Is (c .before .h .given .0 .0) ≡ number 2 (take 2 (now (c .before .before .before .before .before .before .before .before .before .args .f)))
+    → Is (c .before .h .given .0 .0) ≡ numeral 2 (take 2 (now (c .before .before .before .before .before .before .before .before .before .args .field)))
 hour c = sym (c .before .h .given .1) ∙ c .before .before .before .read-number .ensures
 
 -- where the hour was read, from where the minute was
@@ -23,7 +23,7 @@ back c = c .before .before .before .before .before
 -- the minute as read
 minute :
     (c : tie.After-known-told2)
-    → Is (c .before .m .given .0 .0) ≡ number 2 (take 2 (drop 3 (now (back c .before .before .before .before .before .before .before .before .before .args .f))))
+    → Is (c .before .m .given .0 .0) ≡ numeral 2 (take 2 (drop 3 (now (back c .before .before .before .before .before .before .before .before .before .args .field))))
 minute c = sym (c .before .m .given .1) ∙ c .before .before .before .read-number2 .ensures
 
 returns : tie.Need-returns

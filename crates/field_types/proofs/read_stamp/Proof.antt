@@ -10,7 +10,7 @@ use denote.Ref.{now}
 use Rattle.field_types.specs.declared.Number.the-variants.{Is}
 use Rattle.field_types.specs.Dates.{date}
 use Rattle.field_types.specs.Times.{clock}
-use Rattle.field_types.specs.Stamps.{stampShape, offset}
+use Rattle.field_types.specs.Stamps.{stampShape, utcOffset}
 use Rattle.field_types.proofs.TripleLaws.{date-real, clock-below}
 use Rattle.field_types.proofs.StampLaws.{offset-most, shape-length, stamp-shapeless, stamp-no-date, stamp-no-clock, stamp-no-offset, stamp-is}
 use Rattle.field_types.proofs.read_stamp.Statement.{statement}
@@ -18,7 +18,7 @@ use Rattle.field_types.proofs.read_stamp.Tie as tie
 
 -- the field, once its shape is known, and its length
 abbrev field : tie.Else1 → List ℕ
-field c = now (c .before .before .before .args .f)
+field c = now (c .before .before .before .args .field)
 
 shaped : (c : tie.Else1) → true ≡ stampShape (field c)
 shaped c = sym (not-false _ (c .if1 .left)) ∙ c .before .stamp-shape .ensures
@@ -43,7 +43,7 @@ day c = sym (c .before .d .given .1) ∙ c .before .before .before .read-date .e
 second : (c : tie.After-known-told2) → Is (c .before .s .given .0 .0) ≡ clock 23 (take 8 (drop 11 (field (shape (dated c)))))
 second c = sym (c .before .s .given .1) ∙ c .before .before .before .read-clock .ensures
 
-away : (c : tie.After-known-told3) → Is (c .before .o .given .0 .0) ≡ offset (take 5 (drop 20 (field (shape (dated (timed c))))))
+away : (c : tie.After-known-told3) → Is (c .before .o .given .0 .0) ≡ utcOffset (take 5 (drop 20 (field (shape (dated (timed c))))))
 away c = sym (c .before .o .given .1) ∙ c .before .before .before .read-offset .ensures
 
 stamp-shape-requires : tie.Need-stamp-shape-requires

@@ -3,7 +3,7 @@ use Prim.Native.Nat.{ℕ, _+_, _-_}
 use native.Mathlib.Omega.{arith}
 use lib.ListN.{take, drop}
 use denote.Ref.{now}
-use Rattle.field_types.specs.Digits.{number}
+use Rattle.field_types.specs.Digits.{numeral}
 use Rattle.field_types.proofs.TripleLaws.{triple-length, triple-first, triple-second, triple-is}
 use borrow.Author.Needs.{needs}
 use Rattle.field_types.proofs.read_triple.Statement.{statement}
@@ -90,15 +90,15 @@ returns-4 c =
     let earlier = later .before .before in
     let whole = earlier .before .before in
     let a = whole .before .before .args in
-    let f = now (a .f) in
-    let z : a .w - 0 ≡ a .w = omega arith in
-    let d : a .w + 3 - (a .w + 1) ≡ 2 = omega arith in
-    let e : a .w + 6 - (a .w + 4) ≡ 2 = omega arith in
+    let f = now (a .field) in
+    let z : a .width - 0 ≡ a .width = omega arith in
+    let d : a .width + 3 - (a .width + 1) ≡ 2 = omega arith in
+    let e : a .width + 6 - (a .width + 4) ≡ 2 = omega arith in
     c .triple-of .ensures
     ∙ triple-is _ _ _ _ _ _
-    (first .read-number .ensures ∙ ap (λ (k : ℕ). number (a .w) (take k f)) z)
-    (second .read-number2 .ensures ∙ ap (λ (k : ℕ). number 2 (take k (drop (a .w + 1) f))) d)
-    (third .read-number3 .ensures ∙ ap (λ (k : ℕ). number 2 (take k (drop (a .w + 4) f))) e)
+    (first .read-number .ensures ∙ ap (λ (k : ℕ). numeral (a .width) (take k f)) z)
+    (second .read-number2 .ensures ∙ ap (λ (k : ℕ). numeral 2 (take k (drop (a .width + 1) f))) d)
+    (third .read-number3 .ensures ∙ ap (λ (k : ℕ). numeral 2 (take k (drop (a .width + 4) f))) e)
     (whole .if1 .left)
     (earlier .if2 .left)
     (later .if3 .left)

@@ -2,7 +2,7 @@ use borrow.Author.Tests.{eq-eqb, ne-eqb}
 use lib.Dec.{eqb}
 use lib.ListN.{length}
 use denote.Ref.{now}
-use Rattle.lists.proofs.LogicLaws.{both-false}
+use Rattle.lists.proofs.LogicLaws.{and-false}
 use borrow.Author.Needs.{needs}
 use Rattle.field_types.proofs.stamp_shape.Statement.{statement}
 use Rattle.field_types.proofs.stamp_shape.Tie as tie
@@ -14,7 +14,7 @@ shared-slice-read-if2 : tie.Need-shared-slice-read-if2
 shared-slice-read-if2 c = search needs
 
 returns-2 : tie.Need-returns-2
-returns-2 c = rw (ne-eqb _ 84 (c .if2 .taken), both-false (eqb (length (now (c .before .before .before .args .f))) 25))
+returns-2 c = rw (ne-eqb _ 84 (c .if2 .taken), and-false (eqb (length (now (c .before .before .before .args .field))) 25))
 
 shared-slice-read-if3 : tie.Need-shared-slice-read-if3
 shared-slice-read-if3 c = search needs

@@ -18,11 +18,11 @@ abbrev μ-loop : tie.MeasureT-loop
 loop-holds : tie.Need-loop-holds Inv-loop μ-loop
 loop-holds c = (search needs, refl, sym (over-nil _ _))
 
-add-s : tie.Need-add-s Inv-loop μ-loop
-add-s c = search needs
+add-bytes : tie.Need-add-bytes Inv-loop μ-loop
+add-bytes c = search needs
 
-slice-write-s : tie.Need-slice-write-s Inv-loop μ-loop
-slice-write-s c = search needs
+slice-write-bytes : tie.Need-slice-write-bytes Inv-loop μ-loop
+slice-write-bytes c = search needs
 
 add-i : tie.Need-add-i Inv-loop μ-loop
 add-i c = search needs
@@ -34,7 +34,7 @@ loop-again : tie.Need-loop-again Inv-loop μ-loop
 loop-again c =
     let l = c .before .loop in
     let a = c .before .before .args in
-    (omega arith, simp length-set (l .inv .1), clear-turn (a .a) (l .i) (a .s .now) (l .s) (l .inv .2))
+    (omega arith, simp length-set (l .inv .1), clear-turn (a .at) (l .i) (a .bytes .now) (l .bytes) (l .inv .2))
 
 same-length : tie.Need-same-length Inv-loop μ-loop
 same-length c = search needs
@@ -42,8 +42,8 @@ same-length c = search needs
 returns : tie.Need-returns Inv-loop μ-loop
 returns c =
     let a = c .before .before .args in
-    let e : c .before .loop .i ≡ a .n = omega arith in
-    c .before .loop .inv .2 ∙ ap (λ (i : ℕ). over (a .a) (replicate i 0) (a .s .now)) e
+    let e : c .before .loop .i ≡ a .count = omega arith in
+    c .before .loop .inv .2 ∙ ap (λ (i : ℕ). over (a .at) (replicate i 0) (a .bytes .now)) e
 
 pub clear-spec : {M : Type 1} → statement M
 clear-spec =
@@ -52,8 +52,8 @@ clear-spec =
     Inv-loop
     μ-loop
     loop-holds
-    add-s
-    slice-write-s
+    add-bytes
+    slice-write-bytes
     add-i
     loop-less
     loop-again

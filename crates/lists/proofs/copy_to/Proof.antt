@@ -20,14 +20,14 @@ abbrev μ-loop : tie.MeasureT-loop
 loop-holds : tie.Need-loop-holds Inv-loop μ-loop
 loop-holds c = (search needs, refl, sym (over-nil _ _))
 
-shared-slice-read-s : tie.Need-shared-slice-read-s Inv-loop μ-loop
-shared-slice-read-s c = search needs
+shared-slice-read-bytes : tie.Need-shared-slice-read-bytes Inv-loop μ-loop
+shared-slice-read-bytes c = search needs
 
-add-s : tie.Need-add-s Inv-loop μ-loop
-add-s c = search needs
+add-bytes : tie.Need-add-bytes Inv-loop μ-loop
+add-bytes c = search needs
 
-slice-write-s : tie.Need-slice-write-s Inv-loop μ-loop
-slice-write-s c = search needs
+slice-write-bytes : tie.Need-slice-write-bytes Inv-loop μ-loop
+slice-write-bytes c = search needs
 
 add-i : tie.Need-add-i Inv-loop μ-loop
 add-i c = search needs
@@ -39,7 +39,7 @@ loop-again : tie.Need-loop-again Inv-loop μ-loop
 loop-again c =
     let l = c .before .before .loop in
     let a = c .before .before .before .args in
-    (omega arith, simp length-set (l .inv .1), copy-turn (a .a) (l .i) (a .b .now) (a .s .now) (l .s) (l .inv .2) (omega arith))
+    (omega arith, simp length-set (l .inv .1), copy-turn (a .at) (l .i) (a .source .now) (a .bytes .now) (l .bytes) (l .inv .2) (omega arith))
 
 same-length : tie.Need-same-length Inv-loop μ-loop
 same-length c = search needs
@@ -47,7 +47,7 @@ same-length c = search needs
 returns : tie.Need-returns Inv-loop μ-loop
 returns c =
     let a = c .before .before .args in
-    c .before .loop .inv .2 ∙ ap (λ (b : List ℕ). over (a .a) b (a .s .now)) (take-all _ (a .b .now) (c .loop-test .left))
+    c .before .loop .inv .2 ∙ ap (λ (b : List ℕ). over (a .at) b (a .bytes .now)) (take-all _ (a .source .now) (c .loop-test .left))
 
 pub copy-to-spec : {M : Type 1} → statement M
 copy-to-spec =
@@ -56,9 +56,9 @@ copy-to-spec =
     Inv-loop
     μ-loop
     loop-holds
-    shared-slice-read-s
-    add-s
-    slice-write-s
+    shared-slice-read-bytes
+    add-bytes
+    slice-write-bytes
     add-i
     loop-less
     loop-again

@@ -26,10 +26,10 @@ shared-slice-read-b : tie.Need-shared-slice-read-b Inv-loop μ-loop
 shared-slice-read-b c = search needs
 
 -- each element is a byte, the one that was read too
-byte : (c : tie.After-shared-slice-known Inv-loop μ-loop) (i : ℕ) → getD (c .before .before .before .args .s .now) i 0 < 256
+byte : (c : tie.After-shared-slice-known Inv-loop μ-loop) (i : ℕ) → getD (c .before .before .before .args .bytes .now) i 0 < 256
 byte c i = omega (arith, c .shared-slice-known .given i)
 
-read : (c : tie.After-shared-slice-known Inv-loop μ-loop) → let d = c .before .before in getD (d .before .args .s .now) (d .before .args .at + d .loop .i) 0 < 256
+read : (c : tie.After-shared-slice-known Inv-loop μ-loop) → let d = c .before .before in getD (d .before .args .bytes .now) (d .before .args .at + d .loop .i) 0 < 256
 read c = let d = c .before .before in byte c (d .before .args .at + d .loop .i)
 
 cast-b : tie.Need-cast-b Inv-loop μ-loop
@@ -40,7 +40,7 @@ room : (c : tie.After-shared-slice-known Inv-loop μ-loop) → c .before .before
 room c =
     let d = c .before .before in
     let a = d .before .args in
-    read-fits (a .at) (d .loop .i) (d .loop .n) (a .s .now) (d .loop .inv .1) (bytes-known (a .s .now) (byte c)) (omega arith) (omega arith)
+    read-fits (a .at) (d .loop .i) (d .loop .n) (a .bytes .now) (d .loop .inv .1) (bytes-known (a .bytes .now) (byte c)) (omega arith) (omega arith)
 
 mul-n : tie.Need-mul-n Inv-loop μ-loop
 mul-n c = omega (arith, room c, read c)
@@ -58,12 +58,12 @@ loop-again : tie.Need-loop-again Inv-loop μ-loop
 loop-again c =
     let d = c .before .before in
     let a = d .before .args in
-    (omega arith, read-turn (a .at) (d .loop .i) (d .loop .n) (a .s .now) (d .loop .inv .1) (omega arith))
+    (omega arith, read-turn (a .at) (d .loop .i) (d .loop .n) (a .bytes .now) (d .loop .inv .1) (omega arith))
 
 returns : tie.Need-returns Inv-loop μ-loop
 returns c =
     let s = c .before .before .args in
-    c .before .loop .inv .1 ∙ ap (λ (i : ℕ). number (part (s .at) i (s .s .now))) (omega arith)
+    c .before .loop .inv .1 ∙ ap (λ (i : ℕ). number (part (s .at) i (s .bytes .now))) (omega arith)
 
 pub get-number-spec : {M : Type 1} → statement M
 get-number-spec =

@@ -17,19 +17,19 @@ abbrev μ-loop : tie.MeasureT-loop
 μ-loop s₀ at w v rest₀ i₀ s rest i = i
 
 loop-holds : tie.Need-loop-holds Inv-loop μ-loop
-loop-holds c = let s = c .args in (search needs, refl, rest-start (s .at) (s .w) (s .v) (s .s .now), write-start (s .at) (s .w) (s .v) (s .s .now))
+loop-holds c = let s = c .args in (search needs, refl, rest-start (s .at) (s .width) (s .value) (s .bytes .now), write-start (s .at) (s .width) (s .value) (s .bytes .now))
 
 sub-i : tie.Need-sub-i Inv-loop μ-loop
 sub-i c = search needs
 
-cast-s : tie.Need-cast-s Inv-loop μ-loop
-cast-s c = search needs
+cast-bytes : tie.Need-cast-bytes Inv-loop μ-loop
+cast-bytes c = search needs
 
-add-s : tie.Need-add-s Inv-loop μ-loop
-add-s c = search needs
+add-bytes : tie.Need-add-bytes Inv-loop μ-loop
+add-bytes c = search needs
 
-slice-write-s : tie.Need-slice-write-s Inv-loop μ-loop
-slice-write-s c = search needs
+slice-write-bytes : tie.Need-slice-write-bytes Inv-loop μ-loop
+slice-write-bytes c = search needs
 
 loop-less : tie.Need-loop-less Inv-loop μ-loop
 loop-less c = search needs
@@ -40,15 +40,15 @@ loop-again c =
     let a = c .before .before .args in (
       omega arith,
       simp length-set (l .inv .1),
-      rest-turn (a .at) (a .w) (a .v) (a .s .now) (l .i) (l .rest) (omega arith) (omega arith) (l .inv .2),
-      write-turn (a .at) (a .w) (a .v) (a .s .now) (l .i) (l .rest) (omega arith) (omega arith) (l .inv .2) (l .s) (l .inv .3),
+      rest-turn (a .at) (a .width) (a .value) (a .bytes .now) (l .i) (l .rest) (omega arith) (omega arith) (l .inv .2),
+      write-turn (a .at) (a .width) (a .value) (a .bytes .now) (l .i) (l .rest) (omega arith) (omega arith) (l .inv .2) (l .bytes) (l .inv .3),
     )
 
 same-length : tie.Need-same-length Inv-loop μ-loop
 same-length c = search needs
 
 returns : tie.Need-returns Inv-loop μ-loop
-returns c = let s = c .before .before .args in write-end (s .at) (s .w) (s .v) (s .s .now) (c .before .loop .i) (c .before .loop .s) (omega arith) (c .before .loop .inv .3)
+returns c = let s = c .before .before .args in write-end (s .at) (s .width) (s .value) (s .bytes .now) (c .before .loop .i) (c .before .loop .bytes) (omega arith) (c .before .loop .inv .3)
 
 pub put-number-spec : {M : Type 1} → statement M
 put-number-spec =
@@ -58,9 +58,9 @@ put-number-spec =
     μ-loop
     loop-holds
     sub-i
-    cast-s
-    add-s
-    slice-write-s
+    cast-bytes
+    add-bytes
+    slice-write-bytes
     loop-less
     loop-again
     same-length

@@ -28,7 +28,7 @@ shared-slice-read-if2-2 c = omega arith
 returns-2 : tie.Need-returns-2 Inv-loop μ-loop
 returns-2 c =
     let l = c .before .before .before .before in
-    sym (same-differ (l .before .before .args .a .now) (l .before .before .args .b .now) (l .loop .i) (omega arith) (omega arith) (c .if2 .taken)) ∙ l .loop .inv .2
+    sym (same-differ (l .before .before .args .left .now) (l .before .before .args .right .now) (l .loop .i) (omega arith) (omega arith) (c .if2 .taken)) ∙ l .loop .inv .2
 
 add-i : tie.Need-add-i Inv-loop μ-loop
 add-i c = omega arith
@@ -41,13 +41,13 @@ loop-again c =
     let l = c .before .before .before .before in (
       omega arith,
       l .loop .inv .1,
-      sym (same-agree (l .before .before .args .a .now) (l .before .before .args .b .now) (l .loop .i) (omega arith) (omega arith) (c .if2 .left)) ∙ l .loop .inv .2,
+      sym (same-agree (l .before .before .args .left .now) (l .before .before .args .right .now) (l .loop .i) (omega arith) (omega arith) (c .if2 .left)) ∙ l .loop .inv .2,
     )
 
 returns-3 : tie.Need-returns-3 Inv-loop μ-loop
 returns-3 c =
     let l = c .before in
-    sym (same-end (l .before .before .args .a .now) (l .before .before .args .b .now) (l .loop .i) (omega arith) (omega arith)) ∙ l .loop .inv .2
+    sym (same-end (l .before .before .args .left .now) (l .before .before .args .right .now) (l .loop .i) (omega arith) (omega arith)) ∙ l .loop .inv .2
 
 pub same-bytes-spec : {M : Type 1} → statement M
 same-bytes-spec =

@@ -22,14 +22,14 @@ loop-holds c = (search needs, refl, rw part-zero (sym (over-nil _ _)))
 add-p : tie.Need-add-p Inv-loop μ-loop
 add-p c = search needs
 
-add-s : tie.Need-add-s Inv-loop μ-loop
-add-s c = search needs
+add-bytes : tie.Need-add-bytes Inv-loop μ-loop
+add-bytes c = search needs
 
-slice-read-s : tie.Need-slice-read-s Inv-loop μ-loop
-slice-read-s c = search needs
+slice-read-bytes : tie.Need-slice-read-bytes Inv-loop μ-loop
+slice-read-bytes c = search needs
 
-slice-write-s : tie.Need-slice-write-s Inv-loop μ-loop
-slice-write-s c = search needs
+slice-write-bytes : tie.Need-slice-write-bytes Inv-loop μ-loop
+slice-write-bytes c = search needs
 
 add-done : tie.Need-add-done Inv-loop μ-loop
 add-done c = search needs
@@ -41,7 +41,7 @@ loop-again : tie.Need-loop-again Inv-loop μ-loop
 loop-again c =
     let l = c .before .before .loop in
     let a = c .before .before .before .args in
-    (omega arith, simp length-set (l .inv .1), shift-down-turn (a .by) (a .a) (l .done) (a .s .now) (l .s) (l .inv .2) (omega arith))
+    (omega arith, simp length-set (l .inv .1), shift-down-turn (a .by) (a .at) (l .done) (a .bytes .now) (l .bytes) (l .inv .2) (omega arith))
 
 same-length : tie.Need-same-length Inv-loop μ-loop
 same-length c = search needs
@@ -49,7 +49,7 @@ same-length c = search needs
 returns : tie.Need-returns Inv-loop μ-loop
 returns c =
     let a = c .before .before .args in
-    c .before .loop .inv .2 ∙ ap (λ (n : ℕ). over (a .a) (part (a .a + a .by) n (a .s .now)) (a .s .now)) (omega arith)
+    c .before .loop .inv .2 ∙ ap (λ (n : ℕ). over (a .at) (part (a .at + a .by) n (a .bytes .now)) (a .bytes .now)) (omega arith)
 
 pub shift-down-spec : {M : Type 1} → statement M
 shift-down-spec =
@@ -59,9 +59,9 @@ shift-down-spec =
     μ-loop
     loop-holds
     add-p
-    add-s
-    slice-read-s
-    slice-write-s
+    add-bytes
+    slice-read-bytes
+    slice-write-bytes
     add-done
     loop-less
     loop-again

@@ -23,14 +23,14 @@ loop-holds c = (search needs, search needs, refl, rw (sub-self, part-zero) (sym 
 sub-i : tie.Need-sub-i Inv-loop μ-loop
 sub-i c = search needs
 
-slice-read-s : tie.Need-slice-read-s Inv-loop μ-loop
-slice-read-s c = search needs
+slice-read-bytes : tie.Need-slice-read-bytes Inv-loop μ-loop
+slice-read-bytes c = search needs
 
-add-s : tie.Need-add-s Inv-loop μ-loop
-add-s c = search needs
+add-bytes : tie.Need-add-bytes Inv-loop μ-loop
+add-bytes c = search needs
 
-slice-write-s : tie.Need-slice-write-s Inv-loop μ-loop
-slice-write-s c = search needs
+slice-write-bytes : tie.Need-slice-write-bytes Inv-loop μ-loop
+slice-write-bytes c = search needs
 
 loop-less : tie.Need-loop-less Inv-loop μ-loop
 loop-less c = search needs
@@ -42,7 +42,7 @@ loop-again c =
       omega arith,
       omega arith,
       simp length-set (l .inv .2),
-      shift-up-turn (a .by) (a .e) (l .i) (a .s .now) (l .s) (l .inv .3) (omega arith) (omega arith) (omega arith),
+      shift-up-turn (a .by) (a .end) (l .i) (a .bytes .now) (l .bytes) (l .inv .3) (omega arith) (omega arith) (omega arith),
     )
 
 same-length : tie.Need-same-length Inv-loop μ-loop
@@ -51,7 +51,7 @@ same-length c = search needs
 returns : tie.Need-returns Inv-loop μ-loop
 returns c =
     let a = c .before .before .args in
-    c .before .loop .inv .3 ∙ ap (λ (i : ℕ). over (i + a .by) (part i (a .e - i) (a .s .now)) (a .s .now)) (omega arith)
+    c .before .loop .inv .3 ∙ ap (λ (i : ℕ). over (i + a .by) (part i (a .end - i) (a .bytes .now)) (a .bytes .now)) (omega arith)
 
 pub shift-up-spec : {M : Type 1} → statement M
 shift-up-spec =
@@ -61,9 +61,9 @@ shift-up-spec =
     μ-loop
     loop-holds
     sub-i
-    slice-read-s
-    add-s
-    slice-write-s
+    slice-read-bytes
+    add-bytes
+    slice-write-bytes
     loop-less
     loop-again
     same-length

@@ -27,16 +27,16 @@ enum-known-m : tie.Need-enum-known-m Inv-loop μ-loop
 enum-known-m c = search needs
 
 loop-less : tie.Need-loop-less Inv-loop μ-loop
-loop-less c = let l = c .before .before .before .before .before .loop in let s = c .before .before .before .before .before .before .before in let o = c .before .before .before .whole-line in omega (arith, next-line (s .args .d .now) (l .i) (l .k) (o .result) (o .ensures .0) (o .ensures .1) (l .inv .1) (c .before .m .given .0 .0) (c .before .m .given .0 .1 .0) (c .before .m .given .1))
+loop-less c = let l = c .before .before .before .before .before .loop in let s = c .before .before .before .before .before .before .before in let o = c .before .before .before .whole-line in omega (arith, next-line (s .args .dossier .now) (l .i) (l .k) (o .result) (o .ensures .0) (o .ensures .1) (l .inv .1) (c .before .m .given .0 .0) (c .before .m .given .0 .1 .0) (c .before .m .given .1))
 
 loop-again : tie.Need-loop-again Inv-loop μ-loop
-loop-again c = let l = c .before .before .before .before .before .loop in let s = c .before .before .before .before .before .before .before in let o = c .before .before .before .whole-line in let r = next-line (s .args .d .now) (l .i) (l .k) (o .result) (o .ensures .0) (o .ensures .1) (l .inv .1) (c .before .m .given .0 .0) (c .before .m .given .0 .1 .0) (c .before .m .given .1) in (r .1, r .2)
+loop-again c = let l = c .before .before .before .before .before .loop in let s = c .before .before .before .before .before .before .before in let o = c .before .before .before .whole-line in let r = next-line (s .args .dossier .now) (l .i) (l .k) (o .result) (o .ensures .0) (o .ensures .1) (l .inv .1) (c .before .m .given .0 .0) (c .before .m .given .0 .1 .0) (c .before .m .given .1) in (r .1, r .2)
 
 enum-known-x : tie.Need-enum-known-x Inv-loop μ-loop
 enum-known-x c = search needs
 
 returns : tie.Need-returns Inv-loop μ-loop
-returns c = let l = c .before .before .before .before .before .loop in let s = c .before .before .before .before .before .before .before in let o = c .before .before .before .whole-line in no-line (s .args .d .now) (l .i) (l .k) (o .result) (o .ensures .0) (o .ensures .1) (l .inv .1) (c .before .x .given .0 .0) (c .before .x .given .1)
+returns c = let l = c .before .before .before .before .before .loop in let s = c .before .before .before .before .before .before .before in let o = c .before .before .before .whole-line in no-line (s .args .dossier .now) (l .i) (l .k) (o .result) (o .ensures .0) (o .ensures .1) (l .inv .1) (c .before .x .given .0 .0) (c .before .x .given .1)
 
 ends-after-requires : tie.Need-ends-after-requires Inv-loop μ-loop
 ends-after-requires c κs = search needs

@@ -13,13 +13,13 @@ plain-start-requires : tie.Need-plain-start-requires
 plain-start-requires c κs = search needs
 
 returns : tie.Need-returns
-returns c = let s = c .before .before .before .before in rw (c .plain-start .ensures) (plain-begun (s .args .d .now) (s .args .i) (s .pre) (s .args .k), plain-line (s .args .d .now) (s .args .i) (s .pre) (s .args .k) (c .before .if1 .taken))
+returns c = let s = c .before .before .before .before in rw (c .plain-start .ensures) (plain-begun (s .args .dossier .now) (s .args .i) (s .pre) (s .args .k), plain-line (s .args .dossier .now) (s .args .i) (s .pre) (s .args .k) (c .before .if1 .taken))
 
 add-a : tie.Need-add-a
 add-a c = search needs
 
 returns-2 : tie.Need-returns-2
-returns-2 c = let s = c .before .before .before .before in (omega arith, mark-ends (s .args .d .now) (s .args .i) (s .pre) (c .before .if1 .left) (s .args .k) (c .if2 .taken))
+returns-2 c = let s = c .before .before .before .before in (omega arith, mark-ends (s .args .dossier .now) (s .args .i) (s .pre) (c .before .if1 .left) (s .args .k) (c .if2 .taken))
 
 shared-slice-read-marked-start : tie.Need-shared-slice-read-marked-start
 shared-slice-read-marked-start c = search needs
@@ -28,7 +28,7 @@ marked-start-requires : tie.Need-marked-start-requires
 marked-start-requires c κs = search needs
 
 returns-3 : tie.Need-returns-3
-returns-3 c = let s = c .before .before .before .before .before .before in let d = s .args .d .now in let i = s .args .i in let e = c .before .before .before .if1 .left in rw (c .marked-start .ensures) (marked-begun d i (s .pre) e (omega arith) (s .args .k) (getD d (i + 1) 0), marked-line d i (s .pre) e (omega arith) (s .args .k))
+returns-3 c = let s = c .before .before .before .before .before .before in let d = s .args .dossier .now in let i = s .args .i in let e = c .before .before .before .if1 .left in rw (c .marked-start .ensures) (marked-begun d i (s .pre) e (omega arith) (s .args .k) (getD d (i + 1) 0), marked-line d i (s .pre) e (omega arith) (s .args .k))
 
 pub line-start-spec : {M : Type 1} → statement M
 line-start-spec =

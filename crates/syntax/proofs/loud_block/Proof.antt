@@ -4,8 +4,8 @@ use mathlib.Core.Path.{_≡_, sym, _∙_}
 use lib.ListN.{drop}
 use mathlib.Core.Bool.{false}
 use borrow.Author.Needs.{needs}
-use Rattle.lists.proofs.LogicLaws.{or-false}
-use Rattle.syntax.specs.Quiet.{quietFor}
+use Rattle.lists.proofs.LogicLaws.{or-fail}
+use Rattle.syntax.specs.inner.Quiet.{quietFor}
 use Rattle.syntax.proofs.QuietLaws.{quiet-more}
 use Rattle.syntax.proofs.loud_block.Statement.{statement}
 use Rattle.syntax.proofs.loud_block.Tie as tie
@@ -35,7 +35,7 @@ loop-less : tie.Need-loop-less Inv-loop μ-loop
 loop-less c = search needs
 
 loop-again : tie.Need-loop-again Inv-loop μ-loop
-loop-again c = let l = c .before .before .before .loop in let s = c .before .before .before .before .before in (omega arith, λ e. let o = or-false (l .any) (c .is-loud .result) e in quiet-more (s .args .d .now) (s .args .i) (l .j) (omega arith) (l .inv .1 (o .0)) (sym (c .is-loud .ensures) ∙ o .1))
+loop-again c = let l = c .before .before .before .loop in let s = c .before .before .before .before .before in (omega arith, λ e. let o = or-fail (l .any) (c .is-loud .result) e in quiet-more (s .args .dossier .now) (s .args .i) (l .j) (omega arith) (l .inv .1 (o .0)) (sym (c .is-loud .ensures) ∙ o .1))
 
 returns : tie.Need-returns Inv-loop μ-loop
 returns c = λ e. let l = c .before .loop in let h : 16 ≤ l .j = c .loop-test .left in omega (arith, l .inv .1 e)

@@ -1,7 +1,7 @@
 use Prim.Native.Nat.{_-_}
 use borrow.Author.Tests.{eq-eqb, ne-eqb}
 use borrow.Author.Needs.{needs}
-use Rattle.syntax.specs.Scan.{markedStart}
+use Rattle.syntax.specs.inner.Scan.{markedStart}
 use Rattle.syntax.proofs.marked_start.Statement.{statement}
 use Rattle.syntax.proofs.marked_start.Tie as tie
 

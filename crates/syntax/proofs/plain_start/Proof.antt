@@ -1,4 +1,4 @@
-use Rattle.syntax.specs.Scan.{plainStart}
+use Rattle.syntax.specs.inner.Scan.{plainStart}
 use borrow.Author.Needs.{needs}
 use Rattle.syntax.proofs.plain_start.Statement.{statement}
 use Rattle.syntax.proofs.plain_start.Tie as tie

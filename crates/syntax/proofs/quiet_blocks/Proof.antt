@@ -3,7 +3,7 @@ use native.Mathlib.Omega.{arith}
 use mathlib.Core.Path.{_≡_, refl}
 use lib.ListN.{length, drop}
 use borrow.Author.Needs.{needs}
-use Rattle.syntax.specs.Quiet.{quietFor}
+use Rattle.syntax.specs.inner.Quiet.{quietFor}
 use Rattle.syntax.proofs.QuietLaws.{quiet-skip}
 use Rattle.syntax.proofs.quiet_blocks.Statement.{statement}
 use Rattle.syntax.proofs.quiet_blocks.Tie as tie
@@ -33,7 +33,7 @@ loop-less : tie.Need-loop-less Inv-loop μ-loop
 loop-less c = search needs
 
 loop-again : tie.Need-loop-again Inv-loop μ-loop
-loop-again c = let l = c .before .before .before .loop in let s = c .before .before .before .before .before in (omega arith, omega (arith, quiet-skip (s .args .d .now) (l .p) 16 (c .before .loud-block .ensures (c .if1 .left))))
+loop-again c = let l = c .before .before .before .loop in let s = c .before .before .before .before .before in (omega arith, omega (arith, quiet-skip (s .args .dossier .now) (l .p) 16 (c .before .loud-block .ensures (c .if1 .left))))
 
 returns-2 : tie.Need-returns-2 Inv-loop μ-loop
 returns-2 c = c .before .loop .inv

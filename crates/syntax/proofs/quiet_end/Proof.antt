@@ -3,7 +3,7 @@ use native.Mathlib.Omega.{arith}
 use mathlib.Core.Path.{_≡_, sym, _∙_}
 use lib.ListN.{length, drop}
 use borrow.Author.Needs.{needs}
-use Rattle.syntax.specs.Quiet.{quietFor}
+use Rattle.syntax.specs.inner.Quiet.{quietFor}
 use Rattle.syntax.proofs.QuietLaws.{quiet-here, loud-here, quiet-none}
 use Rattle.syntax.proofs.quiet_end.Statement.{statement}
 use Rattle.syntax.proofs.quiet_end.Tie as tie
@@ -27,7 +27,7 @@ is-loud-requires : tie.Need-is-loud-requires Inv-loop μ-loop
 is-loud-requires c κs = search needs
 
 returns : tie.Need-returns Inv-loop μ-loop
-returns c = let l = c .before .before .before .before .loop in let s = c .before .before .before .before .before .before .before in omega (arith, l .inv .1, loud-here (s .args .d .now) (l .p) (omega arith) (sym (c .before .is-loud .ensures) ∙ c .if1 .taken))
+returns c = let l = c .before .before .before .before .loop in let s = c .before .before .before .before .before .before .before in omega (arith, l .inv .1, loud-here (s .args .dossier .now) (l .p) (omega arith) (sym (c .before .is-loud .ensures) ∙ c .if1 .taken))
 
 add-p : tie.Need-add-p Inv-loop μ-loop
 add-p c = search needs
@@ -36,10 +36,10 @@ loop-less : tie.Need-loop-less Inv-loop μ-loop
 loop-less c = search needs
 
 loop-again : tie.Need-loop-again Inv-loop μ-loop
-loop-again c = let l = c .before .before .before .before .loop in let s = c .before .before .before .before .before .before .before in (omega arith, omega (arith, quiet-here (s .args .d .now) (l .p) (omega arith) (sym (c .before .is-loud .ensures) ∙ c .if1 .left)))
+loop-again c = let l = c .before .before .before .before .loop in let s = c .before .before .before .before .before .before .before in (omega arith, omega (arith, quiet-here (s .args .dossier .now) (l .p) (omega arith) (sym (c .before .is-loud .ensures) ∙ c .if1 .left)))
 
 returns-2 : tie.Need-returns-2 Inv-loop μ-loop
-returns-2 c = let l = c .before .loop in let s = c .before .before .before .before in omega (arith, quiet-none (s .args .d .now) (l .p) (c .loop-test .left))
+returns-2 c = let l = c .before .loop in let s = c .before .before .before .before in omega (arith, quiet-none (s .args .dossier .now) (l .p) (c .loop-test .left))
 
 pub quiet-end-spec : {M : Type 1} → statement M
 quiet-end-spec =

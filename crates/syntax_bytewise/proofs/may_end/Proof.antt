@@ -5,8 +5,8 @@ use Rattle.syntax.specs.Machine.{accepting}
 use Rattle.syntax_bytewise.proofs.may_end.Statement.{statement}
 use Rattle.syntax_bytewise.proofs.may_end.Tie as tie
 
-enum-known-s : tie.Need-enum-known-s
-enum-known-s c = search needs
+enum-known-state : tie.Need-enum-known-state
+enum-known-state c = search needs
 
 ends-after-requires : tie.Need-ends-after-requires
 ends-after-requires c κs = search needs
@@ -34,7 +34,7 @@ enum-told-7 c = search needs
 
 returns : tie.Need-returns
 unfolding accepting
-returns c = c .ends-after .ensures ∙ rw (c .before .before .s .given .1)
+returns c = c .ends-after .ensures ∙ rw (c .before .before .state .given .1)
 
 returns-2 : tie.Need-returns-2
 unfolding accepting
@@ -68,7 +68,7 @@ pub may-end-spec : {M : Type 1} → statement M
 may-end-spec =
     tie.close
     (tie.spec
-    enum-known-s
+    enum-known-state
     ends-after-requires
     enum-told
     enum-told-2

@@ -1,15 +1,15 @@
 use borrow.Author.Tests.{ne-eqb}
 use mathlib.Core.Logic.{⊎-elim, inl, inr}
-use Rattle.syntax.specs.Machine.{escape}
+use Rattle.syntax.specs.Machine.{escapeStep}
 use Rattle.syntax_bytewise.proofs.read_escape.Statement.{statement}
 use Rattle.syntax_bytewise.proofs.read_escape.Tie as tie
 
 returns : tie.Need-returns
-unfolding escape
+unfolding escapeStep
 returns c = ⊎-elim (λ e. rw e) (⊎-elim (λ e. rw e) (⊎-elim (λ e. rw e) (λ e. rw e))) (c .match .keys1)
 
 returns-2 : tie.Need-returns-2
-unfolding escape
+unfolding escapeStep
 returns-2 c =
     let no = c .match .rest .1 in
     simp (

@@ -1,7 +1,7 @@
 use Prim.Native.Nat.{_-_}
 use mathlib.Core.Path.{_∙_}
 use borrow.Author.Needs.{needs}
-use Rattle.syntax.specs.Machine.{opened}
+use Rattle.syntax.specs.Machine.{startStep}
 use Rattle.syntax_bytewise.proofs.read_open.Statement.{statement}
 use Rattle.syntax_bytewise.proofs.read_open.Tie as tie
 
@@ -30,19 +30,19 @@ read-field-requires : tie.Need-read-field-requires
 read-field-requires c κs = search needs
 
 returns : tie.Need-returns
-unfolding opened
+unfolding startStep
 returns c = c .read-slash .ensures ∙ rw (c .before .enum-told .given .1)
 
 returns-2 : tie.Need-returns-2
-unfolding opened
+unfolding startStep
 returns-2 c = c .read-slash2 .ensures ∙ rw (c .before .enum-told2 .given .1)
 
 returns-3 : tie.Need-returns-3
-unfolding opened
+unfolding startStep
 returns-3 c = c .read-slash3 .ensures ∙ rw (c .before .enum-told3 .given .1)
 
 returns-4 : tie.Need-returns-4
-unfolding opened
+unfolding startStep
 returns-4 c = c .read-field .ensures ∙ rw (c .before .enum-told4 .given .1)
 
 pub read-open-spec : {M : Type 1} → statement M

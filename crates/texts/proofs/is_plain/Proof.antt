@@ -4,10 +4,10 @@ use native.Mathlib.Omega.{arith}
 use borrow.Author.Needs.{needs}
 use denote.Ref.{now}
 use lib.ListN.{length, drop}
-use Rattle.texts.specs.Texts.{allPlain, plain}
 use Rattle.texts.proofs.PlainLaws.{plain-none, plain-long, plain-sized, byte-below, byte-above, byte-slash, byte-plain, plain-ends, plain-goes, plain-done}
 use Rattle.texts.proofs.is_plain.Statement.{statement}
 use Rattle.texts.proofs.is_plain.Tie as tie
+use Rattle.texts.specs.inner.Steps.{allPlain, plain}
 
 abbrev Inv-loop : tie.InvT-loop
 Inv-loop f i₀ i = (i ≤ length f) × (plain f ≡ allPlain (drop i f))
@@ -22,7 +22,7 @@ returns-2 : tie.Need-returns-2 Inv-loop μ-loop
 returns-2 c = sym (plain-long _ (c .if2 .taken))
 
 loop-holds : tie.Need-loop-holds Inv-loop μ-loop
-loop-holds c = (omega arith, plain-sized (now (c .before .before .args .f)) (c .before .if1 .left) (c .if2 .left))
+loop-holds c = (omega arith, plain-sized (now (c .before .before .args .field)) (c .before .if1 .left) (c .if2 .left))
 
 shared-slice-read-c : tie.Need-shared-slice-read-c Inv-loop μ-loop
 shared-slice-read-c c = search needs

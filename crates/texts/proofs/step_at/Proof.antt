@@ -1,9 +1,9 @@
 use mathlib.Core.Path.{_∙_, ap}
 use borrow.Author.Tests.{eq-eqb, ne-eqb}
-use Rattle.texts.specs.Texts.{stepOf, keptStep}
 use borrow.Author.Needs.{needs}
 use Rattle.texts.proofs.step_at.Statement.{statement}
 use Rattle.texts.proofs.step_at.Tie as tie
+use Rattle.texts.specs.inner.Steps.{stepOf, keptStep}
 
 escaped-requires : tie.Need-escaped-requires
 escaped-requires c κs = search needs

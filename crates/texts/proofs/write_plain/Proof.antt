@@ -28,8 +28,8 @@ returns c =
     let first = c .before .before .before .before .before .before .copy-to in
     let laid : first .last .0 ≡ over (a .at) (replicate 10 0) (now (a .row)) = first .ensures in
     c .before .before .copy-to2 .ensures
-    ∙ ap (λ (d : List ℕ). over (a .at) (now (a .f)) d) laid
-    ∙ over-zeros (a .at) (now (a .f)) (now (a .row)) (start .pre .1)
+    ∙ ap (λ (d : List ℕ). over (a .at) (now (a .field)) d) laid
+    ∙ over-zeros (a .at) (now (a .field)) (now (a .row)) (start .pre .1)
 
 pub write-plain-spec : {M : Type 1} → statement M
 write-plain-spec =

@@ -6,7 +6,7 @@ use mathlib.Core.Bool.{false}
 use borrow.Author.Needs.{needs}
 use borrow.Author.Tests.{eqb-false}
 use borrow.Author.Count.{below-more}
-use Rattle.lists.proofs.LogicLaws.{or-false}
+use Rattle.lists.proofs.LogicLaws.{or-fail}
 use Rattle.turbo.proofs.block_has.Statement.{statement}
 use Rattle.turbo.proofs.block_has.Tie as tie
 
@@ -32,7 +32,7 @@ loop-less : tie.Need-loop-less Inv-loop μ-loop
 loop-less c = search needs
 
 loop-again : tie.Need-loop-again Inv-loop μ-loop
-loop-again c = let l = c .before .before .loop in (omega arith, λ e. let o = or-false (l .any) _ e in below-more _ _ (l .inv .1 (o .0)) (eqb-false _ _ (o .1)))
+loop-again c = let l = c .before .before .loop in (omega arith, λ e. let o = or-fail (l .any) _ e in below-more _ _ (l .inv .1 (o .0)) (eqb-false _ _ (o .1)))
 
 returns : tie.Need-returns Inv-loop μ-loop
 returns c = λ e m h. c .before .loop .inv .1 e m (omega arith)

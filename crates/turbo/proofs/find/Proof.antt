@@ -35,7 +35,7 @@ loop-less : tie.Need-loop-less Inv-loop μ-loop
 loop-less c = search needs
 
 loop-again : tie.Need-loop-again Inv-loop μ-loop
-loop-again c = let f = c .before .find-near in let e : f .result ≡ 8 = omega (arith, f .ensures .0, c .if1 .left) in let p = c .before .before .before .loop .p in let a = c .before .before .before .before .before .args in (omega arith, omega (arith, f .ensures .1 .0, ap (λ (n : ℕ). length (until (a .x) (drop (p + n) (a .s .now)))) e))
+loop-again c = let f = c .before .find-near in let e : f .result ≡ 8 = omega (arith, f .ensures .0, c .if1 .left) in let p = c .before .before .before .loop .p in let a = c .before .before .before .before .before .args in (omega arith, omega (arith, f .ensures .1 .0, ap (λ (n : ℕ). length (until (a .byte) (drop (p + n) (a .bytes .now)))) e))
 
 find-from-requires : tie.Need-find-from-requires Inv-loop μ-loop
 find-from-requires c κs = search needs

@@ -21,7 +21,7 @@ shared-slice-read-if1 : tie.Need-shared-slice-read-if1 Inv-loop μ-loop
 shared-slice-read-if1 c = omega arith
 
 returns : tie.Need-returns Inv-loop μ-loop
-returns c = let l = c .before .before .before in omega (arith, until-hit (l .before .args .x) (l .before .args .s .now) (l .loop .k) (search needs) (c .if1 .taken))
+returns c = let l = c .before .before .before in omega (arith, until-hit (l .before .args .byte) (l .before .args .bytes .now) (l .loop .k) (search needs) (c .if1 .taken))
 
 add-k : tie.Need-add-k Inv-loop μ-loop
 add-k c = omega arith
@@ -30,10 +30,10 @@ loop-less : tie.Need-loop-less Inv-loop μ-loop
 loop-less c = omega arith
 
 loop-again : tie.Need-loop-again Inv-loop μ-loop
-loop-again c = let l = c .before .before .before in omega (arith, until-miss (l .before .args .x) (l .before .args .s .now) (l .loop .k) (search needs) (c .if1 .left))
+loop-again c = let l = c .before .before .before in omega (arith, until-miss (l .before .args .byte) (l .before .args .bytes .now) (l .loop .k) (search needs) (c .if1 .left))
 
 returns-2 : tie.Need-returns-2 Inv-loop μ-loop
-returns-2 c = let l = c .before in omega (arith, until-end (l .before .args .x) (l .before .args .s .now) (l .loop .k) (c .loop-test .left))
+returns-2 c = let l = c .before in omega (arith, until-end (l .before .args .byte) (l .before .args .bytes .now) (l .loop .k) (c .loop-test .left))
 
 pub find-from-spec : {M : Type 1} → statement M
 find-from-spec =

@@ -15,7 +15,7 @@ abbrev μ-loop : tie.MeasureT-loop
 μ-loop s i x j₀ j = 8 - j
 
 loop-holds : tie.Need-loop-holds Inv-loop μ-loop
-loop-holds c = let e : c .args .i + 0 ≡ c .args .i = omega arith in (omega arith, omega (arith, ap (λ (n : ℕ). length (until (c .args .x) (drop n (c .args .s .now)))) e))
+loop-holds c = let e : c .args .at + 0 ≡ c .args .at = omega arith in (omega arith, omega (arith, ap (λ (n : ℕ). length (until (c .args .byte) (drop n (c .args .bytes .now)))) e))
 
 add-if1 : tie.Need-add-if1 Inv-loop μ-loop
 add-if1 c = search needs
@@ -24,7 +24,7 @@ shared-slice-read-if1 : tie.Need-shared-slice-read-if1 Inv-loop μ-loop
 shared-slice-read-if1 c = search needs
 
 returns : tie.Need-returns Inv-loop μ-loop
-returns c = let l = c .before .before .before in let a = l .before .args in (l .loop .inv .0, (l .loop .inv .1, λ h. until-hit (a .x) (a .s .now) (a .i + l .loop .j) (omega arith) (c .if1 .taken)))
+returns c = let l = c .before .before .before in let a = l .before .args in (l .loop .inv .0, (l .loop .inv .1, λ h. until-hit (a .byte) (a .bytes .now) (a .at + l .loop .j) (omega arith) (c .if1 .taken)))
 
 add-j : tie.Need-add-j Inv-loop μ-loop
 add-j c = search needs
@@ -33,7 +33,7 @@ loop-less : tie.Need-loop-less Inv-loop μ-loop
 loop-less c = search needs
 
 loop-again : tie.Need-loop-again Inv-loop μ-loop
-loop-again c = let l = c .before .before .before in let a = l .before .args in let e : a .i + l .loop .j + 1 ≡ a .i + (l .loop .j + 1) = omega arith in (omega arith, omega (arith, until-miss (a .x) (a .s .now) (a .i + l .loop .j) (omega arith) (c .if1 .left), ap (λ (n : ℕ). length (until (a .x) (drop n (a .s .now)))) e))
+loop-again c = let l = c .before .before .before in let a = l .before .args in let e : a .at + l .loop .j + 1 ≡ a .at + (l .loop .j + 1) = omega arith in (omega arith, omega (arith, until-miss (a .byte) (a .bytes .now) (a .at + l .loop .j) (omega arith) (c .if1 .left), ap (λ (n : ℕ). length (until (a .byte) (drop n (a .bytes .now)))) e))
 
 returns-2 : tie.Need-returns-2 Inv-loop μ-loop
 returns-2 c = let l = c .before .loop in (l .inv .0, (l .inv .1, λ h. absurd (omega arith)))

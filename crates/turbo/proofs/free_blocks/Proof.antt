@@ -33,7 +33,7 @@ loop-less : tie.Need-loop-less Inv-loop μ-loop
 loop-less c = search needs
 
 loop-again : tie.Need-loop-again Inv-loop μ-loop
-loop-again c = let l = c .before .before .before .loop in let s = c .before .before .before .before .before in (omega arith, omega (arith, until-free (s .args .x) (s .args .s .now) (l .p) 16 (omega arith) (c .before .block-has .ensures (c .if1 .left))))
+loop-again c = let l = c .before .before .before .loop in let s = c .before .before .before .before .before in (omega arith, omega (arith, until-free (s .args .byte) (s .args .bytes .now) (l .p) 16 (omega arith) (c .before .block-has .ensures (c .if1 .left))))
 
 returns-2 : tie.Need-returns-2 Inv-loop μ-loop
 returns-2 c = c .before .loop .inv

@@ -4,7 +4,7 @@ use mathlib.Core.Path.{_≡_, sym, _∙_}
 use lib.ListN.{length}
 use borrow.Author.Needs.{needs}
 use Rattle.turbo.specs.Split.{fields}
-use Rattle.turbo_labels.specs.Columns.{place}
+use Rattle.turbo_labels.specs.Columns.{columnOf}
 use lib.Seq.{length-take-le}
 use Rattle.lists.proofs.PartLaws.{tail-length}
 use Rattle.turbo_labels.proofs.ColumnLaws.{place-hit, place-last, place-more}
@@ -12,7 +12,7 @@ use Rattle.turbo_labels.proofs.column_of.Statement.{statement}
 use Rattle.turbo_labels.proofs.column_of.Tie as tie
 
 abbrev Inv-loop : tie.InvT-loop
-Inv-loop labels name k₀ l₀ k l = (k + length l ≤ length labels) × (k + place name (fields l) ≡ place name (fields labels))
+Inv-loop labels name k₀ l₀ k l = (k + length l ≤ length labels) × (k + columnOf name (fields l) ≡ columnOf name (fields labels))
 
 abbrev μ-loop : tie.MeasureT-loop
 μ-loop labels name k₀ l₀ k l = length l
