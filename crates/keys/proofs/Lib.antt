@@ -6,5 +6,7 @@ pub mod FindLaws
 pub mod EqualLaws
 pub mod CountLaws
 pub mod ReplayLaws
+pub mod StrideLaws
 pub mod RiseLaws
+pub mod Claims
 pub mod Determined

@@ -4,13 +4,13 @@
 -- `gives`: of none, or of a row that has Q, it makes a row that has Q; Q is asked for whole rows and for rows in range;
 -- a whole row is not empty, so no law asks that of its own. Assumes nothing.
 use mathlib.Core.Path.{_≡_, refl, sym, ap, subst, _∙_}
-use mathlib.Core.Bool.{Bool, true, false}
+use mathlib.Core.Bool.{Bool, true, false, _||_}
 use mathlib.Core.Logic.{_⊎_, inl, inr}
 use mathlib.Core.List.{List, [], _∷_, _++_}
 use Prim.Native.Nat.{ℕ, suc, _+_, _≤_, _<_}
 use native.Mathlib.Omega.{arith}
 use lib.ListN.{length}
-use Rattle.lists.specs.Logic.{on, either}
+use Rattle.lists.specs.Logic.{on}
 use Rattle.lists.specs.Each.{Each}
 use Rattle.lists.specs.Text.{same}
 use Rattle.lists.proofs.TextLaws.{same-equal}
@@ -18,7 +18,7 @@ use Rattle.passage.specs.Layout.{keyOf}
 use Rattle.keys.specs.declared.Order.the-variants.{Same}
 use Rattle.keys.specs.Keys.{cmp}
 use Rattle.keys.specs.Sorted.{sortedRows, get, put}
-use Rattle.keys.specs.Replay.{Rule, taken, takenAll, replayed, place, reworked}
+use Rattle.keys.specs.Replay.{Rule, taken, takenAll, replayed, becoming, reworked}
 use Rattle.keys.proofs.KeyLaws.{cmp-is-same}
 use Rattle.keys.proofs.PutLaws.{get-put, get-put-other, sorted-put, get-remove, get-remove-other, sorted-remove}
 use Rattle.keys.proofs.CountLaws.{put-least, put-most, each-put, each-remove, each-get, get-key}
@@ -186,32 +186,32 @@ module _ (rule : Rule) (P Q : List ℕ → Type 0) (gives : (held u : List ℕ) 
 -- k is one of these keys
 unfoldable pub among : List ℕ → List (List ℕ) → Bool
 among k [] = false
-among k (j ∷ ks) = either (same j k) (among k ks)
+among k (j ∷ ks) = same j k || among k ks
 
-pub among-append : (k : List ℕ) (xs ys : List (List ℕ)) → among k (xs ++ ys) ≡ either (among k xs) (among k ys)
+pub among-append : (k : List ℕ) (xs ys : List (List ℕ)) → among k (xs ++ ys) ≡ (among k xs || among k ys)
 unfolding among
 among-append k [] ys = refl
 among-append k (x ∷ xs) ys = go (same x k) (among-append k xs ys)
   where
-    go : (t : Bool) → among k (xs ++ ys) ≡ either (among k xs) (among k ys) → either t (among k (xs ++ ys)) ≡ either (either t (among k xs)) (among k ys)
+    go : (t : Bool) → among k (xs ++ ys) ≡ (among k xs || among k ys) → (t || among k (xs ++ ys)) ≡ ((t || among k xs) || among k ys)
     go true ih = refl
     go false ih = ih
 
-pub sorted-place : (k r : List ℕ) (rs : List (List ℕ)) → sortedRows rs ≡ true → sortedRows (place k r rs) ≡ true
+pub sorted-place : (k r : List ℕ) (rs : List (List ℕ)) → sortedRows rs ≡ true → sortedRows (becoming k r rs) ≡ true
 sorted-place k [] rs h = sorted-remove k rs h
 sorted-place k (b ∷ r) rs h = sorted-put (b ∷ r) rs h
 
-pub each-place : (Q : List ℕ → Type 0) (k r : List ℕ) (rs : List (List ℕ)) → (r ≡ []) ⊎ Q r → Each Q rs → Each Q (place k r rs)
+pub each-place : (Q : List ℕ → Type 0) (k r : List ℕ) (rs : List (List ℕ)) → (r ≡ []) ⊎ Q r → Each Q rs → Each Q (becoming k r rs)
 each-place Q k [] rs q h = each-remove Q k rs h
 each-place Q k (b ∷ r) rs (inl e) h = cons-not b r e
 each-place Q k (b ∷ r) rs (inr q) h = each-put Q (b ∷ r) rs q h
 
-pub get-place-here : (k r : List ℕ) (rs : List (List ℕ)) → sortedRows rs ≡ true → RowOf k r → get k (place k r rs) ≡ r
+pub get-place-here : (k r : List ℕ) (rs : List (List ℕ)) → sortedRows rs ≡ true → RowOf k r → get k (becoming k r rs) ≡ r
 get-place-here k [] rs h o = get-remove k rs h
 get-place-here k (b ∷ r) rs h (inl e) = cons-not b r e
 get-place-here k (b ∷ r) rs h (inr e) = ap (λ (j : List ℕ). get j (put (b ∷ r) rs)) (sym e) ∙ get-put (b ∷ r) rs
 
-pub get-place-other : (j k r : List ℕ) (rs : List (List ℕ)) → sortedRows rs ≡ true → RowOf k r → (cmp k j ≡ Same → ⊥) → get j (place k r rs) ≡ get j rs
+pub get-place-other : (j k r : List ℕ) (rs : List (List ℕ)) → sortedRows rs ≡ true → RowOf k r → (cmp k j ≡ Same → ⊥) → get j (becoming k r rs) ≡ get j rs
 get-place-other j k [] rs h o n = get-remove-other j k rs h n
 get-place-other j k (b ∷ r) rs h (inl e) n = cons-not b r e
 get-place-other j k (b ∷ r) rs h (inr e) n = get-put-other j (b ∷ r) rs (λ s. n (ap (λ (i : List ℕ). cmp i j) (sym e) ∙ s))
@@ -220,12 +220,12 @@ module _ (f : List ℕ → List ℕ) where
   pub sorted-reworked : (ks rs : List (List ℕ)) → sortedRows rs ≡ true → sortedRows (reworked f ks rs) ≡ true
   unfolding reworked
   sorted-reworked [] rs h = h
-  sorted-reworked (k ∷ ks) rs h = sorted-reworked ks (place k (f k) rs) (sorted-place k (f k) rs h)
+  sorted-reworked (k ∷ ks) rs h = sorted-reworked ks (becoming k (f k) rs) (sorted-place k (f k) rs h)
 
   pub each-reworked : (Q : List ℕ → Type 0) → ((k : List ℕ) → (f k ≡ []) ⊎ Q (f k)) → (ks rs : List (List ℕ)) → Each Q rs → Each Q (reworked f ks rs)
   unfolding reworked
   each-reworked Q q [] rs h = h
-  each-reworked Q q (k ∷ ks) rs h = each-reworked Q q ks (place k (f k) rs) (each-place Q k (f k) rs (q k) h)
+  each-reworked Q q (k ∷ ks) rs h = each-reworked Q q ks (becoming k (f k) rs) (each-place Q k (f k) rs (q k) h)
 
   filled-from : (k : List ℕ) → (f k ≡ []) ⊎ (0 < length (f k))
   filled-from k = go (f k)
@@ -242,9 +242,9 @@ module _ (f : List ℕ → List ℕ) where
     pub get-reworked : (k : List ℕ) (ks rs : List (List ℕ)) → sortedRows rs ≡ true → get k (reworked f ks rs) ≡ on (among k ks) (f k) (get k rs)
     unfolding reworked among
     get-reworked k [] rs h = refl
-    get-reworked k (j ∷ ks) rs h = get-reworked k ks (place j (f j) rs) (sorted-place j (f j) rs h) ∙ go (same j k) refl (among k ks)
+    get-reworked k (j ∷ ks) rs h = get-reworked k ks (becoming j (f j) rs) (sorted-place j (f j) rs h) ∙ go (same j k) refl (among k ks)
       where
-        go : (t : Bool) → same j k ≡ t → (s : Bool) → on s (f k) (get k (place j (f j) rs)) ≡ on (either t s) (f k) (get k rs)
+        go : (t : Bool) → same j k ≡ t → (s : Bool) → on s (f k) (get k (becoming j (f j) rs)) ≡ on (t || s) (f k) (get k rs)
         go true e true = refl
         go true e false = let i : j ≡ k = same-equal j k e in rw i (get-place-here k (f k) rs h (own k))
         go false e true = refl

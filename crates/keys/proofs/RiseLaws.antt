@@ -1,20 +1,19 @@
 -- Keys that rise, in rows of any width in bytes. Assumes nothing.
 use mathlib.Core.Path.{_≡_, refl, sym, ap, _∙_}
-use mathlib.Core.Bool.{true}
+use mathlib.Core.Bool.{true, _&&_}
 use mathlib.Core.List.{List, [], _∷_, map}
 use Prim.Native.Nat.{ℕ, zero, suc, _+_, _*_, _-_, _≤_, _<_}
-use native.Mathlib.Nat.{add-zero, suc-mul}
+use native.Mathlib.Nat.{suc-mul}
 use native.Mathlib.Omega.{arith}
 use lib.ListN.{length, drop}
-use Rattle.lists.specs.Logic.{both}
 use Rattle.lists.specs.Part.{part}
 use Rattle.lists.specs.Rows.{rowsOf}
-use Rattle.lists.proofs.PartLaws.{part-part}
 use Rattle.lists.proofs.RowLaws.{rowsOf-step, rowsOf-start}
 use Rattle.passage.specs.Layout.{key-wide, keyOf}
 use Rattle.passage.proofs.StepLaws.{next-row, row-fits}
 use Rattle.keys.specs.Keys.{cmp}
 use Rattle.keys.specs.Sorted.{isLess, risesFrom, sortedRows}
+use Rattle.keys.proofs.StrideLaws.{key-here}
 
 -- rows that are wider than nothing are no more than their bytes
 pub count-fits : (w n : ℕ) → 1 ≤ w → n ≤ n * w
@@ -45,16 +44,13 @@ module _ (w off n : ℕ) (s : List ℕ) where
         let f = row-fits w n (i + 1) 0 (length s) h (omega arith) in
         omega arith
 
-    key-here : (j : ℕ) → off + key-wide ≤ w → keyOf (part off (w - off) (part (j * w) w s)) ≡ part (j * w + off) key-wide s
-    key-here j k = part-part 0 key-wide off (w - off) (part (j * w) w s) (omega arith) ∙ rw add-zero (part-part off key-wide (j * w) w s k)
-
     pub rise-step : off + key-wide ≤ w
-        → sortedRows (left i) ≡ both (isLess (cmp (part (i * w + off) key-wide s) (part (i * w + off + w) key-wide s))) (sortedRows (left (i + 1)))
+        → sortedRows (left i) ≡ (isLess (cmp (part (i * w + off) key-wide s) (part (i * w + off + w) key-wide s)) && sortedRows (left (i + 1)))
     unfolding sortedRows risesFrom
     rise-step k =
         let a : i < n = omega arith in
         let e : (i + 1) * w + off ≡ i * w + off + w = rw (next-row w i) (omega arith) in
-        rw (rowsOf-step w n i s a, rowsOf-step w n (i + 1) s h, key-here i k, key-here (i + 1) k, e)
+        rw (rowsOf-step w n i s a, rowsOf-step w n (i + 1) s h, key-here w off n s i k, key-here w off n s (i + 1) k, e)
 
 -- ---- rows told by their keys alone
 

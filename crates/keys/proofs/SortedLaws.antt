@@ -13,7 +13,7 @@ use Rattle.keys.specs.declared.Found.the-variants.{At, Missing}
 use Rattle.passage.specs.Layout.{keyOf}
 use Rattle.keys.specs.Keys.{cmp, byOrder}
 use Rattle.keys.specs.Sorted.{isLess, risesFrom, sortedRows, lookupFrom}
-use Rattle.lists.proofs.LogicLaws.{both-true}
+use Rattle.lists.proofs.LogicLaws.{and-pass}
 use Rattle.keys.proofs.KeyLaws.{cmp-trans, cmp-same}
 
 pub less-is : (o : Order) → isLess o ≡ true → o ≡ Less
@@ -24,11 +24,11 @@ less-is More e = let z : _≡_ {A = ℕ} 0 1 = cc in absurd (omega arith)
 -- the first step of a rising list, and the rest
 pub rises-head : (r s : List ℕ) (rs : List (List ℕ)) → risesFrom r (s ∷ rs) ≡ true → cmp (keyOf r) (keyOf s) ≡ Less
 unfolding risesFrom
-rises-head r s rs h = less-is _ (both-true _ (risesFrom s rs) h .0)
+rises-head r s rs h = less-is _ (and-pass _ (risesFrom s rs) h .0)
 
 pub rises-tail : (r s : List ℕ) (rs : List (List ℕ)) → risesFrom r (s ∷ rs) ≡ true → risesFrom s rs ≡ true
 unfolding risesFrom
-rises-tail r s rs h = both-true (isLess (cmp (keyOf r) (keyOf s))) _ h .1
+rises-tail r s rs h = and-pass (isLess (cmp (keyOf r) (keyOf s))) _ h .1
 
 -- a row is below each row after it
 pub below : (r : List ℕ) (xs : List (List ℕ)) (y : List ℕ) (ys : List (List ℕ)) → risesFrom r (xs ++ y ∷ ys) ≡ true → cmp (keyOf r) (keyOf y) ≡ Less

@@ -1,4 +1,5 @@
 pub mod Keys
 pub mod Sorted
 pub mod Replay
+pub mod Claims
 pub mod Cases

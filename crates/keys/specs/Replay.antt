@@ -1,4 +1,5 @@
--- What updates make of rows, over any row rule: `rule held u` is the row that the update u makes of the held row, or of none, []. Assumes nothing.
+-- What updates make of rows, over any row rule: `rule held u` is the row that the update u makes of the held row. Here as in `get`, [] for a row says that there is none.
+-- Assumes nothing.
 use Prim.Native.Nat.{ℕ}
 use mathlib.Core.List.{List, [], _∷_}
 use Rattle.lists.specs.Logic.{on}
@@ -6,7 +7,7 @@ use Rattle.lists.specs.Text.{same}
 use Rattle.passage.specs.Layout.{keyOf}
 use Rattle.keys.specs.Sorted.{get, put, remove}
 
--- a row rule: what is held, [] for nothing, and an update's body give a row
+-- a row rule: the held row, [] for none, and an update's body give a row
 abbrev pub Rule : Type 0
 Rule = List ℕ → List ℕ → List ℕ
 
@@ -19,17 +20,17 @@ unfoldable pub takenAll : Rule → List (List ℕ) → List (List ℕ) → List 
 takenAll rule [] rs = rs
 takenAll rule (u ∷ us) rs = takenAll rule us (taken rule u rs)
 
--- what becomes of one key's row, `held` or [], by the updates of that key, in their order
+-- what becomes of one key's row by the updates of that key, in their order; it begins as `held`, [] for none
 unfoldable pub replayed : Rule → List ℕ → List ℕ → List (List ℕ) → List ℕ
 replayed rule k held [] = held
 replayed rule k held (u ∷ us) = replayed rule k (on (same (keyOf u) k) (rule held u) held) us
 
--- the row of key k becomes r, or leaves where r is []
-abbrev pub place : List ℕ → List ℕ → List (List ℕ) → List (List ℕ)
-place k [] rs = remove k rs
-place k (b ∷ r) rs = put (b ∷ r) rs
+-- the row of key k becomes r; where r is [], no row, it leaves
+abbrev pub becoming : List ℕ → List ℕ → List (List ℕ) → List (List ℕ)
+becoming k [] rs = remove k rs
+becoming k (b ∷ r) rs = put (b ∷ r) rs
 
 -- the rows of these keys become what f gives
 unfoldable pub reworked : (List ℕ → List ℕ) → List (List ℕ) → List (List ℕ) → List (List ℕ)
 reworked f [] rs = rs
-reworked f (k ∷ ks) rs = reworked f ks (place k (f k) rs)
+reworked f (k ∷ ks) rs = reworked f ks (becoming k (f k) rs)

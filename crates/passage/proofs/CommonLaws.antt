@@ -9,13 +9,14 @@ use lib.Seq.{drop-drop}
 use Rattle.lists.specs.Part.{part}
 use Rattle.lists.specs.Rows.{rowsOf}
 use Rattle.lists.specs.BigEndian.{number}
-use Rattle.lists.proofs.LogicLaws.{both-true}
+use Rattle.lists.proofs.LogicLaws.{and-pass}
 use Rattle.lists.proofs.PartLaws.{part-part}
 use Rattle.lists.proofs.RowLaws.{rowsOf-step, rowsOf-start}
 use Rattle.clock.specs.Date.{daysIn, isDate}
 use Rattle.passage.specs.Layout.{date-at, date-wide, body-wide}
-use Rattle.passage.specs.Ranges.{commonInRange, allCommon}
+use Rattle.passage.specs.Ranges.{commonInRange}
 use Rattle.passage.proofs.RangeLaws.{common-facts}
+use Rattle.passage.specs.inner.Roles.{allCommon}
 
 -- a date to begin with
 pub first-date : isDate 20000101 ≡ true
@@ -49,7 +50,7 @@ module _ (w off n at : ℕ) (s : List ℕ) where
     common-step = rw (rowsOf-step w n i (drop at s) h, body-here)
 
     pub common-now : allCommon (left i) ≡ true → (commonInRange (part (at + i * w + off) body-wide s) ≡ true) × (allCommon (left (i + 1)) ≡ true)
-    common-now e = both-true (commonInRange (part (at + i * w + off) body-wide s)) (allCommon (left (i + 1))) (sym common-step ∙ e)
+    common-now e = and-pass (commonInRange (part (at + i * w + off) body-wide s)) (allCommon (left (i + 1))) (sym common-step ∙ e)
 
 pub common-date : (at : ℕ) (s : List ℕ) → commonInRange (part at body-wide s) ≡ true → isDate (number (part (at + date-at) date-wide s)) ≡ true
 common-date at s e = rw (part-part date-at date-wide at body-wide s (omega arith)) at (common-facts (part at body-wide s) e .key .date)

@@ -1,20 +1,22 @@
--- The ranges of a key, and of what all bodies have in common, that stand from `at` on in a longer list, field by field. Assumes nothing.
-use mathlib.Core.Path.{_≡_, refl}
-use mathlib.Core.Bool.{Bool, _&&_}
+-- The ranges of a key, of what all bodies have in common, of an update, a plan entry and a row that stand from `at` on in a longer list, field by field. Assumes nothing.
+use mathlib.Core.Path.{_≡_, refl, _∙_, sym}
+use mathlib.Core.Bool.{Bool, _&&_, _||_}
 use mathlib.Core.List.{List, [], _∷_}
 use Prim.Native.Nat.{ℕ, _+_, _≤_}
 use native.Mathlib.Nat.{add-zero}
 use native.Mathlib.Omega.{arith}
-use lib.Dec.{ltb}
+use lib.Dec.{ltb, eqb, leb}
 use lib.ListN.{getD, take}
 use Rattle.lists.specs.Part.{part}
 use Rattle.lists.specs.BigEndian.{number}
+use Rattle.lists.specs.Logic.{within}
 use Rattle.lists.proofs.PartLaws.{part-part, part-at}
 use Rattle.clock.specs.Date.{isDate}
-use Rattle.passage.specs.Layout.{text-wide, date-wide, journey-wide, order-wide, time-wide, owner-at, date-at, line-at, journey-at, fortify-at, stop-at, order-at, key-wide, destination-at, arrival-at, departure-at, stop-type-at, body-wide, keyOf, ownerOf, dateOf, lineOf, journeyOf, fortifyOf, stopOf, orderOf, destinationOf, arrivalOf, departureOf, stopTypeOf, bodyOf}
-use Rattle.passage.specs.Ranges.{paddedText, keyInRange, timesInRange, commonInRange}
-use Rattle.passage.specs.Roles.{textsPadded}
-use Rattle.passage.proofs.TestLaws.{all-pass, tests-equal}
+use Rattle.field_types.specs.Stamps.{inStampRange}
+use Rattle.passage.specs.Layout.{text-wide, date-wide, journey-wide, order-wide, time-wide, owner-at, date-at, line-at, journey-at, fortify-at, stop-at, order-at, key-wide, destination-at, arrival-at, departure-at, stop-type-at, body-wide, keyOf, ownerOf, dateOf, lineOf, journeyOf, fortifyOf, stopOf, orderOf, destinationOf, arrivalOf, departureOf, stopTypeOf, bodyOf, stamp-wide, stamp-at, status-at, show-cancelled-at, flexible-at, monitored-at, heard-at, row-wide, kept}
+use Rattle.passage.specs.Ranges.{paddedText, keyInRange, timesInRange, commonInRange, isBit, updateInRange, planInRange, heardInRange, rowInRange}
+use Rattle.passage.specs.inner.Roles.{textsPadded}
+use Rattle.lists.proofs.LogicLaws.{all-pass, tests-equal}
 
 -- of n bytes from `at` on, the first 41 are the key and the first 66 the body, whatever stands behind them
 module _ (at n : ℕ) (s : List ℕ) where
@@ -116,3 +118,62 @@ module _ (at : ℕ) (s : List ℕ) where
 pub key-take : (b : List ℕ) → keyOf b ≡ take key-wide b
 unfolding part
 key-take b = refl
+
+-- ---- update, plan entry, row
+
+module _ (at : ℕ) (s : List ℕ) where
+  pub update-at : updateInRange (part at body-wide s) ≡
+      (commonInRange (part at body-wide s)
+      && inStampRange (number (part (at + stamp-at) stamp-wide s))
+      && leb (getD s (at + status-at) 0) 5
+      && (isBit (getD s (at + show-cancelled-at) 0) || eqb (getD s (at + show-cancelled-at) 0) kept)
+      && (within 1 3 (getD s (at + flexible-at) 0) || eqb (getD s (at + flexible-at) 0) kept)
+      && (isBit (getD s (at + monitored-at) 0) || eqb (getD s (at + monitored-at) 0) kept))
+  unfolding updateInRange
+  update-at =
+      rw (
+        part-part stamp-at stamp-wide at body-wide s (omega arith),
+        part-at at body-wide s status-at (omega arith),
+        part-at at body-wide s show-cancelled-at (omega arith),
+        part-at at body-wide s flexible-at (omega arith),
+        part-at at body-wide s monitored-at (omega arith),
+      )
+
+  pub plan-at : planInRange (part at body-wide s) ≡
+      (commonInRange (part at body-wide s)
+      && eqb (number (part (at + stamp-at) stamp-wide s)) 0
+      && eqb (getD s (at + status-at) 0) 0
+      && eqb (getD s (at + show-cancelled-at) 0) 1
+      && leb (getD s (at + flexible-at) 0) 3
+      && eqb (getD s (at + monitored-at) 0) 0)
+  unfolding planInRange
+  plan-at =
+      rw (
+        part-part stamp-at stamp-wide at body-wide s (omega arith),
+        part-at at body-wide s status-at (omega arith),
+        part-at at body-wide s show-cancelled-at (omega arith),
+        part-at at body-wide s flexible-at (omega arith),
+        part-at at body-wide s monitored-at (omega arith),
+      )
+
+  row-common : commonInRange (part at row-wide s) ≡ commonInRange (part at body-wide s)
+  row-common = common-at at row-wide s (omega arith) ∙ sym (common-at at body-wide s (omega arith))
+
+  pub row-at : rowInRange (part at row-wide s) ≡
+      (commonInRange (part at body-wide s)
+      && heardInRange (getD s (at + heard-at) 0) (number (part (at + stamp-at) stamp-wide s))
+      && leb (getD s (at + status-at) 0) 5
+      && isBit (getD s (at + show-cancelled-at) 0)
+      && leb (getD s (at + flexible-at) 0) 3
+      && isBit (getD s (at + monitored-at) 0))
+  unfolding rowInRange
+  row-at =
+      rw (
+        row-common,
+        part-at at row-wide s heard-at (omega arith),
+        part-part stamp-at stamp-wide at row-wide s (omega arith),
+        part-at at row-wide s status-at (omega arith),
+        part-at at row-wide s show-cancelled-at (omega arith),
+        part-at at row-wide s flexible-at (omega arith),
+        part-at at row-wide s monitored-at (omega arith),
+      )

@@ -1,12 +1,9 @@
-pub mod TestLaws
 pub mod PaddedLaws
 pub mod RoleLaws
 pub mod FieldLaws
 pub mod RangeLaws
 pub mod PlanLaws
-pub mod Claims
 pub mod StepLaws
 pub mod CommonLaws
+pub mod Claims
 pub mod Determined
-pub mod RangesFieldLaws
-pub mod RangesDetermined

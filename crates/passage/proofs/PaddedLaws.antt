@@ -8,12 +8,11 @@ use borrow.Author.Tests.{eq-eqb, eqb-true}
 use lib.Dec.{eqb}
 use lib.ListN.{length, getD, replicate, length-append, length-replicate}
 use Rattle.lists.specs.Logic.{on, within}
-use Rattle.lists.proofs.LogicLaws.{both-true, within-true}
+use Rattle.lists.proofs.LogicLaws.{and-pass, all-pass, within-true}
 use Rattle.texts.specs.Texts.{allText, padded, isText}
 use Rattle.texts.proofs.KeptLaws.{is-text, text-is, padded-length}
 use Rattle.passage.specs.Layout.{text-wide}
 use Rattle.passage.specs.Ranges.{allZero, textThenZeros, paddedText}
-use Rattle.passage.proofs.TestLaws.{all-pass}
 
 never-zero : (x : ℕ) → within 32 126 x ≡ true → x ≡ 0 → ⊥
 never-zero x h e = omega (arith, within-true 32 126 x h)
@@ -28,7 +27,7 @@ record Split (l : List ℕ) : Type 0 where
 zeros : (l : List ℕ) → allZero l ≡ true → l ≡ replicate (length l) 0
 zeros [] e = refl
 zeros (x ∷ l) e =
-    let p = both-true (eqb x 0) (allZero l) e in
+    let p = and-pass (eqb x 0) (allZero l) e in
     let z : x ≡ 0 = eqb-true x 0 (p .0) in
     let r : l ≡ replicate (length l) 0 = zeros l (p .1) in
     cc
@@ -78,7 +77,7 @@ text-then : (t : List ℕ) (n : ℕ) → allText t ≡ true → textThenZeros (t
 text-then [] zero e = refl
 text-then [] (suc n) e = all-zeros n
 text-then (x ∷ t) n e =
-    let p = both-true (within 32 126 x) (allText t) e in
+    let p = and-pass (within 32 126 x) (allText t) e in
     rw (p .0) (text-then t n (p .1))
 
 pub padded-text : (t : List ℕ) → isText t ≡ true → paddedText (padded t) ≡ true
@@ -86,5 +85,5 @@ unfolding paddedText
 padded-text [] e = absurd (omega (arith, text-is [] e .0))
 padded-text (x ∷ t) e =
     let f = text-is (x ∷ t) e in
-    let p = both-true (within 32 126 x) (allText t) (f .2) in
+    let p = and-pass (within 32 126 x) (allText t) (f .2) in
     rw (eq-eqb _ _ (padded-length (x ∷ t) (f .1)), p .0) (text-then t (10 - length (x ∷ t)) (p .1))

@@ -7,13 +7,12 @@ use Prim.Native.Nat.{ℕ, _≤_}
 use borrow.Author.Tests.{leb-true, ltb-true, eqb-true, le-leb, lt-ltb, eq-eqb}
 use lib.Dec.{eqb, leb, ltb}
 use Rattle.lists.specs.Logic.{within}
-use Rattle.lists.proofs.LogicLaws.{both-true, within-true, in-range}
+use Rattle.lists.proofs.LogicLaws.{and-pass, or-pass, pass-or, all-pass, in-range, within-true}
 use Rattle.clock.specs.Date.{isDate}
 use Rattle.field_types.specs.Stamps.{inStampRange}
 use Rattle.passage.specs.Layout.{missing, kept, keyOf, ownerOf, dateOf, lineOf, journeyOf, fortifyOf, stopOf, orderOf, destinationOf, stampOf, statusOf, arrivalOf, departureOf, stopTypeOf, showCancelledOf, flexibleOf, monitoredOf, heardOf}
 use Rattle.passage.specs.Ranges.{paddedText, keyInRange, timeInRange, timesInRange, commonInRange, isBit, updateInRange, planInRange, heardInRange, rowInRange}
 use Rattle.passage.specs.Facts.{KeyFacts, TimeFacts, CommonFacts, UpdateFacts, PlanFacts, RowFacts}
-use Rattle.passage.proofs.TestLaws.{all-pass, or-pass, pass-or}
 use Rattle.passage.proofs.FieldLaws.{key-of}
 
 -- ---- the key
@@ -46,7 +45,7 @@ time-facts : (misses stopType t : ℕ) → timeInRange (eqb stopType misses) t �
 time-facts misses stopType t e =
     ⊎-elim
     (λ p. inl (ltb-true t 115200 p))
-    (λ p. let q = both-true (eqb stopType misses) (eqb t missing) p in inr (eqb-true _ _ (q .0), eqb-true _ _ (q .1)))
+    (λ p. let q = and-pass (eqb stopType misses) (eqb t missing) p in inr (eqb-true _ _ (q .0), eqb-true _ _ (q .1)))
     (or-pass (ltb t 115200) (eqb stopType misses && eqb t missing) e)
 
 facts-time : (misses stopType t : ℕ) → TimeFacts misses stopType t → timeInRange (eqb stopType misses) t ≡ true
@@ -167,8 +166,8 @@ heard-facts : (heard stamp : ℕ) → heardInRange heard stamp ≡ true → Hear
 unfolding heardInRange
 heard-facts heard stamp e =
     ⊎-elim
-    (λ p. let q = both-true (eqb heard 0) (eqb stamp 0) p in inl (eqb-true _ _ (q .0), eqb-true _ _ (q .1)))
-    (λ p. let q = both-true (eqb heard 1) (inStampRange stamp) p in inr (eqb-true _ _ (q .0), q .1))
+    (λ p. let q = and-pass (eqb heard 0) (eqb stamp 0) p in inl (eqb-true _ _ (q .0), eqb-true _ _ (q .1)))
+    (λ p. let q = and-pass (eqb heard 1) (inStampRange stamp) p in inr (eqb-true _ _ (q .0), q .1))
     (or-pass (eqb heard 0 && eqb stamp 0) (eqb heard 1 && inStampRange stamp) e)
 
 facts-heard : (heard stamp : ℕ) → Heard heard stamp → heardInRange heard stamp ≡ true

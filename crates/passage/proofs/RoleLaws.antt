@@ -13,13 +13,12 @@ use lib.Seq.{drop-cons, drop-drop, getD-drop, getD-take, length-take-le}
 use mir.Val.{boolByte}
 use Rattle.lists.specs.Logic.{on, within}
 use Rattle.lists.specs.Part.{part}
-use Rattle.lists.proofs.LogicLaws.{bool-most}
+use Rattle.lists.proofs.LogicLaws.{and-false, and-true, and-assoc, bool-most}
 use Rattle.lists.proofs.PartLaws.{part-part}
 use Rattle.clock.proofs.BelowLaws.{below-at}
 use Rattle.passage.specs.Layout.{text-wide, date-wide, journey-wide, order-wide, owner-at, line-at, stop-at, destination-at, stamp-at, body-wide}
 use Rattle.passage.specs.Ranges.{allZero, textThenZeros, paddedText}
-use Rattle.passage.specs.Roles.{roleIn, textRoles, roles-wide, roles, breaksText, textsPadded}
-use Rattle.passage.proofs.TestLaws.{and-assoc, and-last, and-none}
+use Rattle.passage.specs.inner.Roles.{roleIn, textRoles, roles-wide, roles, breaksText, textsPadded}
 
 -- no byte breaks its text: the roles, and the bytes from the first role's byte on
 unfoldable pub clean : List ℕ → List ℕ → Bool
@@ -37,7 +36,7 @@ clean-append (k ∷ ks) ms l =
 clean-none : (n : ℕ) (l : List ℕ) → clean (replicate n 0) l ≡ true
 unfolding clean breaksText
 clean-none zero l = refl
-clean-none (suc n) l = rw (and-none (not (within 32 126 (getD l 0 0)))) (clean-none n (drop 1 l))
+clean-none (suc n) l = rw (and-false (not (within 32 126 (getD l 0 0)))) (clean-none n (drop 1 l))
 
 -- ---- one text
 
@@ -126,7 +125,7 @@ text-last s at g h =
       drop-drop text-wide at s,
       clean-none g (drop (at + text-wide) s),
     )
-    (and-last (paddedText (take text-wide (drop at s))))
+    (and-true (paddedText (take text-wide (drop at s))))
 
 module _ (s : List ℕ) (at : ℕ) (fits : at + body-wide ≤ length s) where
   pub texts-start : clean roles (drop (at + owner-at) s) ≡ textsPadded (part at body-wide s)
@@ -149,8 +148,8 @@ module _ (s : List ℕ) (at : ℕ) (fits : at + body-wide ≤ length s) where
 -- ---- a reader of the roles: how many bytes break their texts so far, and what is left
 
 still-none : (bad : ℕ) (t : Bool) → eqb (bad + boolByte t) 0 ≡ eqb bad 0 && not t
-still-none bad true = rw (ne-eqb (bad + 1) 0 (λ e. omega arith)) (sym (and-none (eqb bad 0)))
-still-none bad false = rw add-zero (sym (and-last (eqb bad 0)))
+still-none bad true = rw (ne-eqb (bad + 1) 0 (λ e. omega arith)) (sym (and-false (eqb bad 0)))
+still-none bad false = rw add-zero (sym (and-true (eqb bad 0)))
 
 pub texts-turn :
     (ks s : List ℕ) (at bad i : ℕ) → i < length ks
@@ -164,4 +163,4 @@ texts-turn ks s at bad i h =
 
 pub texts-end : (l : List ℕ) (bad : ℕ) → eqb bad 0 && clean [] l ≡ eqb bad 0
 unfolding clean
-texts-end l bad = and-last (eqb bad 0)
+texts-end l bad = and-true (eqb bad 0)

@@ -50,11 +50,6 @@ commonInRange b =
     && paddedText (destinationOf b)
     && timesInRange (stopTypeOf b) (arrivalOf b) (departureOf b)
 
--- that of each of these
-unfoldable pub allCommon : List (List ℕ) → Bool
-allCommon [] = true
-allCommon (b ∷ bs) = commonInRange b && allCommon bs
-
 -- 0 or 1
 abbrev pub isBit : ℕ → Bool
 isBit n = leb n 1

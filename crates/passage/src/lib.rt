@@ -1,4 +1,5 @@
-// How a passage lies in bytes, and whether what update, plan entry and row have in common is in range.
+// How a passage lies in bytes, and whether an update's body, a plan entry's and a row of the table are in range. What they have in common is tested first, all rows
+// in one loop; then each by itself.
 ghost use mathlib.Core.Path.{_≡_};
 ghost use mathlib.Core.Bool.{true};
 ghost use mathlib.Core.List.{map};
@@ -9,8 +10,8 @@ ghost use Rattle.lists.specs.Rows.{rowsOf};
 ghost use Rattle.lists.specs.BigEndian.{number};
 ghost use Rattle.clock.specs.Date.{isDate};
 ghost use Rattle.passage.specs.Layout.{date-at, date-wide, body-wide, row-wide};
-ghost use Rattle.passage.specs.Roles.{roleIn, roles-wide, roles, breaksText, textsPadded};
-ghost use Rattle.passage.specs.Ranges.{timesInRange, commonInRange, allCommon, updateInRange, planInRange, heardInRange, rowInRange};
+ghost use Rattle.passage.specs.inner.Roles.{roleIn, roles-wide, roles, breaksText, textsPadded, allCommon};
+ghost use Rattle.passage.specs.Ranges.{timesInRange, commonInRange, updateInRange, planInRange, heardInRange, rowInRange};
 
 // Widths of fields.
 pub const TEXT_WIDE: usize = 10;
@@ -103,15 +104,15 @@ fn breaks(role: u8, b: u8, next: u8) -> bool
 }
 
 // Whether the four texts of the body from `at` on are padded texts. No branch in the loop, and a count that fits a byte: it becomes vector instructions.
-fn texts_at(s: &[u8], at: usize) -> bool
-    requires { ⌜ at + body-wide ≤ length (now s) ⌝ }
-    ensures { λ r. ⌜ r ≡ textsPadded (part at body-wide (now (s .entry))) ⌝ }
+fn texts_at(bytes: &[u8], at: usize) -> bool
+    requires { ⌜ at + body-wide ≤ length (now bytes) ⌝ }
+    ensures { λ r. ⌜ r ≡ textsPadded (part at body-wide (now (bytes .entry))) ⌝ }
 {
     let mut bad: u8 = 0;
     let mut i = 0;
     while i < ROLES_WIDE {
-        let b = s[at + i];
-        let next = s[at + i + 1];
+        let b = bytes[at + i];
+        let next = bytes[at + i + 1];
         bad += breaks(role(i), b, next) as u8;
         i += 1;
     }
@@ -139,38 +140,38 @@ fn is_date_beside(date: u32, known: u32) -> bool
 }
 
 // Whether what update, plan entry and row have in common is in range, from `at` on.
-fn common_at(s: &[u8], at: usize, date: u32, known: u32) -> bool
-    requires { ⌜ at + body-wide ≤ length (now s) ⌝ }
-    requires { ⌜ (date ≡ number (part (at + date-at) date-wide (now s))) × (isDate known ≡ true) ⌝ }
-    ensures { λ r. ⌜ r ≡ commonInRange (part at body-wide (now (s .entry))) ⌝ }
+fn common_at(bytes: &[u8], at: usize, date: u32, known: u32) -> bool
+    requires { ⌜ at + body-wide ≤ length (now bytes) ⌝ }
+    requires { ⌜ (date ≡ number (part (at + date-at) date-wide (now bytes))) × (isDate known ≡ true) ⌝ }
+    ensures { λ r. ⌜ r ≡ commonInRange (part at body-wide (now (bytes .entry))) ⌝ }
 {
-    let journey = lists::get_number(s, at + JOURNEY_AT, JOURNEY_WIDE);
-    let order = lists::get_number(s, at + ORDER_AT, ORDER_WIDE);
-    let arrival = lists::get_number(s, at + ARRIVAL_AT, TIME_WIDE);
-    let departure = lists::get_number(s, at + DEPARTURE_AT, TIME_WIDE);
-    texts_at(s, at)
+    let journey = lists::get_number(bytes, at + JOURNEY_AT, JOURNEY_WIDE);
+    let order = lists::get_number(bytes, at + ORDER_AT, ORDER_WIDE);
+    let arrival = lists::get_number(bytes, at + ARRIVAL_AT, TIME_WIDE);
+    let departure = lists::get_number(bytes, at + DEPARTURE_AT, TIME_WIDE);
+    texts_at(bytes, at)
         & is_date_beside(date, known)
         & (journey < 1000000)
-        & (s[at + FORTIFY_AT] < 100)
+        & (bytes[at + FORTIFY_AT] < 100)
         & (order < 1000)
-        & times_in_range(s[at + STOP_TYPE_AT], arrival, departure)
+        & times_in_range(bytes[at + STOP_TYPE_AT], arrival, departure)
 }
 
-// Whether what update, plan entry and row have in common is in range in each of n rows of w bytes, in the body from `off` on. One loop for all three, so that the
+// Whether what update, plan entry and row have in common is in range in each of `count` rows of `width` bytes, in the body from `offset` on. One loop for all three, so that the
 // compiler keeps what the texts are tested against in registers.
-pub fn all_common(s: &[u8], at: usize, w: usize, off: usize, n: usize) -> bool
-    requires { ⌜ (at + n * w ≤ length (now s)) × (off + body-wide ≤ w) ⌝ }
-    ensures { λ r. ⌜ r ≡ allCommon (map (part off body-wide) (rowsOf w n (drop at (now (s .entry))))) ⌝ }
+pub fn all_common(bytes: &[u8], at: usize, width: usize, offset: usize, count: usize) -> bool
+    requires { ⌜ (at + count * width ≤ length (now bytes)) × (offset + body-wide ≤ width) ⌝ }
+    ensures { λ r. ⌜ r ≡ allCommon (map (part offset body-wide) (rowsOf width count (drop at (now (bytes .entry))))) ⌝ }
 {
     let mut known: u32 = 20000101;
     let mut p = at;
     let mut i = 0;
-    while i < n {
-        let q = p + off;
-        let date = lists::get_number(s, q + DATE_AT, DATE_WIDE);
-        if common_at(s, q, date, known) {
+    while i < count {
+        let q = p + offset;
+        let date = lists::get_number(bytes, q + DATE_AT, DATE_WIDE);
+        if common_at(bytes, q, date, known) {
             known = date;
-            p += w;
+            p += width;
             i += 1;
         } else {
             return false;
@@ -179,37 +180,37 @@ pub fn all_common(s: &[u8], at: usize, w: usize, off: usize, n: usize) -> bool
     true
 }
 
-// ---- Whether an update's body, a plan entry's and a row of the table are in range. What they have in common is tested before, all rows in one loop: see `passage`, which also has the rules.
+// ---- each by itself
 
 // Whether an update's body stands from `at` on, every field in its range, where what is common is.
-pub fn update_in_range(s: &[u8], at: usize) -> bool
-    requires { ⌜ at + body-wide ≤ length (now s) ⌝ }
-    requires { ⌜ commonInRange (part at body-wide (now s)) ≡ true ⌝ }
-    ensures { λ r. ⌜ r ≡ updateInRange (part at body-wide (now (s .entry))) ⌝ }
+pub fn update_in_range(bytes: &[u8], at: usize) -> bool
+    requires { ⌜ at + body-wide ≤ length (now bytes) ⌝ }
+    requires { ⌜ commonInRange (part at body-wide (now bytes)) ≡ true ⌝ }
+    ensures { λ r. ⌜ r ≡ updateInRange (part at body-wide (now (bytes .entry))) ⌝ }
 {
-    let stamp = lists::get_number(s, at + STAMP_AT, STAMP_WIDE);
-    let show = s[at + SHOW_CANCELLED_AT];
-    let flexible = s[at + FLEXIBLE_AT];
-    let monitored = s[at + MONITORED_AT];
+    let stamp = lists::get_number(bytes, at + STAMP_AT, STAMP_WIDE);
+    let show = bytes[at + SHOW_CANCELLED_AT];
+    let flexible = bytes[at + FLEXIBLE_AT];
+    let monitored = bytes[at + MONITORED_AT];
     field_types::in_stamp_range(stamp)
-        & (s[at + STATUS_AT] <= 5)
+        & (bytes[at + STATUS_AT] <= 5)
         & ((show <= 1) | (show == KEPT))
         & ((1 <= flexible) & (flexible <= 3) | (flexible == KEPT))
         & ((monitored <= 1) | (monitored == KEPT))
 }
 
 // Whether a plan entry's body stands from `at` on, every field in its range, where what is common is.
-pub fn plan_in_range(s: &[u8], at: usize) -> bool
-    requires { ⌜ at + body-wide ≤ length (now s) ⌝ }
-    requires { ⌜ commonInRange (part at body-wide (now s)) ≡ true ⌝ }
-    ensures { λ r. ⌜ r ≡ planInRange (part at body-wide (now (s .entry))) ⌝ }
+pub fn plan_in_range(bytes: &[u8], at: usize) -> bool
+    requires { ⌜ at + body-wide ≤ length (now bytes) ⌝ }
+    requires { ⌜ commonInRange (part at body-wide (now bytes)) ≡ true ⌝ }
+    ensures { λ r. ⌜ r ≡ planInRange (part at body-wide (now (bytes .entry))) ⌝ }
 {
-    let stamp = lists::get_number(s, at + STAMP_AT, STAMP_WIDE);
+    let stamp = lists::get_number(bytes, at + STAMP_AT, STAMP_WIDE);
     (stamp == 0)
-        & (s[at + STATUS_AT] == 0)
-        & (s[at + SHOW_CANCELLED_AT] == 1)
-        & (s[at + FLEXIBLE_AT] <= 3)
-        & (s[at + MONITORED_AT] == 0)
+        & (bytes[at + STATUS_AT] == 0)
+        & (bytes[at + SHOW_CANCELLED_AT] == 1)
+        & (bytes[at + FLEXIBLE_AT] <= 3)
+        & (bytes[at + MONITORED_AT] == 0)
 }
 
 // Whether heard and timestamp go together.
@@ -220,15 +221,15 @@ fn heard_in_range(heard: u8, stamp: u32) -> bool
 }
 
 // Whether a row stands from `at` on, every field in its range, where what is common is.
-pub fn row_in_range(s: &[u8], at: usize) -> bool
-    requires { ⌜ at + row-wide ≤ length (now s) ⌝ }
-    requires { ⌜ commonInRange (part at body-wide (now s)) ≡ true ⌝ }
-    ensures { λ r. ⌜ r ≡ rowInRange (part at row-wide (now (s .entry))) ⌝ }
+pub fn row_in_range(bytes: &[u8], at: usize) -> bool
+    requires { ⌜ at + row-wide ≤ length (now bytes) ⌝ }
+    requires { ⌜ commonInRange (part at body-wide (now bytes)) ≡ true ⌝ }
+    ensures { λ r. ⌜ r ≡ rowInRange (part at row-wide (now (bytes .entry))) ⌝ }
 {
-    let stamp = lists::get_number(s, at + STAMP_AT, STAMP_WIDE);
-    heard_in_range(s[at + HEARD_AT], stamp)
-        & (s[at + STATUS_AT] <= 5)
-        & (s[at + SHOW_CANCELLED_AT] <= 1)
-        & (s[at + FLEXIBLE_AT] <= 3)
-        & (s[at + MONITORED_AT] <= 1)
+    let stamp = lists::get_number(bytes, at + STAMP_AT, STAMP_WIDE);
+    heard_in_range(bytes[at + HEARD_AT], stamp)
+        & (bytes[at + STATUS_AT] <= 5)
+        & (bytes[at + SHOW_CANCELLED_AT] <= 1)
+        & (bytes[at + FLEXIBLE_AT] <= 3)
+        & (bytes[at + MONITORED_AT] <= 1)
 }

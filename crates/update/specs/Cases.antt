@@ -1,11 +1,20 @@
--- The row rule run on small examples. Assumes nothing.
+-- Statuses, optionals and the row rule run on small examples. Assumes nothing.
 use mathlib.Core.Path.{_≡_, refl}
 use mathlib.Core.List.{List, [], _∷_, _++_}
 use Prim.Native.Nat.{ℕ}
 use lib.ListN.{replicate}
-use Rattle.passage.specs.Layout.{stamp-at, kept}
-use Rattle.update.specs.Moves.{table17, mayMove}
+use Rattle.passage.specs.Layout.{kept, stamp-at}
+use Rattle.update.specs.Moves.{table17, mayMove, statusAfter, keeps}
 use Rattle.update.specs.Rule.{applyRow, beginning, rowRule}
+
+-- ARRIVED then DRIVING stays ARRIVED, PASSED then ARRIVED is ARRIVED, CANCEL then PLANNED is PLANNED, PASSED then CANCEL stays PASSED
+status-case : (statusAfter 4 3 ≡ 4) × (statusAfter 5 4 ≡ 4) × (statusAfter 1 0 ≡ 0) × (statusAfter 5 1 ≡ 5)
+unfolding mayMove table17
+status-case = (refl, refl, refl, refl)
+
+-- 255 keeps what is held
+keeps-case : (keeps 2 kept ≡ 2) × (keeps 2 0 ≡ 0)
+keeps-case = (refl, refl)
 
 -- bytes x up to the status, which is s; then times y, a stop type z, and the rest
 of : ℕ → ℕ → ℕ → ℕ → List ℕ → List ℕ

@@ -1,14 +1,39 @@
--- What is claimed of the row rule, for a held row h, [] for none, and an update u. Assumes nothing.
+-- What is claimed of statuses and of the row rule, for a held row h, [] for none, and an update u. Assumes nothing.
 use mathlib.Core.Path.{_≡_}
-use mathlib.Core.Bool.{true}
-use mathlib.Core.List.{List, []}
+use mathlib.Core.Bool.{Bool, true, false}
+use mathlib.Core.List.{List, [], _∷_}
 use mathlib.Core.Logic.{_⊎_}
 use Prim.Native.Nat.{ℕ}
-use lib.ListN.{length}
+use lib.ListN.{getD, length}
 use Rattle.passage.specs.Layout.{body-wide, row-wide, keyOf, destinationOf, stampOf, statusOf, arrivalOf, departureOf, stopTypeOf, showCancelledOf, flexibleOf, monitoredOf, heardOf}
 use Rattle.passage.specs.Ranges.{updateInRange, rowInRange}
-use Rattle.update.specs.Moves.{statusAfter, keeps}
+use Rattle.update.specs.Moves.{mayMove, statusAfter, keeps}
 use Rattle.update.specs.Rule.{begun, rowRule}
+
+-- ---- statuses
+
+abbrev J : Bool
+J = true
+
+abbrev N : Bool
+N = false
+
+-- From and to PLANNED, CANCEL, UNKNOWN, DRIVING, ARRIVED, PASSED: where the status moves.
+abbrev pub moves : List (List Bool)
+moves =
+    (N ∷ J ∷ J ∷ J ∷ J ∷ J ∷ [])
+    ∷ (J ∷ J ∷ N ∷ J ∷ J ∷ J ∷ [])
+    ∷ (N ∷ J ∷ J ∷ J ∷ J ∷ J ∷ [])
+    ∷ (N ∷ J ∷ J ∷ J ∷ J ∷ J ∷ [])
+    ∷ (N ∷ J ∷ J ∷ N ∷ J ∷ J ∷ [])
+    ∷ (N ∷ N ∷ N ∷ N ∷ J ∷ J ∷ [])
+    ∷ []
+
+-- The status moves where that table has J, and nowhere else, whatever two numbers are asked.
+abbrev pub MovesByTable : Type 0
+MovesByTable = (held said : ℕ) → mayMove held said ≡ getD (getD moves held []) said N
+
+-- ---- the row rule
 
 -- The update changes no key: the row that it makes has the update's.
 abbrev pub KeepsKey : Type 0
@@ -74,7 +99,8 @@ ArrivedStays =
 -- All of them.
 abbrev pub All : Type 0
 All =
-    KeepsKey
+    MovesByTable
+    × KeepsKey
     × RowWide
     × Heard
     × ReplacesRest

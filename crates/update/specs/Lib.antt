@@ -1,6 +1,4 @@
+pub mod Moves
 pub mod Rule
 pub mod Claims
 pub mod Cases
-pub mod Moves
-pub mod MovesClaims
-pub mod MovesCases

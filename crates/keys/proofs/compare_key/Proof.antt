@@ -23,7 +23,7 @@ abbrev μ-loop : tie.MeasureT-loop
 loop-holds : tie.Need-loop-holds Inv-loop μ-loop
 loop-holds c =
     let s = c .before .before .args in
-    (search needs, cmp-begin (s .a .now) (s .b .now) (s .p) (s .q) key-wide)
+    (search needs, cmp-begin (s .left .now) (s .right .now) (s .here) (s .there) key-wide)
 
 mul-word-at : tie.Need-mul-word-at Inv-loop μ-loop
 mul-word-at c = search needs
@@ -50,16 +50,16 @@ module _ (c : tie.After-word-at2 Inv-loop μ-loop) where
   known = c .before .before .before .before
 
   abbrev a : List ℕ
-  a = known .before .before .args .a .now
+  a = known .before .before .args .left .now
 
   abbrev b : List ℕ
-  b = known .before .before .args .b .now
+  b = known .before .before .args .right .now
 
   abbrev p : ℕ
-  p = known .before .before .args .p
+  p = known .before .before .args .here
 
   abbrev q : ℕ
-  q = known .before .before .args .q
+  q = known .before .before .args .there
 
   abbrev at : ℕ
   at = c .before .before .before .loop .i * 8
@@ -119,7 +119,7 @@ returns-3 : tie.Need-returns-3 Inv-loop μ-loop
 returns-3 c =
     let s = c .before .before .before .before .before .before .before .args in
     let l = c .before .before .before .before .loop in
-    c .compare-last .ensures ∙ sym (l .inv .1 ∙ last-byte (s .a .now) (s .b .now) (s .p) (s .q) key-wide (l .i * 8) 40 (omega arith) (omega arith) (omega arith) refl)
+    c .compare-last .ensures ∙ sym (l .inv .1 ∙ last-byte (s .left .now) (s .right .now) (s .here) (s .there) key-wide (l .i * 8) 40 (omega arith) (omega arith) (omega arith) refl)
 
 pub compare-key-spec : {M : Type 1} → statement M
 compare-key-spec =

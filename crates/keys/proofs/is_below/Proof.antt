@@ -26,7 +26,7 @@ abbrev μ-loop : tie.MeasureT-loop
 loop-holds : tie.Need-loop-holds Inv-loop μ-loop
 loop-holds c =
     let s = c .before .before .args in
-    (search needs, ap isLess (sym (cmp-begin (s .a .now) (s .b .now) (s .p) (s .q) key-wide)))
+    (search needs, ap isLess (sym (cmp-begin (s .left .now) (s .right .now) (s .here) (s .there) key-wide)))
 
 mul-word-at : tie.Need-mul-word-at Inv-loop μ-loop
 mul-word-at c = search needs
@@ -60,9 +60,9 @@ loop-again c =
     let e : (l .loop .word + 1) * 8 ≡ l .loop .word * 8 + 8 = omega arith in (
       omega arith,
       rw e
-          (below-turn (s .a .now) (s .b .now) (s .p) (s .q) key-wide (l .loop .word * 8) 8 (omega arith) (omega arith) (omega arith)
-          (bytes-known (s .a .now) (λ (i : ℕ). omega (arith, k .before .shared-slice-known .given i)))
-          (bytes-known (s .b .now) (λ (i : ℕ). omega (arith, k .shared-slice-known2 .given i)))
+          (below-turn (s .left .now) (s .right .now) (s .here) (s .there) key-wide (l .loop .word * 8) 8 (omega arith) (omega arith) (omega arith)
+          (bytes-known (s .left .now) (λ (i : ℕ). omega (arith, k .before .shared-slice-known .given i)))
+          (bytes-known (s .right .now) (λ (i : ℕ). omega (arith, k .shared-slice-known2 .given i)))
           _ _ (c .before .word-at .ensures) (c .word-at2 .ensures) (l .loop .below) (l .loop .equal)
           ∙ l .loop .inv .1),
     )
@@ -83,7 +83,7 @@ returns : tie.Need-returns Inv-loop μ-loop
 returns c =
     let l = c .before .before .before in
     let s = l .before .before .before .args in
-    let e = last-below (s .a .now) (s .b .now) (s .p) (s .q) key-wide (l .loop .word * 8) 40 (omega arith) (omega arith) (omega arith) refl in
+    let e = last-below (s .left .now) (s .right .now) (s .here) (s .there) key-wide (l .loop .word * 8) 40 (omega arith) (omega arith) (omega arith) refl in
     ap (λ (t : Bool). l .loop .below || l .loop .equal && t) (sym e) ∙ l .loop .inv .1
 
 pub is-below-spec : {M : Type 1} → statement M

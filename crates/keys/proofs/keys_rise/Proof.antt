@@ -1,10 +1,10 @@
+use mathlib.Core.Bool.{_&&_}
 use mathlib.Core.Path.{_≡_, sym, _∙_}
 use mathlib.Core.List.{map}
 use Prim.Native.Nat.{_+_, _*_, _-_, _≤_}
 use native.Mathlib.Omega.{arith}
 use borrow.Author.Needs.{needs}
 use lib.ListN.{length}
-use Rattle.lists.specs.Logic.{both}
 use Rattle.lists.specs.Part.{part}
 use Rattle.lists.specs.Rows.{rowsOf}
 use Rattle.passage.proofs.StepLaws.{next-row}
@@ -20,19 +20,19 @@ abbrev μ-loop : tie.MeasureT-loop
 μ-loop s w off n p₀ row₀ p row = n - row
 
 loop-holds : tie.Need-loop-holds Inv-loop μ-loop
-loop-holds c = let a = c .before .args in (omega arith, omega arith, sym (rise-start (a .w) (a .off) (a .n) (a .s .now)))
+loop-holds c = let a = c .before .args in (omega arith, omega arith, sym (rise-start (a .width) (a .offset) (a .count) (a .bytes .now)))
 
 add-loop : tie.Need-add-loop Inv-loop μ-loop
 add-loop c =
     let a = c .before .before .args in
-    let f = count-fits (a .w) (a .n) (omega arith) in
+    let f = count-fits (a .width) (a .count) (omega arith) in
     omega (arith, c .before .before .pre .0)
 
 -- the next row lies within the list
-fit : (c : tie.In-loop Inv-loop μ-loop) → let a = c .before .before .before .args in c .before .loop .row * a .w + a .w + a .w ≤ length (a .s .now)
+fit : (c : tie.In-loop Inv-loop μ-loop) → let a = c .before .before .before .args in c .before .loop .row * a .width + a .width + a .width ≤ length (a .bytes .now)
 fit c =
     let a = c .before .before .before .args in
-    rise-fits (a .w) (a .off) (a .n) (a .s .now) (c .before .loop .row) (c .loop-test .taken) (c .before .before .before .pre .0)
+    rise-fits (a .width) (a .offset) (a .count) (a .bytes .now) (c .before .loop .row) (c .loop-test .taken) (c .before .before .before .pre .0)
 
 add-is-below : tie.Need-add-is-below Inv-loop μ-loop
 add-is-below c = omega (arith, fit c, c .before .loop .inv .1)
@@ -52,20 +52,20 @@ loop-less c = search needs
 -- in a turn: the two keys decide, or else the rest
 step : (c : tie.After-is-below Inv-loop μ-loop) →
     let a = c .before .before .before .before .args in
-    sortedRows (map (part (a .off) (a .w - a .off)) (rowsOf (a .w) (a .n) (a .s .now)))
-    ≡ both (c .is-below .result) (sortedRows (left (a .w) (a .off) (a .n) (a .s .now) (c .before .before .loop .row + 1)))
+    sortedRows (map (part (a .offset) (a .width - a .offset)) (rowsOf (a .width) (a .count) (a .bytes .now)))
+    ≡ (c .is-below .result && sortedRows (left (a .width) (a .offset) (a .count) (a .bytes .now) (c .before .before .loop .row + 1)))
 step c =
     let a = c .before .before .before .before .args in
     let l = c .before .before .loop in
     l .inv .2
-    ∙ rise-step (a .w) (a .off) (a .n) (a .s .now) (l .row) (c .before .loop-test .taken) (c .before .before .before .before .pre .1)
+    ∙ rise-step (a .width) (a .offset) (a .count) (a .bytes .now) (l .row) (c .before .loop-test .taken) (c .before .before .before .before .pre .1)
     ∙ rw (c .is-below .ensures, l .inv .1)
 
 loop-again : tie.Need-loop-again Inv-loop μ-loop
 loop-again c =
     let l = c .before .before .before .loop in
     let a = c .before .before .before .before .before .args in
-    (omega arith, rw (next-row (a .w) (l .row)) (omega (arith, l .inv .1)), step (c .before) ∙ rw (c .if1 .taken))
+    (omega arith, rw (next-row (a .width) (l .row)) (omega (arith, l .inv .1)), step (c .before) ∙ rw (c .if1 .taken))
 
 returns : tie.Need-returns Inv-loop μ-loop
 returns c = sym (step (c .before) ∙ rw (c .if1 .left))
@@ -74,7 +74,7 @@ returns-2 : tie.Need-returns-2 Inv-loop μ-loop
 returns-2 c =
     let a = c .before .before .before .args in
     let l = c .before .loop in
-    sym (l .inv .2 ∙ rise-end (a .w) (a .off) (a .n) (a .s .now) (l .row) (c .loop-test .left))
+    sym (l .inv .2 ∙ rise-end (a .width) (a .offset) (a .count) (a .bytes .now) (l .row) (c .loop-test .left))
 
 pub keys-rise-spec : {M : Type 1} → statement M
 keys-rise-spec =

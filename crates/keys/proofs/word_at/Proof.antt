@@ -57,7 +57,7 @@ add-high-5 : tie.Need-add-high-5
 add-high-5 c = omega (arith, c .shared-slice-known4 .given (c .before .before .before .before .args .at + 2), c .shared-slice-known4 .given (c .before .before .before .before .args .at + 3))
 
 add-high-6 : tie.Need-add-high-6
-add-high-6 c = let a = c .before .before .before .before .args in high-fits (a .at) (a .s .now) (c .shared-slice-known4 .given)
+add-high-6 c = let a = c .before .before .before .before .args in high-fits (a .at) (a .bytes .now) (c .shared-slice-known4 .given)
 
 add-low : tie.Need-add-low
 add-low c = search needs
@@ -108,18 +108,18 @@ cast-low-4 : tie.Need-cast-low-4
 cast-low-4 c = omega (arith, c .shared-slice-known8 .given (c .before .before .before .before .before .before .before .before .args .at + 7))
 
 add-low-6 : tie.Need-add-low-6
-add-low-6 c = let a = c .before .before .before .before .before .before .before .before .args in end-fits (a .at) (a .s .now) (c .shared-slice-known8 .given)
+add-low-6 c = let a = c .before .before .before .before .before .before .before .before .args in end-fits (a .at) (a .bytes .now) (c .shared-slice-known8 .given)
 
 add-low-7 : tie.Need-add-low-7
-add-low-7 c = let a = c .before .before .before .before .before .before .before .before .args in low-fits (a .at) (a .s .now) (c .shared-slice-known8 .given)
+add-low-7 c = let a = c .before .before .before .before .before .before .before .before .args in low-fits (a .at) (a .bytes .now) (c .shared-slice-known8 .given)
 
 add-result : tie.Need-add-result
-add-result c = let a = c .before .before .before .before .before .before .before .before .args in word-fits (a .at) (a .s .now) (c .shared-slice-known8 .given)
+add-result c = let a = c .before .before .before .before .before .before .before .before .args in word-fits (a .at) (a .bytes .now) (c .shared-slice-known8 .given)
 
 returns : tie.Need-returns
 returns c =
     let a = c .before .before .before .before .before .before .before .before .args in
-    word-is (a .at) (a .s .now) (search needs)
+    word-is (a .at) (a .bytes .now) (search needs)
 
 pub word-at-spec : {M : Type 1} → statement M
 word-at-spec =

@@ -9,11 +9,11 @@ use Rattle.lists.specs.Part.{part}
 use Rattle.lists.specs.Rows.{rowsOf}
 use Rattle.clock.specs.Date.{isDate}
 use Rattle.passage.specs.Layout.{body-wide}
-use Rattle.passage.specs.Ranges.{allCommon}
 use Rattle.passage.proofs.StepLaws.{next-row, row-fits}
 use Rattle.passage.proofs.CommonLaws.{left, first-date, common-start, common-end, common-step, common-date}
 use Rattle.passage.proofs.all_common.Statement.{statement}
 use Rattle.passage.proofs.all_common.Tie as tie
+use Rattle.passage.specs.inner.Roles.{allCommon}
 
 abbrev Inv-loop : tie.InvT-loop
 Inv-loop s at w off n known₀ p₀ i₀ known p i =
@@ -23,13 +23,13 @@ abbrev μ-loop : tie.MeasureT-loop
 μ-loop s at w off n known₀ p₀ i₀ known p i = n - i
 
 loop-holds : tie.Need-loop-holds Inv-loop μ-loop
-loop-holds c = let a = c .before .args in (omega arith, first-date, omega arith, common-start (a .w) (a .off) (a .n) (a .at) (a .s .now))
+loop-holds c = let a = c .before .args in (omega arith, first-date, omega arith, common-start (a .width) (a .offset) (a .count) (a .at) (a .bytes .now))
 
 -- the row lies within the list
-fit : (c : tie.In-loop Inv-loop μ-loop) → let a = c .before .before .before .args in a .at + c .before .loop .i * a .w + a .w ≤ length (a .s .now)
+fit : (c : tie.In-loop Inv-loop μ-loop) → let a = c .before .before .before .args in a .at + c .before .loop .i * a .width + a .width ≤ length (a .bytes .now)
 fit c =
     let a = c .before .before .before .args in
-    row-fits (a .w) (a .n) (c .before .loop .i) (a .at) (length (a .s .now)) (c .loop-test .taken) (c .before .before .before .pre .0)
+    row-fits (a .width) (a .count) (c .before .loop .i) (a .at) (length (a .bytes .now)) (c .loop-test .taken) (c .before .before .before .pre .0)
 
 add-q : tie.Need-add-q Inv-loop μ-loop
 add-q c = omega (arith, fit c, c .before .loop .inv .2)
@@ -56,13 +56,13 @@ loop-less c = search needs
 -- in a turn: the row decides, or else the rest
 step : (c : tie.After-common-at Inv-loop μ-loop) →
     let a = c .before .before .before .before .before .args in
-    allCommon (map (part (a .off) body-wide) (rowsOf (a .w) (a .n) (drop (a .at) (a .s .now))))
-    ≡ (c .common-at .result && allCommon (left (a .w) (a .off) (a .n) (a .at) (a .s .now) (c .before .before .before .loop .i + 1)))
+    allCommon (map (part (a .offset) body-wide) (rowsOf (a .width) (a .count) (drop (a .at) (a .bytes .now))))
+    ≡ (c .common-at .result && allCommon (left (a .width) (a .offset) (a .count) (a .at) (a .bytes .now) (c .before .before .before .loop .i + 1)))
 step c =
     let a = c .before .before .before .before .before .args in
     let l = c .before .before .before .loop in
     l .inv .3
-    ∙ common-step (a .w) (a .off) (a .n) (a .at) (a .s .now) (l .i) (c .before .before .loop-test .taken) (c .before .before .before .before .before .pre .1)
+    ∙ common-step (a .width) (a .offset) (a .count) (a .at) (a .bytes .now) (l .i) (c .before .before .loop-test .taken) (c .before .before .before .before .before .pre .1)
     ∙ rw (c .common-at .ensures, l .inv .2)
 
 loop-again : tie.Need-loop-again Inv-loop μ-loop
@@ -70,8 +70,8 @@ loop-again c =
     let l = c .before .before .before .before .loop in
     let a = c .before .before .before .before .before .before .args in (
       omega arith,
-      rw (c .before .before .get-number .ensures) (common-date (l .p + a .off) (a .s .now) (sym (c .before .common-at .ensures) ∙ c .if1 .taken)),
-      rw (next-row (a .w) (l .i)) (omega (arith, l .inv .2)),
+      rw (c .before .before .get-number .ensures) (common-date (l .p + a .offset) (a .bytes .now) (sym (c .before .common-at .ensures) ∙ c .if1 .taken)),
+      rw (next-row (a .width) (l .i)) (omega (arith, l .inv .2)),
       step (c .before) ∙ rw (c .if1 .taken),
     )
 
@@ -82,7 +82,7 @@ returns-2 : tie.Need-returns-2 Inv-loop μ-loop
 returns-2 c =
     let a = c .before .before .before .args in
     let l = c .before .loop in
-    sym (l .inv .3 ∙ common-end (a .w) (a .off) (a .n) (a .at) (a .s .now) (l .i) (c .loop-test .left))
+    sym (l .inv .3 ∙ common-end (a .width) (a .offset) (a .count) (a .at) (a .bytes .now) (l .i) (c .loop-test .left))
 
 pub all-common-spec : {M : Type 1} → statement M
 all-common-spec =

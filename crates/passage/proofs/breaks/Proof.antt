@@ -1,5 +1,5 @@
 use mathlib.Core.Path.{refl}
-use Rattle.passage.specs.Roles.{breaksText}
+use Rattle.passage.specs.inner.Roles.{breaksText}
 use Rattle.passage.proofs.breaks.Statement.{statement}
 use Rattle.passage.proofs.breaks.Tie as tie
 

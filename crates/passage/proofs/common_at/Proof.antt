@@ -63,7 +63,7 @@ returns c =
       g .before .before .get-number2 .ensures,
       g .before .before .before .get-number .ensures,
     )
-    (sym (rw (← (b .pre .1 .0)) at (body-at (b .args .at) (b .args .s .now))))
+    (sym (rw (← (b .pre .1 .0)) at (body-at (b .args .at) (b .args .bytes .now))))
 
 pub common-at-spec : {M : Type 1} → statement M
 common-at-spec =

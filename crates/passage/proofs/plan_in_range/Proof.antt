@@ -1,6 +1,6 @@
 use mathlib.Core.Path.{sym}
 use borrow.Author.Needs.{needs}
-use Rattle.passage.proofs.RangesFieldLaws.{plan-at}
+use Rattle.passage.proofs.FieldLaws.{plan-at}
 use Rattle.passage.proofs.plan_in_range.Statement.{statement}
 use Rattle.passage.proofs.plan_in_range.Tie as tie
 
@@ -38,7 +38,7 @@ returns : tie.Need-returns
 returns c =
     let b = c .before .before .before .before .before .before in
     rw (c .before .before .before .before .get-number .ensures)
-    (sym (rw (b .pre .1) at (plan-at (b .args .at) (b .args .s .now))))
+    (sym (rw (b .pre .1) at (plan-at (b .args .at) (b .args .bytes .now))))
 
 pub plan-in-range-spec : {M : Type 1} → statement M
 plan-in-range-spec =

@@ -6,7 +6,7 @@ use borrow.Author.Needs.{needs}
 use lib.Dec.{eqb, leb, ltb}
 use Rattle.lists.proofs.LogicLaws.{bool-most}
 use Rattle.passage.specs.Layout.{text-wide}
-use Rattle.passage.specs.Roles.{roleIn}
+use Rattle.passage.specs.inner.Roles.{roleIn}
 use Rattle.passage.proofs.RoleLaws.{role-most}
 use Rattle.passage.proofs.role_in.Statement.{statement}
 use Rattle.passage.proofs.role_in.Tie as tie

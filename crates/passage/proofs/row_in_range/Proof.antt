@@ -1,6 +1,6 @@
 use mathlib.Core.Path.{sym}
 use borrow.Author.Needs.{needs}
-use Rattle.passage.proofs.RangesFieldLaws.{row-at}
+use Rattle.passage.proofs.FieldLaws.{row-at}
 use Rattle.passage.proofs.row_in_range.Statement.{statement}
 use Rattle.passage.proofs.row_in_range.Tie as tie
 
@@ -50,7 +50,7 @@ returns c =
       c .before .before .before .before .heard-in-range .ensures,
       c .before .before .before .before .before .before .get-number .ensures,
     )
-    (sym (rw (b .pre .1) at (row-at (b .args .at) (b .args .s .now))))
+    (sym (rw (b .pre .1) at (row-at (b .args .at) (b .args .bytes .now))))
 
 pub row-in-range-spec : {M : Type 1} → statement M
 row-in-range-spec =

@@ -8,7 +8,7 @@ use lib.ListN.{drop}
 use Rattle.lists.specs.Part.{part}
 use Rattle.lists.proofs.LogicLaws.{bool-most}
 use Rattle.passage.specs.Layout.{body-wide}
-use Rattle.passage.specs.Roles.{roles-wide, roles, textsPadded}
+use Rattle.passage.specs.inner.Roles.{roles-wide, roles, textsPadded}
 use Rattle.passage.proofs.RoleLaws.{clean, texts-start, texts-turn, texts-end}
 use Rattle.passage.proofs.texts_at.Statement.{statement}
 use Rattle.passage.proofs.texts_at.Tie as tie
@@ -64,7 +64,7 @@ loop-again c =
     let a = k .before .before .args in (
       omega (arith, bool-most (c .breaks .result)),
       omega arith,
-      rw (c .breaks .ensures, c .before .role .ensures) (texts-turn roles (a .s .now) (a .at) (l .bad) (l .i) (search needs) ∙ l .inv .2),
+      rw (c .breaks .ensures, c .before .role .ensures) (texts-turn roles (a .bytes .now) (a .at) (l .bad) (l .i) (search needs) ∙ l .inv .2),
     )
 
 returns : tie.Need-returns Inv-loop μ-loop

@@ -1,6 +1,6 @@
 use mathlib.Core.Path.{sym}
 use borrow.Author.Needs.{needs}
-use Rattle.passage.proofs.RangesFieldLaws.{update-at}
+use Rattle.passage.proofs.FieldLaws.{update-at}
 use Rattle.passage.proofs.update_in_range.Statement.{statement}
 use Rattle.passage.proofs.update_in_range.Tie as tie
 
@@ -44,7 +44,7 @@ returns c =
       c .before .in-stamp-range .ensures,
       c .before .before .before .before .before .get-number .ensures,
     )
-    (sym (rw (b .pre .1) at (update-at (b .args .at) (b .args .s .now))))
+    (sym (rw (b .pre .1) at (update-at (b .args .at) (b .args .bytes .now))))
 
 pub update-in-range-spec : {M : Type 1} → statement M
 update-in-range-spec =

@@ -4,17 +4,17 @@ use Rattle.update.proofs.ApplyLaws.{apply-writes}
 use Rattle.update.proofs.apply_row.Statement.{statement}
 use Rattle.update.proofs.apply_row.Tie as tie
 
+add-said : tie.Need-add-said
+add-said c = search needs
+
+shared-slice-read-said : tie.Need-shared-slice-read-said
+shared-slice-read-said c = search needs
+
 add-status-after : tie.Need-add-status-after
 add-status-after c = search needs
 
 slice-read-status-after : tie.Need-slice-read-status-after
 slice-read-status-after c = search needs
-
-add-status-after-2 : tie.Need-add-status-after-2
-add-status-after-2 c = search needs
-
-shared-slice-read-status-after : tie.Need-shared-slice-read-status-after
-shared-slice-read-status-after c = search needs
 
 status-after-requires : tie.Need-status-after-requires
 status-after-requires c κs = search needs
@@ -121,17 +121,17 @@ returns c =
     let flexible = c .before .before .before .before .before .before .before .before .kept-or2 in
     let monitored = c .before .before .before .before .before .kept-or3 in
     let copied = c .before .before .copy-to in
-    apply-writes (a .row .now) (a .u .now) (a .at) (a .p) (start .pre .1) (copied .last .0) (status .result) (show .result) (flexible .result) (monitored .result)
+    apply-writes (a .row .now) (a .bodies .now) (a .at) (a .from) (start .pre .1) (copied .last .0) (status .result) (show .result) (flexible .result) (monitored .result)
     (copied .ensures) (status .ensures) (show .ensures) (flexible .ensures) (monitored .ensures)
 
 pub apply-row-spec : {M : Type 1} → statement M
 apply-row-spec =
     tie.close
     (tie.spec
+    add-said
+    shared-slice-read-said
     add-status-after
     slice-read-status-after
-    add-status-after-2
-    shared-slice-read-status-after
     status-after-requires
     add-kept-or
     slice-read-kept-or

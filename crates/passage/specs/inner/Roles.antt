@@ -1,13 +1,13 @@
 -- The four texts of a body, and what a byte may be in its text. Assumes nothing.
 use Prim.Native.Nat.{ℕ, _+_, _-_}
-use mathlib.Core.Bool.{Bool, not, _&&_, _||_}
+use mathlib.Core.Bool.{Bool, true, not, _&&_, _||_}
 use mathlib.Core.List.{List, [], _∷_, _++_}
 use lib.Dec.{eqb, leb, ltb}
 use lib.ListN.{replicate}
 use mir.Val.{boolByte}
 use Rattle.lists.specs.Logic.{within}
 use Rattle.passage.specs.Layout.{text-wide, date-wide, journey-wide, order-wide, stamp-at, ownerOf, lineOf, stopOf, destinationOf}
-use Rattle.passage.specs.Ranges.{paddedText}
+use Rattle.passage.specs.Ranges.{paddedText, commonInRange}
 
 -- the roles of a text's n + 2 bytes: 1 the first, 2 one between, 3 the last
 abbrev pub textRoles : ℕ → List ℕ
@@ -43,3 +43,8 @@ breaksText role x y =
 -- each text of a body is a padded text
 unfoldable pub textsPadded : List ℕ → Bool
 textsPadded b = paddedText (ownerOf b) && paddedText (lineOf b) && paddedText (stopOf b) && paddedText (destinationOf b)
+
+-- what update, plan entry and row have in common is in range in each of these
+unfoldable pub allCommon : List (List ℕ) → Bool
+allCommon [] = true
+allCommon (b ∷ bs) = commonInRange b && allCommon bs
