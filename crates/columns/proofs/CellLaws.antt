@@ -5,13 +5,12 @@ use mathlib.Core.List.{List, [], _∷_}
 use Prim.Native.Nat.{ℕ, zero, suc, _-_, _<_}
 use native.Mathlib.Nat.{not-suc-le-zero}
 use native.Mathlib.Omega.{arith}
-use borrow.Author.Tests.{eqb-true}
-use lib.Dec.{eqb}
 use lib.ListN.{length, replicate}
+use Rattle.lists.specs.Part.{some}
 use Rattle.lists.specs.Logic.{on, within}
 use Rattle.lists.specs.Each.{Bytes}
 use Rattle.lists.specs.Text.{bytes, same}
-use Rattle.lists.proofs.LogicLaws.{both-true, within-true}
+use Rattle.lists.proofs.LogicLaws.{and-pass, within-true}
 use Rattle.lists.proofs.EachLaws.{each-append}
 use Rattle.lists.proofs.BigEndianLaws.{length-spelled, bytes-spelled}
 use Rattle.turbo.specs.Escape.{decode}
@@ -27,7 +26,9 @@ use Rattle.field_types.specs.Names as Names
 use Rattle.texts.specs.Texts.{allText}
 use Rattle.texts.specs.Texts as Texts
 use Rattle.texts.proofs.KeptLaws.{text-is, ok-is, kept-bytes, text-length}
-use Rattle.columns.specs.Cell.{text, date, journey, fortify, order, stamp, status, arrival, departure, stopType, bit, flexible, width, null, numberCell, timeCell, textCell, missing, timeAt, cell, some}
+use Rattle.columns.specs.declared.Kind.{Kind}
+use Rattle.columns.specs.declared.Kind.the-variants as Kinds
+use Rattle.columns.specs.Cell.{width, null, numberCell, timeCell, textCell, missingTime, timeAt, cell}
 
 -- ---- something is kept, or nothing
 
@@ -41,44 +42,35 @@ cell-none (b ∷ l) e = absurd (let z : _≡_ {A = ℕ} 0 1 = cc in omega arith)
 
 -- ---- what holds of each kind's cell holds of every cell
 
-module _ (P : ℕ → List ℕ → Type 0) (k : ℕ) where
-  pick : (n : ℕ) (x y : List ℕ) → P n x → P k y → P k (on (eqb k n) x y)
-  pick n x y p q = go (eqb k n) refl
-    where
-      go : (b : Bool) → eqb k n ≡ b → P k (on b x y)
-      go true e = rw (eqb-true k n e) p
-      go false e = q
-
+module _ (P : Kind → List ℕ → Type 0) where
   pub by-kind :
-      (stop f : List ℕ)
-      → P text (textCell (Texts.text f))
-      → P date (numberCell 4 (Dates.date f))
-      → P journey (numberCell 4 (Digits.number 6 f))
-      → P fortify (numberCell 1 (Digits.number 2 f))
-      → P order (numberCell 2 (Digits.number 3 f))
-      → P stamp (numberCell 4 (Stamps.stamp f))
-      → P status (numberCell 1 (Names.status f))
-      → P arrival (timeAt (bytes "FIRST") stop f)
-      → P departure (timeAt (bytes "LAST") stop f)
-      → P stopType (numberCell 1 (Names.stopType f))
-      → P bit (numberCell 1 (Names.bit f))
-      → P flexible (numberCell 1 (Names.flexible f))
-      → P k []
+      (k : Kind) (stop f : List ℕ)
+      → P Kinds.Text (textCell (Texts.text f))
+      → P Kinds.Date (numberCell 4 (Dates.date f))
+      → P Kinds.Journey (numberCell 4 (Digits.numeral 6 f))
+      → P Kinds.Fortify (numberCell 1 (Digits.numeral 2 f))
+      → P Kinds.Order (numberCell 2 (Digits.numeral 3 f))
+      → P Kinds.Stamp (numberCell 4 (Stamps.stamp f))
+      → P Kinds.Status (numberCell 1 (Names.status f))
+      → P Kinds.Arrival (timeAt (bytes "FIRST") stop f)
+      → P Kinds.Departure (timeAt (bytes "LAST") stop f)
+      → P Kinds.StopType (numberCell 1 (Names.stopType f))
+      → P Kinds.Bit (numberCell 1 (Names.bit f))
+      → P Kinds.Flexible (numberCell 1 (Names.flexible f))
       → P k (cell k stop f)
   unfolding cell
-  by-kind stop f t d j o r u s a e y b x z =
-      pick text _ _ t
-      (pick date _ _ d
-      (pick journey _ _ j
-      (pick fortify _ _ o
-      (pick order _ _ r
-      (pick stamp _ _ u
-      (pick status _ _ s
-      (pick arrival _ _ a
-      (pick departure _ _ e
-      (pick stopType _ _ y
-      (pick bit _ _ b
-      (pick flexible _ _ x z)))))))))))
+  by-kind Kinds.Text stop f t d j o r u s a e y b x = t
+  by-kind Kinds.Date stop f t d j o r u s a e y b x = d
+  by-kind Kinds.Journey stop f t d j o r u s a e y b x = j
+  by-kind Kinds.Fortify stop f t d j o r u s a e y b x = o
+  by-kind Kinds.Order stop f t d j o r u s a e y b x = r
+  by-kind Kinds.Stamp stop f t d j o r u s a e y b x = u
+  by-kind Kinds.Status stop f t d j o r u s a e y b x = s
+  by-kind Kinds.Arrival stop f t d j o r u s a e y b x = a
+  by-kind Kinds.Departure stop f t d j o r u s a e y b x = e
+  by-kind Kinds.StopType stop f t d j o r u s a e y b x = y
+  by-kind Kinds.Bit stop f t d j o r u s a e y b x = b
+  by-kind Kinds.Flexible stop f t d j o r u s a e y b x = x
 
 -- ---- widths
 
@@ -110,18 +102,18 @@ wide-choice w false x y h k = k
 
 wide-time-at : (word stop f : List ℕ) → Wide 3 (timeAt word stop f)
 wide-time-at word stop f =
-    wide-choice 3 (same f null) _ _ (wide-choice 3 (same stop word) missing [] (λ e. refl) (wide-none 3)) (wide-time (time f))
+    wide-choice 3 (same f null) _ _ (wide-choice 3 (same stop word) missingTime [] (λ e. refl) (wide-none 3)) (wide-time (time f))
 
 -- a cell has its kind's width
-pub cell-width : (k : ℕ) (stop f : List ℕ) → some (cell k stop f) ≡ true → length (cell k stop f) ≡ width k
+pub cell-width : (k : Kind) (stop f : List ℕ) → some (cell k stop f) ≡ true → length (cell k stop f) ≡ width k
 unfolding width
 cell-width k stop f =
-    by-kind (λ (n : ℕ) (l : List ℕ). Wide (width n) l) k stop f
+    by-kind (λ (n : Kind) (l : List ℕ). Wide (width n) l) k stop f
     (wide-text f)
     (wide-number 4 (Dates.date f))
-    (wide-number 4 (Digits.number 6 f))
-    (wide-number 1 (Digits.number 2 f))
-    (wide-number 2 (Digits.number 3 f))
+    (wide-number 4 (Digits.numeral 6 f))
+    (wide-number 1 (Digits.numeral 2 f))
+    (wide-number 2 (Digits.numeral 3 f))
     (wide-number 4 (Stamps.stamp f))
     (wide-number 1 (Names.status f))
     (wide-time-at (bytes "FIRST") stop f)
@@ -129,14 +121,13 @@ cell-width k stop f =
     (wide-number 1 (Names.stopType f))
     (wide-number 1 (Names.bit f))
     (wide-number 1 (Names.flexible f))
-    (wide-none (width k))
 
 -- ---- bytes
 
 bytes-text : (t : List ℕ) → allText t ≡ true → Bytes t
 bytes-text [] e = tt
 bytes-text (x ∷ t) e =
-    let b = both-true (within 32 126 x) (allText t) e in
+    let b = and-pass (within 32 126 x) (allText t) e in
     (omega (arith, within-true 32 126 x (b .0)), bytes-text t (b .1))
 
 bytes-zeros : (n : ℕ) → Bytes (replicate n 0)
@@ -171,18 +162,18 @@ bytes-choice false x y h k = k
 bytes-time-at : (word stop f : List ℕ) → Bytes (timeAt word stop f)
 bytes-time-at word stop f =
     bytes-choice (same f null) _ _
-    (bytes-choice (same stop word) missing [] (omega arith, (omega arith, (omega arith, tt))) tt)
+    (bytes-choice (same stop word) missingTime [] (omega arith, (omega arith, (omega arith, tt))) tt)
     (bytes-time (time f))
 
 -- a cell's bytes are below 256
-pub cell-bytes : (k : ℕ) (stop f : List ℕ) → Bytes (cell k stop f)
+pub cell-bytes : (k : Kind) (stop f : List ℕ) → Bytes (cell k stop f)
 cell-bytes k stop f =
-    by-kind (λ (n : ℕ) (l : List ℕ). Bytes l) k stop f
+    by-kind (λ (n : Kind) (l : List ℕ). Bytes l) k stop f
     (bytes-kept f)
     (bytes-number 4 (Dates.date f))
-    (bytes-number 4 (Digits.number 6 f))
-    (bytes-number 1 (Digits.number 2 f))
-    (bytes-number 2 (Digits.number 3 f))
+    (bytes-number 4 (Digits.numeral 6 f))
+    (bytes-number 1 (Digits.numeral 2 f))
+    (bytes-number 2 (Digits.numeral 3 f))
     (bytes-number 4 (Stamps.stamp f))
     (bytes-number 1 (Names.status f))
     (bytes-time-at (bytes "FIRST") stop f)
@@ -190,4 +181,3 @@ cell-bytes k stop f =
     (bytes-number 1 (Names.stopType f))
     (bytes-number 1 (Names.bit f))
     (bytes-number 1 (Names.flexible f))
-    tt

@@ -3,10 +3,10 @@ use mathlib.Core.Path.{_≡_, refl}
 use native.Mathlib.Omega.{arith}
 use Rattle.columns.specs.declared.Table.{Table}
 use Rattle.columns.specs.Layout.{total, offset}
-use Rattle.columns.specs.Claims.{All, CellsApart, AbsentKept}
+use Rattle.columns.specs.Claims.{All, CellsApart}
 use Rattle.columns.proofs.CellLaws.{cell-width, cell-bytes}
-use Rattle.columns.proofs.LayoutLaws.{kind-below, wanted-most, row-room, offset-next, offset-within, offset-apart, row-flat, absent-width, blank-behind, blank-optional}
-use Rattle.columns.proofs.RangeLaws.{texts-in-range, dates-in-range, numbers-in-range, stamps-in-range, words-in-range, times-in-range, missing-exactly, null-keeps-nothing, stop-types-coded}
+use Rattle.columns.proofs.LayoutLaws.{wanted-most, row-room, offset-next, offset-within, offset-apart, row-flat, absent-width}
+use Rattle.columns.proofs.RangeLaws.{texts-in-range, dates-in-range, numbers-in-range, stamps-in-range, words-in-range, times-in-range, missing-exactly, null-keeps-nothing, empty-keeps-nothing, stop-types-coded}
 
 first-offset : (t : Table) → offset t 0 ≡ 0
 unfolding offset total
@@ -14,9 +14,6 @@ first-offset t = refl
 
 cells-apart : CellsApart
 cells-apart t j k l h = offset-apart t j (omega arith) k l h
-
-absent-kept : AbsentKept
-absent-kept t = (blank-behind t, λ j h e. (absent-width t j h e, blank-optional t j h e))
 
 pub claims : All
 claims = (
@@ -29,10 +26,11 @@ claims = (
   times-in-range,
   missing-exactly,
   null-keeps-nothing,
+  empty-keeps-nothing,
   stop-types-coded,
-  λ t. (wanted-most t, row-room t, kind-below t),
+  λ t. (wanted-most t, row-room t),
   λ t. (first-offset t, offset-next t, offset-within t),
   cells-apart,
   row-flat,
-  absent-kept,
+  absent-width,
 )

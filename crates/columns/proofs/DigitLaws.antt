@@ -6,11 +6,12 @@ use lib.Dec.{T, eqb, eqb→eq}
 use lib.ListN.{getD}
 use Rattle.clock.proofs.BelowLaws.{allBelow, below-at}
 use Rattle.columns.specs.declared.Table.the-variants.{Message, Planning, Calendar}
+use Rattle.columns.specs.declared.Kind.{Kind}
 use Rattle.columns.specs.Cell.{width}
 use Rattle.columns.specs.Tables.{messageColumns, planningColumns, calendarColumns, columnsIn}
 use Rattle.columns.specs.Layout.{kindAt, optionalAt, widths, offset}
-use Rattle.columns.specs.Digit.{digitOf}
-use Rattle.columns.proofs.LayoutLaws.{kindOf, flagOf, places, kind-listed, optional-listed, offset-listed}
+use Rattle.columns.specs.inner.Digit.{digitOf, kindNamed}
+use Rattle.columns.proofs.LayoutLaws.{digitFor, digit-names, digitIn, flagOf, places, kind-listed, optional-listed, offset-listed}
 
 -- a number at each place agrees with a list, below n: tested there once
 agree : (f : ℕ → ℕ) (l : List ℕ) (n : ℕ) → T (allBelow (λ k. eqb (f k) (getD l k 0)) n) → (j : ℕ) → j < n → f j ≡ getD l j 0
@@ -21,15 +22,19 @@ pub digit-is : (packed j : ℕ) → j < 16 → packed / 2 ^ (4 * j) % 16 ≡ dig
 unfolding digitOf
 digit-is packed j h = rw (eqb→eq (2 ^ (4 * j)) (16 ^ j) (below-at (λ k. eqb (2 ^ (4 * k)) (16 ^ k)) 16 tt j h))
 
+-- a digit that names a kind
+named : {d : ℕ} {k : Kind} → d ≡ digitFor k → kindNamed d ≡ k
+named {d} {k} e = ap kindNamed e ∙ digit-names k
+
 -- two digits, as a number
 abbrev twoOf : ℕ → ℕ → ℕ → ℕ
 twoOf high low j = digitOf high j * 16 + digitOf low j
 
 -- ---- message
 
-pub message-kind : (j : ℕ) → j < 16 → digitOf 12369566719478538256 j ≡ kindAt Message j
+pub message-kind : (j : ℕ) → j < 16 → kindNamed (digitOf 12369566719478538256 j) ≡ kindAt Message j
 unfolding digitOf columnsIn messageColumns
-message-kind j h = agree (digitOf 12369566719478538256) (map kindOf (columnsIn Message)) 16 tt j h ∙ kind-listed Message j
+message-kind j h = named (agree (digitOf 12369566719478538256) (map digitIn (columnsIn Message)) 16 tt j h ∙ kind-listed Message j)
 
 pub message-offset : (j : ℕ) → j < 16 → twoOf 4914327913099235328 1224618955299917472 j ≡ offset Message j
 unfolding digitOf widths width columnsIn messageColumns
@@ -41,9 +46,9 @@ message-optional j h = ap (λ (m : ℕ). eqb m 1) (agree (digitOf 12294826982721
 
 -- ---- planning
 
-pub planning-kind : (j : ℕ) → j < 12 → digitOf 203989475930624 j ≡ kindAt Planning j
+pub planning-kind : (j : ℕ) → j < 12 → kindNamed (digitOf 203989475930624 j) ≡ kindAt Planning j
 unfolding digitOf columnsIn planningColumns
-planning-kind j h = agree (digitOf 203989475930624) (map kindOf (columnsIn Planning)) 12 tt j h ∙ kind-listed Planning j
+planning-kind j h = named (agree (digitOf 203989475930624) (map digitIn (columnsIn Planning)) 12 tt j h ∙ kind-listed Planning j)
 
 pub planning-offset : (j : ℕ) → j < 12 → twoOf 73886894985472 17360077030560 j ≡ offset Planning j
 unfolding digitOf widths width columnsIn planningColumns
@@ -55,9 +60,9 @@ planning-optional j h = ap (λ (m : ℕ). eqb m 1) (agree (digitOf 1759218604441
 
 -- ---- calendar
 
-pub calendar-kind : (j : ℕ) → j < 3 → digitOf 256 j ≡ kindAt Calendar j
+pub calendar-kind : (j : ℕ) → j < 3 → kindNamed (digitOf 256 j) ≡ kindAt Calendar j
 unfolding digitOf columnsIn calendarColumns
-calendar-kind j h = agree (digitOf 256) (map kindOf (columnsIn Calendar)) 3 tt j h ∙ kind-listed Calendar j
+calendar-kind j h = named (agree (digitOf 256) (map digitIn (columnsIn Calendar)) 3 tt j h ∙ kind-listed Calendar j)
 
 pub calendar-offset : (j : ℕ) → j < 3 → twoOf 256 1184 j ≡ offset Calendar j
 unfolding digitOf widths width columnsIn calendarColumns

@@ -1,34 +1,68 @@
 -- Laws of a row's layout, over any table. Assumes nothing.
 use mathlib.Core.Path.{_≡_, refl, sym, ap, _∙_}
-use mathlib.Core.Bool.{Bool, true, false}
+use mathlib.Core.Bool.{Bool, true, false, _&&_}
 use mathlib.Core.List.{List, [], _∷_, map}
 use Prim.Native.Nat.{ℕ, zero, suc, _+_, _-_, _<_, _≤_}
 use native.Mathlib.Nat.{add-zero, add-assoc, le-of-suc-le-suc, not-suc-le-zero}
 use native.Mathlib.Numerals.{add-one}
 use native.Mathlib.Omega.{arith}
-use borrow.Author.Tests.{ltb-true, eqb-true}
-use lib.Dec.{eqb, ltb}
+use borrow.Author.Tests.{eqb-true}
+use lib.Dec.{eqb}
 use lib.ListN.{length, take, drop, getD, replicate, length-map, length-append, length-replicate, List·getD-map}
 use lib.Seq.{drop-at}
-use Rattle.lists.specs.Logic.{on, both}
+use Rattle.lists.specs.Logic.{on}
 use Rattle.lists.specs.Part.{part}
 use Rattle.lists.specs.Rows.{flat}
-use Rattle.lists.proofs.LogicLaws.{both-true}
+use Rattle.lists.proofs.LogicLaws.{and-pass}
 use Rattle.columns.specs.declared.Table.{Table}
 use Rattle.columns.specs.declared.Table.the-variants.{Message, Planning, Calendar}
-use Rattle.columns.specs.Cell.{text, width}
+use Rattle.columns.specs.declared.Kind.{Kind}
+use Rattle.columns.specs.declared.Kind.the-variants as Kinds
+use Rattle.columns.specs.Cell.{width}
 use Rattle.columns.specs.Tables.{Column, must, messageColumns, planningColumns, calendarColumns, columnsIn, isOptional, widthOf, rowWidth, names}
-use Rattle.columns.specs.Layout.{wanted, columnAt, kindAt, optionalAt, widthIn, widths, total, offset, room, blankCell, blankRow}
+use Rattle.columns.specs.Layout.{wanted, columnAt, kindAt, optionalAt, widthIn, widths, total, offset}
+use Rattle.columns.specs.inner.Digit.{kindNamed}
+use Rattle.columns.specs.inner.Blank.{widest-row, blankCell, blankRow}
 use Rattle.columns.proofs.PartLaws.{begins, begins-next, begins-within, begins-apart, parts-flat, Fit, length-flat, flat-part}
 
 -- ---- the rules as lists
 
-abbrev pub kindOf : Column → ℕ
-kindOf c = c .kind
+-- the digit that names a kind
+abbrev pub digitFor : Kind → ℕ
+digitFor Kinds.Text = 0
+digitFor Kinds.Date = 1
+digitFor Kinds.Journey = 2
+digitFor Kinds.Fortify = 3
+digitFor Kinds.Order = 4
+digitFor Kinds.Stamp = 5
+digitFor Kinds.Status = 6
+digitFor Kinds.Arrival = 7
+digitFor Kinds.Departure = 8
+digitFor Kinds.StopType = 9
+digitFor Kinds.Bit = 10
+digitFor Kinds.Flexible = 11
 
-pub kind-listed : (t : Table) (j : ℕ) → getD (map kindOf (columnsIn t)) j 0 ≡ kindAt t j
+pub digit-names : (k : Kind) → kindNamed (digitFor k) ≡ k
+unfolding kindNamed
+digit-names Kinds.Text = refl
+digit-names Kinds.Date = refl
+digit-names Kinds.Journey = refl
+digit-names Kinds.Fortify = refl
+digit-names Kinds.Order = refl
+digit-names Kinds.Stamp = refl
+digit-names Kinds.Status = refl
+digit-names Kinds.Arrival = refl
+digit-names Kinds.Departure = refl
+digit-names Kinds.StopType = refl
+digit-names Kinds.Bit = refl
+digit-names Kinds.Flexible = refl
+
+abbrev pub digitIn : Column → ℕ
+digitIn c = digitFor (c .kind)
+
+pub kind-listed : (t : Table) (j : ℕ) → getD (map digitIn (columnsIn t)) j 0 ≡ digitFor (kindAt t j)
 unfolding kindAt columnAt
-kind-listed t j = List·getD-map kindOf (columnsIn t) j (must "" text)
+kind-listed t j = List·getD-map digitIn (columnsIn t) j (must "" Kinds.Text)
 
 -- 1 for a column that may be absent, else 0
 abbrev pub flagOf : Column → ℕ
@@ -41,7 +75,7 @@ flagged false = refl
 pub optional-listed : (t : Table) (j : ℕ) → eqb (getD (map flagOf (columnsIn t)) j 0) 1 ≡ optionalAt t j
 unfolding optionalAt columnAt
 optional-listed t j =
-    ap (λ (n : ℕ). eqb n 1) (List·getD-map flagOf (columnsIn t) j (must "" text)) ∙ flagged (isOptional (getD (columnsIn t) j (must "" text)))
+    ap (λ (n : ℕ). eqb n 1) (List·getD-map flagOf (columnsIn t) j (must "" Kinds.Text)) ∙ flagged (isOptional (getD (columnsIn t) j (must "" Kinds.Text)))
 
 -- where the cells of these widths begin, the first at n
 abbrev pub places : ℕ → List ℕ → List ℕ
@@ -70,26 +104,12 @@ told-below j e h = rw e at h
 
 abbrev every : (Column → Bool) → List Column → Bool
 every f [] = true
-every f (c ∷ cs) = both (f c) (every f cs)
+every f (c ∷ cs) = f c && every f cs
 
 every-at : (f : Column → Bool) (cs : List Column) (j : ℕ) (d : Column) → every f cs ≡ true → j < length cs → f (getD cs j d) ≡ true
 every-at f [] j d e h = absurd (not-suc-le-zero h)
-every-at f (c ∷ cs) zero d e h = both-true (f c) (every f cs) e .0
-every-at f (c ∷ cs) (suc j) d e h = every-at f cs j d (both-true (f c) (every f cs) e .1) (le-of-suc-le-suc h)
-
-abbrev small : Column → Bool
-small c = ltb (c .kind) 12
-
-all-small : (t : Table) → every small (columnsIn t) ≡ true
-unfolding columnsIn messageColumns planningColumns calendarColumns
-all-small Message = refl
-all-small Planning = refl
-all-small Calendar = refl
-
--- each column's kind is one that `cell` knows
-pub kind-below : (t : Table) (j : ℕ) → j < wanted t → kindAt t j < 12
-unfolding kindAt columnAt
-kind-below t j h = ltb-true _ 12 (every-at small (columnsIn t) j (must "" text) (all-small t) h)
+every-at f (c ∷ cs) zero d e h = and-pass (f c) (every f cs) e .0
+every-at f (c ∷ cs) (suc j) d e h = every-at f cs j d (and-pass (f c) (every f cs) e .1) (le-of-suc-le-suc h)
 
 abbrev fitting : Column → Bool
 fitting c = eqb (length (blankCell c)) (widthIn c)
@@ -102,7 +122,7 @@ all-fitting Calendar = refl
 
 blank-width : (t : Table) (j : ℕ) → j < wanted t → length (blankCell (columnAt t j)) ≡ width (kindAt t j)
 unfolding kindAt columnAt
-blank-width t j h = eqb-true _ _ (every-at fitting (columnsIn t) j (must "" text) (all-fitting t) h)
+blank-width t j h = eqb-true _ _ (every-at fitting (columnsIn t) j (must "" Kinds.Text) (all-fitting t) h)
 
 blank-absent : (c : Column) → isOptional c ≡ true → blankCell c ≡ c .absent
 blank-absent c e = rw e
@@ -126,7 +146,7 @@ names-wanted t = length-map (columnsIn t) _
 
 -- ---- offsets
 
-pub row-room : (t : Table) → rowWidth t ≤ room
+pub row-room : (t : Table) → rowWidth t ≤ widest-row
 unfolding rowWidth width columnsIn messageColumns planningColumns calendarColumns
 row-room Message = omega arith
 row-room Planning = omega arith
@@ -148,7 +168,7 @@ width-in (c ∷ cs) (suc j) d h = width-in cs j d (le-of-suc-le-suc h)
 
 pub width-at : (t : Table) (j : ℕ) → j < wanted t → getD (widths t) j 0 ≡ width (kindAt t j)
 unfolding widths kindAt columnAt
-width-at t j h = width-in (columnsIn t) j (must "" text) h
+width-at t j h = width-in (columnsIn t) j (must "" Kinds.Text) h
 
 module _ (t : Table) (j : ℕ) (h : j < wanted t) where
   in-widths : j < length (widths t)
@@ -188,7 +208,7 @@ row-flat t cells row e h =
 fit-in : (cs : List Column) → every fitting cs ≡ true → Fit (map widthIn cs) (map blankCell cs)
 fit-in [] e = tt
 fit-in (c ∷ cs) e =
-    let b = both-true (fitting c) (every fitting cs) e in
+    let b = and-pass (fitting c) (every fitting cs) e in
     (eqb-true _ _ (b .0), fit-in cs (b .1))
 
 fit : (t : Table) → Fit (widths t) (map blankCell (columnsIn t))
@@ -198,18 +218,18 @@ fit t = fit-in (columnsIn t) (all-fitting t)
 length-blank-cells : (t : Table) → length (flat (map blankCell (columnsIn t))) ≡ rowWidth t
 length-blank-cells t = length-flat (widths t) (map blankCell (columnsIn t)) (fit t) ∙ total-widths t
 
-pub length-blank : (t : Table) → length (blankRow t) ≡ room
+pub length-blank : (t : Table) → length (blankRow t) ≡ widest-row
 unfolding blankRow
 length-blank t =
-    let a = length-append (flat (map blankCell (columnsIn t))) (replicate (room - rowWidth t) 0) in
-    let z = length-replicate {A = ℕ} (room - rowWidth t) 0 in
+    let a = length-append (flat (map blankCell (columnsIn t))) (replicate (widest-row - rowWidth t) 0) in
+    let z = length-replicate {A = ℕ} (widest-row - rowWidth t) 0 in
     let l = length-blank-cells t in
     let r = row-room t in
     a ∙ omega arith
 
-pub blank-behind : (t : Table) → drop (rowWidth t) (blankRow t) ≡ replicate (room - rowWidth t) 0
+pub blank-behind : (t : Table) → drop (rowWidth t) (blankRow t) ≡ replicate (widest-row - rowWidth t) 0
 unfolding blankRow
-blank-behind t = drop-at (flat (map blankCell (columnsIn t))) (replicate (room - rowWidth t) 0) (rowWidth t) (length-blank-cells t)
+blank-behind t = drop-at (flat (map blankCell (columnsIn t))) (replicate (widest-row - rowWidth t) 0) (rowWidth t) (length-blank-cells t)
 
 cell-in : (cs : List Column) (j : ℕ) (d : Column) → j < length cs → getD (map blankCell cs) j [] ≡ blankCell (getD cs j d)
 cell-in [] j d h = absurd (not-suc-le-zero h)
@@ -222,8 +242,8 @@ unfolding blankRow offset columnAt
 blank-part t j h =
     let l : j < length (widths t) = rw length-widths h in
     ap (λ (n : ℕ). part (begins (widths t) j) n (blankRow t)) (sym (width-at t j h))
-    ∙ flat-part (widths t) (map blankCell (columnsIn t)) (replicate (room - rowWidth t) 0) (fit t) j l
-    ∙ cell-in (columnsIn t) j (must "" text) h
+    ∙ flat-part (widths t) (map blankCell (columnsIn t)) (replicate (widest-row - rowWidth t) 0) (fit t) j l
+    ∙ cell-in (columnsIn t) j (must "" Kinds.Text) h
 
 -- where the column may be absent, its part is what is kept of an absent one
 pub blank-optional :

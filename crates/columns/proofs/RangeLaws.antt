@@ -6,6 +6,7 @@ use mathlib.Core.Logic.{_↔_, inl, inr}
 use Prim.Native.Nat.{ℕ, _^_, _<_, _≤_}
 use native.Mathlib.Nat.{lt-of-lt-of-le}
 use native.Mathlib.Omega.{arith}
+use Rattle.lists.specs.Part.{some}
 use Rattle.lists.specs.Logic.{on}
 use Rattle.lists.specs.Text.{bytes, same}
 use Rattle.lists.specs.BigEndian.{number, spelled}
@@ -20,44 +21,26 @@ use Rattle.field_types.specs.declared.Number.the-variants as Numbers
 use Rattle.field_types.specs.declared.Time.{Time}
 use Rattle.field_types.specs.declared.Time.the-variants as Times
 use Rattle.field_types.specs.Digits as Digits
+use Rattle.field_types.specs.Dates as Dates
+use Rattle.field_types.specs.Times as Clock
 use Rattle.field_types.specs.Times.{time}
 use Rattle.field_types.specs.Stamps.{inStampRange}
 use Rattle.field_types.specs.Stamps as Stamps
 use Rattle.field_types.specs.Names as Names
 use Rattle.texts.specs.Texts.{padded, isText}
 use Rattle.texts.specs.Texts as Texts
-use Rattle.field_types.specs.Claims.{NumbersOnly, TimesOnly, DatesOnly}
-use Rattle.field_types.proofs.Claims as Fields
-use Rattle.field_types.specs.StampsClaims.{StampsGiven, NoContentOutside}
-use Rattle.field_types.proofs.StampsClaims as StampClaims
+use Rattle.field_types.specs.Claims.{WordsWithin}
+use Rattle.field_types.proofs.Claims.{read-number-below, read-time-below, read-date-real, stamps-given, words, no-content-outside as outside}
 use Rattle.texts.proofs.Claims as TextClaims
-use Rattle.field_types.specs.WordsClaims as WordClaims
-use Rattle.field_types.specs.WordsClaims.{Words, WordsWithin}
-use Rattle.field_types.proofs.WordsClaims as WordsTold
 use Rattle.texts.proofs.KeptLaws.{ok-is, kept-bytes}
-use Rattle.columns.specs.Cell.{arrival, departure, null, numberCell, timeCell, textCell, missing, timeAt, cell, some}
-use Rattle.columns.specs.Claims.{TextsInRange, DatesInRange, NumbersInRange, StampsInRange, WordsInRange, TimeOrMissing, TimesInRange, MissingExactly, NullKeepsNothing, StopTypesCoded}
+use Rattle.columns.specs.declared.Kind.{Kind}
+use Rattle.columns.specs.declared.Kind.the-variants as Kinds
+use Rattle.columns.specs.Cell.{null, numberCell, timeCell, textCell, missingTime, timeAt, cell}
+use Rattle.columns.specs.Claims.{TextsInRange, DatesInRange, NumbersInRange, StampsInRange, WordsInRange, TimeOrMissing, TimesInRange, MissingExactly, NullKeepsNothing, EmptyKeepsNothing, StopTypesCoded}
 use Rattle.columns.proofs.CellLaws.{by-kind}
 
 never : {A : Type 0} → some [] ≡ true → A
 never e = absurd (let z : _≡_ {A = ℕ} 0 1 = cc in omega arith)
-
--- ---- what the readers of fields give
-
-numbers-only : NumbersOnly
-numbers-only = Fields.claims .1
-
-times-only : TimesOnly
-times-only = Fields.claims .3
-
-dates-only : DatesOnly
-dates-only = Fields.claims .5
-
-stamps-given : StampsGiven
-stamps-given = StampClaims.claims .1
-
-words : Words
-words = WordsTold.claims .0
 
 -- ---- numbers
 
@@ -72,11 +55,11 @@ date-small n e = let p = parts n e in omega arith
 pub dates-in-range : DatesInRange
 unfolding cell
 dates-in-range stop f =
-    spells (λ (n : ℕ). isDate n ≡ true) 4 _ (λ v e. let d = dates-only f v e in (d, date-small v d))
+    spells (λ (n : ℕ). isDate n ≡ true) 4 _ (λ v e. let d = read-date-real f v e in (d, date-small v d))
 
-numbers-below : (most w : ℕ) (f : List ℕ) → 10 ^ most ≤ 256 ^ w → some (numberCell w (Digits.number most f)) ≡ true → number (numberCell w (Digits.number most f)) < 10 ^ most
+numbers-below : (most w : ℕ) (f : List ℕ) → 10 ^ most ≤ 256 ^ w → some (numberCell w (Digits.numeral most f)) ≡ true → number (numberCell w (Digits.numeral most f)) < 10 ^ most
 numbers-below most w f h =
-    spells (λ (n : ℕ). n < 10 ^ most) w (Digits.number most f) (λ v e. let b = numbers-only most f v e .3 in (b, lt-of-lt-of-le b h))
+    spells (λ (n : ℕ). n < 10 ^ most) w (Digits.numeral most f) (λ v e. let b = read-number-below most f v e in (b, lt-of-lt-of-le b h))
 
 pub numbers-in-range : NumbersInRange
 unfolding cell
@@ -126,10 +109,10 @@ time-below : (f : List ℕ) → some (timeCell (time f)) ≡ true → number (ti
 time-below f = go (time f) refl
   where
     go : (t : Time) → time f ≡ t → some (timeCell t) ≡ true → number (timeCell t) < 115200
-    go (Times.Is s) p h = let b = times-only f s p in rw (number-spelled 3 (s .0) (omega arith)) b
+    go (Times.Is s) p h = let b = read-time-below f s p in rw (number-spelled 3 (s .0) (omega arith)) b
     go Times.Wrong p h = never h
 
-missing-number : number missing ≡ 16777215
+missing-number : number missingTime ≡ 16777215
 unfolding number
 missing-number = refl
 
@@ -137,8 +120,8 @@ time-or-missing : (word stop f : List ℕ) → some (timeAt word stop f) ≡ tru
 time-or-missing word stop f = go (same f null) (same stop word) refl refl
   where
     go :
-        (b c : Bool) → same f null ≡ b → same stop word ≡ c → some (on b (on c missing []) (timeCell (time f))) ≡ true
-        → TimeOrMissing word stop f (on b (on c missing []) (timeCell (time f)))
+        (b c : Bool) → same f null ≡ b → same stop word ≡ c → some (on b (on c missingTime []) (timeCell (time f))) ≡ true
+        → TimeOrMissing word stop f (on b (on c missingTime []) (timeCell (time f)))
     go true true p q e = inr (missing-number, same-equal f null p, same-equal stop word q)
     go true false p q e = never e
     go false c p q e = inl (time-below f e)
@@ -154,7 +137,7 @@ missing-there word stop = (to, λ e. rw (e, same-refl word))
     to : some (timeAt word stop null) ≡ true → stop ≡ word
     to e = go (same stop word) refl e
       where
-        go : (b : Bool) → same stop word ≡ b → some (on b missing []) ≡ true → stop ≡ word
+        go : (b : Bool) → same stop word ≡ b → some (on b missingTime []) ≡ true → stop ≡ word
         go true p h = same-equal stop word p
         go false p h = never h
 
@@ -164,31 +147,41 @@ missing-exactly stop = (missing-there (bytes "FIRST") stop, missing-there (bytes
 
 -- ---- fields without content, and stop types
 
-outside : NoContentOutside
-outside = StampClaims.claims .4
-
-no-word : WordClaims.NoContentOutside
-no-word = WordsTold.claims .2
-
 text-none : textCell (Texts.text null) ≡ []
-text-none = rw (TextClaims.claims .4 .1)
+text-none = rw TextClaims.null-no-text
 
 pub null-keeps-nothing : NullKeepsNothing
 null-keeps-nothing k stop =
-    by-kind (λ (n : ℕ) (l : List ℕ). (n ≡ arrival → ⊥) → (n ≡ departure → ⊥) → l ≡ []) k stop null
+    by-kind (λ (n : Kind) (l : List ℕ). (n ≡ Kinds.Arrival → ⊥) → (n ≡ Kinds.Departure → ⊥) → l ≡ []) k stop null
     (λ a d. text-none)
     (λ a d. ap (numberCell 4) (outside .2))
     (λ a d. ap (numberCell 4) (outside .0 6))
     (λ a d. ap (numberCell 1) (outside .0 2))
     (λ a d. ap (numberCell 2) (outside .0 3))
     (λ a d. ap (numberCell 4) (outside .3))
-    (λ a d. ap (numberCell 1) (no-word .1))
+    (λ a d. ap (numberCell 1) (outside .5))
     (λ a d. absurd (a refl))
     (λ a d. absurd (d refl))
-    (λ a d. ap (numberCell 1) (no-word .2))
-    (λ a d. ap (numberCell 1) (no-word .0))
-    (λ a d. ap (numberCell 1) (no-word .3))
-    (λ a d. refl)
+    (λ a d. ap (numberCell 1) (outside .6))
+    (λ a d. ap (numberCell 1) (outside .4))
+    (λ a d. ap (numberCell 1) (outside .7))
+
+pub empty-keeps-nothing : EmptyKeepsNothing
+unfolding Texts.text Digits.numeral Digits.triple Dates.date Clock.clock time Stamps.stamp Names.status Names.stopType Names.bit Names.flexible decode same
+empty-keeps-nothing k stop =
+    by-kind (λ (n : Kind) (l : List ℕ). l ≡ []) k stop []
+    refl
+    refl
+    refl
+    refl
+    refl
+    refl
+    refl
+    refl
+    refl
+    refl
+    refl
+    refl
 
 pub stop-types-coded : StopTypesCoded
 unfolding cell spelled Names.stopType same

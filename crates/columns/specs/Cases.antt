@@ -5,12 +5,13 @@ use Rattle.lists.specs.Text.{bytes, same}
 use Rattle.lists.specs.BigEndian.{spelled}
 use Rattle.clock.specs.Date.{daysIn, isDate}
 use Rattle.turbo.specs.Escape.{escaped, decode}
-use Rattle.field_types.specs.Digits.{number, triple}
+use Rattle.field_types.specs.Digits.{numeral, triple}
 use Rattle.field_types.specs.Times.{clock, time}
 use Rattle.field_types.specs.Dates as Dates
 use Rattle.texts.specs.Texts as Texts
 use Rattle.columns.specs.declared.Table.the-variants.{Message, Planning, Calendar}
-use Rattle.columns.specs.Cell.{text, date, fortify, arrival, departure, width, null, missing, cell}
+use Rattle.columns.specs.declared.Kind.the-variants.{Text, Date, Fortify, Arrival, Departure}
+use Rattle.columns.specs.Cell.{width, null, missingTime, cell}
 use Rattle.columns.specs.Tables.{messageColumns, planningColumns, calendarColumns, columnsIn, rowWidth}
 use Rattle.columns.specs.Layout.{columnAt, kindAt, widths, total, offset}
 
@@ -20,42 +21,42 @@ unfolding rowWidth columnsIn messageColumns planningColumns calendarColumns widt
 row-widths = (refl, refl, refl)
 
 -- the departure of a message stands at byte 59, its column is the twelfth
-pub departure-place : (kindAt Message 11 ≡ departure) × (offset Message 11 ≡ 59)
+pub departure-place : (kindAt Message 11 ≡ Departure) × (offset Message 11 ≡ 59)
 unfolding kindAt columnAt offset total widths columnsIn messageColumns width
 departure-place = (refl, refl)
 
 -- an arrival may be missing at FIRST, and neither at INTERMEDIATE nor at LAST
 pub arrivals-missing :
-    (cell arrival (bytes "FIRST") null ≡ missing)
-    × (cell arrival (bytes "INTERMEDIATE") null ≡ [])
-    × (cell arrival (bytes "LAST") null ≡ [])
+    (cell Arrival (bytes "FIRST") null ≡ missingTime)
+    × (cell Arrival (bytes "INTERMEDIATE") null ≡ [])
+    × (cell Arrival (bytes "LAST") null ≡ [])
 unfolding cell same
 arrivals-missing = (refl, refl, refl)
 
 -- a departure at LAST only
 pub departures-missing :
-    (cell departure (bytes "LAST") null ≡ missing)
-    × (cell departure (bytes "INTERMEDIATE") null ≡ [])
-    × (cell departure (bytes "FIRST") null ≡ [])
+    (cell Departure (bytes "LAST") null ≡ missingTime)
+    × (cell Departure (bytes "INTERMEDIATE") null ≡ [])
+    × (cell Departure (bytes "FIRST") null ≡ [])
 unfolding cell same
 departures-missing = (refl, refl, refl)
 
 -- 31:59:59 is kept in three bytes, 32:00:00 is outside its type
-pub times-kept : (cell arrival [] (bytes "31:59:59") ≡ 1 ∷ 193 ∷ 255 ∷ []) × (cell arrival [] (bytes "32:00:00") ≡ [])
-unfolding cell same spelled time clock triple number
+pub times-kept : (cell Arrival [] (bytes "31:59:59") ≡ 1 ∷ 193 ∷ 255 ∷ []) × (cell Arrival [] (bytes "32:00:00") ≡ [])
+unfolding cell same spelled time clock triple numeral
 times-kept = (refl, refl)
 
 -- two digits of a fortify number, and no three
-pub fortifies-kept : (cell fortify [] (bytes "99") ≡ 99 ∷ []) × (cell fortify [] (bytes "100") ≡ [])
-unfolding cell spelled number
+pub fortifies-kept : (cell Fortify [] (bytes "99") ≡ 99 ∷ []) × (cell Fortify [] (bytes "100") ≡ [])
+unfolding cell spelled numeral
 fortifies-kept = (refl, refl)
 
 -- a date in four bytes, and one that is none
-pub dates-kept : (cell date [] (bytes "2000-02-29") ≡ spelled 4 20000229) × (cell date [] (bytes "2023-02-29") ≡ [])
-unfolding cell spelled Dates.date triple number isDate daysIn
+pub dates-kept : (cell Date [] (bytes "2000-02-29") ≡ spelled 4 20000229) × (cell Date [] (bytes "2023-02-29") ≡ [])
+unfolding cell spelled Dates.date triple numeral isDate daysIn
 dates-kept = (refl, refl)
 
 -- an escaped bar in a text
-pub texts-kept : cell text [] (bytes "a\\pb") ≡ 97 ∷ 124 ∷ 98 ∷ 0 ∷ 0 ∷ 0 ∷ 0 ∷ 0 ∷ 0 ∷ 0 ∷ []
+pub texts-kept : cell Text [] (bytes "a\\pb") ≡ 97 ∷ 124 ∷ 98 ∷ 0 ∷ 0 ∷ 0 ∷ 0 ∷ 0 ∷ 0 ∷ 0 ∷ []
 unfolding cell Texts.text decode escaped
 texts-kept = refl

@@ -3,11 +3,11 @@ use mathlib.Core.Path.{_≡_}
 use mathlib.Core.Bool.{true}
 use mathlib.Core.List.{List, [], _∷_}
 use mathlib.Core.Logic.{_⊎_, _↔_}
-use Prim.Native.Nat.{ℕ, _+_, _-_, _<_, _≤_}
-use lib.ListN.{length, take, drop, getD, replicate}
+use Prim.Native.Nat.{ℕ, _+_, _<_, _≤_}
+use lib.ListN.{length, take, getD}
 use Rattle.lists.specs.Each.{Bytes}
 use Rattle.lists.specs.Text.{bytes}
-use Rattle.lists.specs.Part.{part}
+use Rattle.lists.specs.Part.{part, some}
 use Rattle.lists.specs.Rows.{flat}
 use Rattle.lists.specs.BigEndian.{number}
 use Rattle.clock.specs.Date.{isDate}
@@ -15,45 +15,47 @@ use Rattle.turbo.specs.Escape.{decode}
 use Rattle.field_types.specs.Stamps.{inStampRange}
 use Rattle.texts.specs.Texts.{padded, isText}
 use Rattle.columns.specs.declared.Table.{Table}
-use Rattle.columns.specs.Cell.{text, date, journey, fortify, order, stamp, status, arrival, departure, stopType, bit, flexible, width, null, cell, some}
+use Rattle.columns.specs.declared.Kind.{Kind}
+use Rattle.columns.specs.declared.Kind.the-variants.{Text, Date, Journey, Fortify, Order, Stamp, Status, Arrival, Departure, StopType, Bit, Flexible}
+use Rattle.columns.specs.Cell.{width, null, cell}
 use Rattle.columns.specs.Tables.{rowWidth}
-use Rattle.columns.specs.Layout.{wanted, columnAt, kindAt, optionalAt, offset, room, blankRow}
+use Rattle.columns.specs.Layout.{wanted, columnAt, kindAt, optionalAt, offset}
 
 -- ---- cells, whatever the field and the field of the row's own stop type
 
 -- What is kept of a field has its kind's width, and all of it are bytes.
 abbrev pub CellsWide : Type 0
-CellsWide = (k : ℕ) (stop f : List ℕ) → (some (cell k stop f) ≡ true → length (cell k stop f) ≡ width k) × Bytes (cell k stop f)
+CellsWide = (k : Kind) (stop f : List ℕ) → (some (cell k stop f) ≡ true → length (cell k stop f) ≡ width k) × Bytes (cell k stop f)
 
 -- What is kept of a text is what the field stands for, 1 to 10 bytes from 32 to 126, padded with zero bytes.
 abbrev pub TextsInRange : Type 0
 TextsInRange =
-    (stop f : List ℕ) → some (cell text stop f) ≡ true
-    → (isText (decode f) ≡ true) × (cell text stop f ≡ padded (decode f))
+    (stop f : List ℕ) → some (cell Text stop f) ≡ true
+    → (isText (decode f) ≡ true) × (cell Text stop f ≡ padded (decode f))
 
 -- Of what is kept in a column of kind k, the number that its bytes spell is one of P.
-abbrev pub Spells : ℕ → (ℕ → Type 0) → Type 0
+abbrev pub Spells : Kind → (ℕ → Type 0) → Type 0
 Spells k P = (stop f : List ℕ) → some (cell k stop f) ≡ true → P (number (cell k stop f))
 
 -- What is kept of a date is a date.
 abbrev pub DatesInRange : Type 0
-DatesInRange = Spells date (λ (n : ℕ). isDate n ≡ true)
+DatesInRange = Spells Date (λ (n : ℕ). isDate n ≡ true)
 
 -- A journey number that is kept is below 1,000,000, a fortify number below 100, an order number below 1,000.
 abbrev pub NumbersInRange : Type 0
-NumbersInRange = Spells journey (λ (n : ℕ). n < 1000000) × Spells fortify (λ (n : ℕ). n < 100) × Spells order (λ (n : ℕ). n < 1000)
+NumbersInRange = Spells Journey (λ (n : ℕ). n < 1000000) × Spells Fortify (λ (n : ℕ). n < 100) × Spells Order (λ (n : ℕ). n < 1000)
 
 -- A timestamp that is kept is one that a U field can give.
 abbrev pub StampsInRange : Type 0
-StampsInRange = Spells stamp (λ (n : ℕ). inStampRange n ≡ true)
+StampsInRange = Spells Stamp (λ (n : ℕ). inStampRange n ≡ true)
 
 -- A status that is kept is 0 to 5, a stop type 0 to 2, a bit 0 or 1, a flexible 1 to 3.
 abbrev pub WordsInRange : Type 0
 WordsInRange =
-    Spells status (λ (n : ℕ). n ≤ 5)
-    × Spells stopType (λ (n : ℕ). n ≤ 2)
-    × Spells bit (λ (n : ℕ). n ≤ 1)
-    × Spells flexible (λ (n : ℕ). (1 ≤ n) × (n ≤ 3))
+    Spells Status (λ (n : ℕ). n ≤ 5)
+    × Spells StopType (λ (n : ℕ). n ≤ 2)
+    × Spells Bit (λ (n : ℕ). n ≤ 1)
+    × Spells Flexible (λ (n : ℕ). (1 ≤ n) × (n ≤ 3))
 
 -- The time that l spells is below 115,200; or it is missing, the field has no content, and the row's own stop type is the word.
 abbrev pub TimeOrMissing : List ℕ → List ℕ → List ℕ → List ℕ → Type 0
@@ -63,33 +65,37 @@ TimeOrMissing word stop f l = (number l < 115200) ⊎ ((number l ≡ 16777215) �
 abbrev pub TimesInRange : Type 0
 TimesInRange =
     (stop f : List ℕ)
-    → (some (cell arrival stop f) ≡ true → TimeOrMissing (bytes "FIRST") stop f (cell arrival stop f))
-    × (some (cell departure stop f) ≡ true → TimeOrMissing (bytes "LAST") stop f (cell departure stop f))
+    → (some (cell Arrival stop f) ≡ true → TimeOrMissing (bytes "FIRST") stop f (cell Arrival stop f))
+    × (some (cell Departure stop f) ≡ true → TimeOrMissing (bytes "LAST") stop f (cell Departure stop f))
 
 -- Where a time has no content something is kept exactly at the stop type that may miss it: an arrival at FIRST, a departure at LAST.
 abbrev pub MissingExactly : Type 0
 MissingExactly =
     (stop : List ℕ)
-    → ((some (cell arrival stop null) ≡ true) ↔ (stop ≡ bytes "FIRST"))
-    × ((some (cell departure stop null) ≡ true) ↔ (stop ≡ bytes "LAST"))
+    → ((some (cell Arrival stop null) ≡ true) ↔ (stop ≡ bytes "FIRST"))
+    × ((some (cell Departure stop null) ≡ true) ↔ (stop ≡ bytes "LAST"))
 
 -- Of a field without content nothing is kept in any other column.
 abbrev pub NullKeepsNothing : Type 0
-NullKeepsNothing = (k : ℕ) (stop : List ℕ) → (k ≡ arrival → ⊥) → (k ≡ departure → ⊥) → cell k stop null ≡ []
+NullKeepsNothing = (k : Kind) (stop : List ℕ) → (k ≡ Arrival → ⊥) → (k ≡ Departure → ⊥) → cell k stop null ≡ []
+
+-- An empty field is outside every type.
+abbrev pub EmptyKeepsNothing : Type 0
+EmptyKeepsNothing = (k : Kind) (stop : List ℕ) → cell k stop [] ≡ []
 
 -- The words of a stop type are kept as 0, 1 and 2.
 abbrev pub StopTypesCoded : Type 0
 StopTypesCoded =
     (stop : List ℕ)
-    → (cell stopType stop (bytes "FIRST") ≡ 0 ∷ [])
-    × (cell stopType stop (bytes "INTERMEDIATE") ≡ 1 ∷ [])
-    × (cell stopType stop (bytes "LAST") ≡ 2 ∷ [])
+    → (cell StopType stop (bytes "FIRST") ≡ 0 ∷ [])
+    × (cell StopType stop (bytes "INTERMEDIATE") ≡ 1 ∷ [])
+    × (cell StopType stop (bytes "LAST") ≡ 2 ∷ [])
 
 -- ---- rows
 
--- A reader wants at most 20 columns, each of a kind that there is; and a row has at most 80 bytes.
+-- A reader wants at most 20 columns, and a row has at most 80 bytes.
 abbrev pub TablesSmall : Type 0
-TablesSmall = (t : Table) → (wanted t ≤ 20) × (rowWidth t ≤ room) × ((j : ℕ) → j < wanted t → kindAt t j < 12)
+TablesSmall = (t : Table) → (wanted t ≤ 20) × (rowWidth t ≤ 80)
 
 -- The first cell begins where the row does, each other where the one before it ends, and all end within the row.
 abbrev pub CellsLaid : Type 0
@@ -110,14 +116,9 @@ RowIsCells =
     → ((j : ℕ) → j < wanted t → part (offset t j) (width (kindAt t j)) row ≡ getD cells j [])
     → take (rowWidth t) row ≡ flat cells
 
--- What is kept of an absent column has the width of its cells, and stands at its place in a row that nothing is written into; behind such a row are zero bytes.
+-- What is kept of an absent column has the width of its cells.
 abbrev pub AbsentKept : Type 0
-AbsentKept =
-    (t : Table)
-    → (drop (rowWidth t) (blankRow t) ≡ replicate (room - rowWidth t) 0)
-    × ((j : ℕ) → j < wanted t → optionalAt t j ≡ true
-    → (length (columnAt t j .absent) ≡ width (kindAt t j))
-    × (part (offset t j) (width (kindAt t j)) (blankRow t) ≡ columnAt t j .absent))
+AbsentKept = (t : Table) (j : ℕ) → j < wanted t → optionalAt t j ≡ true → length (columnAt t j .absent) ≡ width (kindAt t j)
 
 -- All of them.
 abbrev pub All : Type 0
@@ -131,6 +132,7 @@ All =
     × TimesInRange
     × MissingExactly
     × NullKeepsNothing
+    × EmptyKeepsNothing
     × StopTypesCoded
     × TablesSmall
     × CellsLaid

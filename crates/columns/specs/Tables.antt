@@ -1,29 +1,32 @@
 -- The wanted tables, each with its columns in document order. Assumes nothing.
 use Prim.Native.Nat.{ℕ, _+_}
 use Prim.Native.String.{String}
-use mathlib.Core.Bool.{Bool, true, false}
+use mathlib.Core.Bool.{Bool, true, false, _&&_, _||_}
 use mathlib.Core.List.{List, [], _∷_, map}
 use lib.Dec.{eqb, ltb}
 use lib.ListN.{length, getD}
-use Rattle.lists.specs.Logic.{on, both}
+use Rattle.lists.specs.Part.{some}
+use Rattle.lists.specs.Logic.{on}
 use Rattle.lists.specs.Text.{bytes, same}
 use Rattle.lists.specs.Rows.{flat}
 use Rattle.turbo.specs.Split.{fieldAt}
-use Rattle.turbo_labels.specs.Columns.{place}
+use Rattle.turbo_labels.specs.Columns.{columnOf, fieldUnder, anyTwice}
 use Rattle.columns.specs.declared.Table.{Table}
 use Rattle.columns.specs.declared.Table.the-variants.{Message, Planning, Calendar}
-use Rattle.columns.specs.Cell.{text, date, journey, fortify, order, stamp, status, arrival, departure, stopType, bit, flexible, width, null, cell, some}
+use Rattle.columns.specs.declared.Kind.{Kind}
+use Rattle.columns.specs.declared.Kind.the-variants.{Text, Date, Journey, Fortify, Order, Stamp, Status, Arrival, Departure, StopType, Bit, Flexible}
+use Rattle.columns.specs.Cell.{width, null, cell}
 
 -- a wanted column: its name, the kind of its fields, and what is kept where it is absent or holds `\0`; nothing for one that must be there
 pub record Column : Type 0 where
   pub name : String
-  pub kind : ℕ
+  pub kind : Kind
   pub absent : List ℕ
 
-abbrev pub must : String → ℕ → Column
+abbrev pub must : String → Kind → Column
 must n k = record { name = n; kind = k; absent = [] }
 
-abbrev pub may : String → ℕ → List ℕ → Column
+abbrev pub may : String → Kind → List ℕ → Column
 may n k a = record { name = n; kind = k; absent = a }
 
 -- 255: the held content stays
@@ -34,43 +37,43 @@ stays = 255 ∷ []
 
 unfoldable pub messageColumns : List Column
 messageColumns =
-    must "DataOwnerCode" text
-    ∷ must "OperationDate" date
-    ∷ must "LinePlanningNumber" text
-    ∷ must "VehicleJourneyNumber" journey
-    ∷ must "FortifyOrderNumber" fortify
-    ∷ must "UserStopCode" text
-    ∷ must "UserStopOrderNumber" order
-    ∷ must "DestinationCode" text
-    ∷ must "LastUpdateTimeStamp" stamp
-    ∷ must "TripStopStatus" status
-    ∷ must "ExpectedArrivalTime" arrival
-    ∷ must "ExpectedDepartureTime" departure
-    ∷ must "JourneyStopType" stopType
-    ∷ may "ShowCancelledTrip" bit stays
-    ∷ may "ShowFlexibleTrip" flexible stays
-    ∷ may "Monitored" bit stays
+    must "DataOwnerCode" Text
+    ∷ must "OperationDate" Date
+    ∷ must "LinePlanningNumber" Text
+    ∷ must "VehicleJourneyNumber" Journey
+    ∷ must "FortifyOrderNumber" Fortify
+    ∷ must "UserStopCode" Text
+    ∷ must "UserStopOrderNumber" Order
+    ∷ must "DestinationCode" Text
+    ∷ must "LastUpdateTimeStamp" Stamp
+    ∷ must "TripStopStatus" Status
+    ∷ must "ExpectedArrivalTime" Arrival
+    ∷ must "ExpectedDepartureTime" Departure
+    ∷ must "JourneyStopType" StopType
+    ∷ may "ShowCancelledTrip" Bit stays
+    ∷ may "ShowFlexibleTrip" Flexible stays
+    ∷ may "Monitored" Bit stays
     ∷ []
 
 -- a planned flexible that is absent is kept as 0
 unfoldable pub planningColumns : List Column
 planningColumns =
-    must "DataOwnerCode" text
-    ∷ must "LinePlanningNumber" text
-    ∷ must "VehicleJourneyNumber" journey
-    ∷ must "FortifyOrderNumber" fortify
-    ∷ must "UserStopCode" text
-    ∷ must "UserStopOrderNumber" order
-    ∷ must "LocalServiceLevelCode" text
-    ∷ must "DestinationCode" text
-    ∷ must "TargetArrivalTime" arrival
-    ∷ must "TargetDepartureTime" departure
-    ∷ must "JourneyStopType" stopType
-    ∷ may "ShowFlexibleTrip" flexible (0 ∷ [])
+    must "DataOwnerCode" Text
+    ∷ must "LinePlanningNumber" Text
+    ∷ must "VehicleJourneyNumber" Journey
+    ∷ must "FortifyOrderNumber" Fortify
+    ∷ must "UserStopCode" Text
+    ∷ must "UserStopOrderNumber" Order
+    ∷ must "LocalServiceLevelCode" Text
+    ∷ must "DestinationCode" Text
+    ∷ must "TargetArrivalTime" Arrival
+    ∷ must "TargetDepartureTime" Departure
+    ∷ must "JourneyStopType" StopType
+    ∷ may "ShowFlexibleTrip" Flexible (0 ∷ [])
     ∷ []
 
 unfoldable pub calendarColumns : List Column
-calendarColumns = must "DataOwnerCode" text ∷ must "LocalServiceLevelCode" text ∷ must "OperationDate" date ∷ []
+calendarColumns = must "DataOwnerCode" Text ∷ must "LocalServiceLevelCode" Text ∷ must "OperationDate" Date ∷ []
 
 unfoldable pub columnsIn : Table → List Column
 columnsIn Message = messageColumns
@@ -102,21 +105,30 @@ widthOf (c ∷ cs) = width (c .kind) + widthOf cs
 unfoldable pub rowWidth : Table → ℕ
 rowWidth t = widthOf (columnsIn t)
 
--- the cell of the column c, which stands at place p of n columns, in a line whose stop type stands at place s
-abbrev pub cellAt : ℕ → ℕ → List ℕ → Column → ℕ → List ℕ
-cellAt n s line c p =
-    on (ltb p n)
-    (on (both (isOptional c) (same (fieldAt p line) null)) (c .absent) (cell (c .kind) (fieldAt s line) (fieldAt p line)))
-    (c .absent)
+-- the field f of column c holds `\0`, and may
+abbrev pub leftOut : Column → List ℕ → Bool
+leftOut c f = isOptional c && same f null
 
--- the place of the stop type among the labels
+-- the cell of the field f of column c, in a line whose stop type's field is `stop`
+abbrev pub cellOf : Column → List ℕ → List ℕ → List ℕ
+cellOf c stop f = on (leftOut c f) (c .absent) (cell (c .kind) stop f)
+
+-- the place of the stop type among the labels, and its field in a line; no bytes where no label has that name
 abbrev pub stopPlace : List (List ℕ) → ℕ
-stopPlace labels = place (bytes "JourneyStopType") labels
+stopPlace labels = columnOf (bytes "JourneyStopType") labels
+
+abbrev pub stopField : List (List ℕ) → List ℕ → List ℕ
+stopField labels line = fieldUnder (stopPlace labels) (length labels) line
+
+-- the cell of column c in a line under its labels: that of the field under its name, and what is kept of an absent one where no label has that name
+abbrev pub cellUnder : List (List ℕ) → List ℕ → Column → List ℕ
+cellUnder labels line c =
+    on (ltb (columnOf (nameOf c) labels) (length labels)) (cellOf c (stopField labels line) (fieldAt (columnOf (nameOf c) labels) line)) (c .absent)
 
 -- the cells of a line under its labels
 abbrev pub cellsOf : List Column → List (List ℕ) → List ℕ → List (List ℕ)
 cellsOf [] labels line = []
-cellsOf (c ∷ cs) labels line = cellAt (length labels) (stopPlace labels) line c (place (nameOf c) labels) ∷ cellsOf cs labels line
+cellsOf (c ∷ cs) labels line = cellUnder labels line c ∷ cellsOf cs labels line
 
 -- the row that a line gives
 unfoldable pub rowOf : Table → List (List ℕ) → List ℕ → List ℕ
@@ -130,9 +142,7 @@ lesser a b = on (eqb b 0) a (on (ltb a b) a b)
 abbrev pub wrongIn : List Column → List (List ℕ) → List ℕ → ℕ
 wrongIn [] labels line = 0
 wrongIn (c ∷ cs) labels line =
-    on (some (cellAt (length labels) (stopPlace labels) line c (place (nameOf c) labels)))
-    (wrongIn cs labels line)
-    (lesser (place (nameOf c) labels + 1) (wrongIn cs labels line))
+    on (some (cellUnder labels line c)) (wrongIn cs labels line) (lesser (columnOf (nameOf c) labels + 1) (wrongIn cs labels line))
 
 unfoldable pub wrongColumn : Table → List (List ℕ) → List ℕ → ℕ
 wrongColumn t labels line = wrongIn (columnsIn t) labels line
@@ -140,7 +150,11 @@ wrongColumn t labels line = wrongIn (columnsIn t) labels line
 -- a column that must be there is missing
 abbrev pub missesIn : List Column → List (List ℕ) → Bool
 missesIn [] labels = false
-missesIn (c ∷ cs) labels = on (isOptional c) (missesIn cs labels) (on (ltb (place (nameOf c) labels) (length labels)) (missesIn cs labels) true)
+missesIn (c ∷ cs) labels = on (isOptional c) (missesIn cs labels) (on (ltb (columnOf (nameOf c) labels) (length labels)) (missesIn cs labels) true)
 
 unfoldable pub misses : Table → List (List ℕ) → Bool
 misses t labels = missesIn (columnsIn t) labels
+
+-- a wanted name stands twice, or one that must be there is missing
+unfoldable pub labelFault : Table → List (List ℕ) → Bool
+labelFault t labels = anyTwice (names t) labels || misses t labels

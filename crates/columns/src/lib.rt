@@ -1,9 +1,9 @@
-// The wanted tables' columns as data: how many there are, each one's kind, and where its cell stands in a row. What a field gives is a rule here; `filling` writes it.
+// The wanted tables' columns as data: how many there are, each one's kind, and where its cell stands in a row. What a field gives is a rule here; `columns_cells` writes it.
 ghost use mathlib.Core.Path.{_≡_};
 ghost use Prim.Native.Nat.{_+_, _*_, _≤_, _<_};
 ghost use Rattle.columns.specs.Tables.{rowWidth};
 ghost use Rattle.columns.specs.Layout.{wanted, kindAt, optionalAt, offset};
-ghost use Rattle.columns.specs.Digit.{digitOf};
+ghost use Rattle.columns.specs.inner.Digit.{digitOf, kindNamed};
 
 // The tables that are wanted: of a message, of the planning, of the calendar.
 pub enum Table {
@@ -12,11 +12,27 @@ pub enum Table {
     Calendar,
 }
 
+// The kinds of wanted columns: a text, a date, numbers of up to six, two and three digits, a timestamp, a status, two times, a stop type, a bit, a flexible.
+pub enum Kind {
+    Text,
+    Date,
+    Journey,
+    Fortify,
+    Order,
+    Stamp,
+    Status,
+    Arrival,
+    Departure,
+    StopType,
+    Bit,
+    Flexible,
+}
+
 // How wide a row of each is.
-pub fn row_width(t: Table) -> usize
-    ensures { λ r. ⌜ r ≡ rowWidth t ⌝ }
+pub fn row_width(table: Table) -> usize
+    ensures { λ r. ⌜ r ≡ rowWidth table ⌝ }
 {
-    match t {
+    match table {
         Table::Message => 66,
         Table::Planning => 65,
         Table::Calendar => 24,
@@ -24,10 +40,10 @@ pub fn row_width(t: Table) -> usize
 }
 
 // How many columns of each are wanted.
-pub fn wanted(t: Table) -> usize
-    ensures { λ r. ⌜ r ≡ wanted t ⌝ }
+pub fn wanted(table: Table) -> usize
+    ensures { λ r. ⌜ r ≡ wanted table ⌝ }
 {
-    match t {
+    match table {
         Table::Message => 16,
         Table::Planning => 12,
         Table::Calendar => 3,
@@ -43,6 +59,26 @@ fn digit(packed: u64, j: usize) -> u8
     ((packed >> (4 * j)) % 16) as u8
 }
 
+// The kind that a hex digit names.
+fn kind_named(digit: u8) -> Kind
+    ensures { λ r. ⌜ r ≡ kindNamed digit ⌝ }
+{
+    match digit {
+        0 => Kind::Text,
+        1 => Kind::Date,
+        2 => Kind::Journey,
+        3 => Kind::Fortify,
+        4 => Kind::Order,
+        5 => Kind::Stamp,
+        6 => Kind::Status,
+        7 => Kind::Arrival,
+        8 => Kind::Departure,
+        9 => Kind::StopType,
+        10 => Kind::Bit,
+        _ => Kind::Flexible,
+    }
+}
+
 // The columns' kinds, a hex digit each, the first column's last: a constant table would be laid out anew wherever it is read.
 const MESSAGE_KINDS: u64 = 0xaba9876504032010;
 
@@ -51,14 +87,14 @@ const PLANNING_KINDS: u64 = 0xb98700403200;
 const CALENDAR_KINDS: u64 = 0x100;
 
 // The kind of column j.
-pub fn kind_of(t: Table, j: usize) -> u8
-    requires { ⌜ j < wanted t ⌝ }
-    ensures { λ r. ⌜ r ≡ kindAt t j ⌝ }
+pub fn kind_of(table: Table, j: usize) -> Kind
+    requires { ⌜ j < wanted table ⌝ }
+    ensures { λ r. ⌜ r ≡ kindAt table j ⌝ }
 {
-    match t {
-        Table::Message => digit(MESSAGE_KINDS, j),
-        Table::Planning => digit(PLANNING_KINDS, j),
-        Table::Calendar => digit(CALENDAR_KINDS, j),
+    match table {
+        Table::Message => kind_named(digit(MESSAGE_KINDS, j)),
+        Table::Planning => kind_named(digit(PLANNING_KINDS, j)),
+        Table::Calendar => kind_named(digit(CALENDAR_KINDS, j)),
     }
 }
 
@@ -84,11 +120,11 @@ fn two_digits(high: u64, low: u64, j: usize) -> usize
 }
 
 // Where the cell of column j begins in a row.
-pub fn offset_of(t: Table, j: usize) -> usize
-    requires { ⌜ j < wanted t ⌝ }
-    ensures { λ r. ⌜ r ≡ offset t j ⌝ }
+pub fn offset_of(table: Table, j: usize) -> usize
+    requires { ⌜ j < wanted table ⌝ }
+    ensures { λ r. ⌜ r ≡ offset table j ⌝ }
 {
-    match t {
+    match table {
         Table::Message => two_digits(MESSAGE_HIGH, MESSAGE_LOW, j),
         Table::Planning => two_digits(PLANNING_HIGH, PLANNING_LOW, j),
         Table::Calendar => two_digits(CALENDAR_HIGH, CALENDAR_LOW, j),
@@ -103,11 +139,11 @@ const PLANNING_OPTIONAL: u64 = 0x100000000000;
 const CALENDAR_OPTIONAL: u64 = 0x000;
 
 // Whether column j may be absent or hold `\0`.
-pub fn is_optional(t: Table, j: usize) -> bool
-    requires { ⌜ j < wanted t ⌝ }
-    ensures { λ r. ⌜ r ≡ optionalAt t j ⌝ }
+pub fn is_optional(table: Table, j: usize) -> bool
+    requires { ⌜ j < wanted table ⌝ }
+    ensures { λ r. ⌜ r ≡ optionalAt table j ⌝ }
 {
-    match t {
+    match table {
         Table::Message => digit(MESSAGE_OPTIONAL, j) == 1,
         Table::Planning => digit(PLANNING_OPTIONAL, j) == 1,
         Table::Calendar => digit(CALENDAR_OPTIONAL, j) == 1,

@@ -1,4 +1,3 @@
 pub mod KindLaws
-pub mod Determined
 pub mod WriteLaws
-pub mod ValuesDetermined
+pub mod Determined

@@ -6,13 +6,13 @@ use Prim.Native.Nat.{ℕ, _<_}
 use native.Mathlib.Omega.{arith}
 use lib.ListN.{length}
 use Rattle.lists.specs.Text.{same}
-use Rattle.lists.specs.Part.{over}
+use Rattle.lists.specs.Part.{over, some}
 use Rattle.lists.specs.BigEndian.{spelled}
 use Rattle.lists.proofs.OverLaws.{over-nil}
 use Rattle.lists.proofs.BigEndianLaws.{length-spelled}
 use Rattle.texts.specs.declared.Text.{Text}
 use Rattle.field_types.specs.Times.{time}
-use Rattle.columns.specs.Cell.{null, timeCell, textCell, missing, timeAt, some}
+use Rattle.columns.specs.Cell.{null, timeCell, textCell, missingTime, timeAt}
 use Rattle.columns.proofs.CellLaws.{some-long}
 
 -- ---- what a writer of a cell promises: it answers whether something is kept, and has written that
@@ -42,7 +42,7 @@ pub text-refused : (t : Text) → t .ok ≡ false → textCell t ≡ []
 text-refused t e = rw e
 
 module _ (word stop f : List ℕ) where
-  pub time-missing : same f null ≡ true → same stop word ≡ true → missing ≡ timeAt word stop f
+  pub time-missing : same f null ≡ true → same stop word ≡ true → missingTime ≡ timeAt word stop f
   time-missing n s = rw (n, s)
 
   pub time-none : same f null ≡ true → same stop word ≡ false → timeAt word stop f ≡ []

@@ -1,13 +1,13 @@
-use Prim.Native.Nat.{ℕ, suc, _+_, _*_, _≤_}
+use Prim.Native.Nat.{ℕ, _+_, _*_, _≤_}
 use native.Mathlib.Omega.{arith}
-use mathlib.Core.Path.{_≡_, refl, sym, ap, _∙_}
-use mathlib.Core.Bool.{Bool, true, false, not}
+use mathlib.Core.Path.{_≡_, refl, sym, ap, subst, _∙_}
+use mathlib.Core.Bool.{Bool, true, false, not, _||_}
 use mathlib.Core.List.{List, [], _∷_}
 use mathlib.Core.Logic.{_↔_}
-use borrow.Author.Tests.{eq-eqb, eqb-true, ltb-false, le-ltb}
+use borrow.Author.Tests.{eqb-true, ltb-false, le-ltb}
 use lib.Dec.{eqb, ltb}
 use lib.ListN.{length}
-use Rattle.lists.specs.Logic.{on, both}
+use Rattle.lists.specs.Logic.{on}
 use Rattle.lists.specs.Part.{part}
 use Rattle.lists.specs.Each.{Each}
 use Rattle.lists.proofs.OverLaws.{length-over}
@@ -16,70 +16,27 @@ use Rattle.syntax.specs.declared.Verdict.the-variants as Verdicts
 use Rattle.syntax.specs.Machine.{fault}
 use Rattle.grammar.specs.Grammar.{WellFormed}
 use Rattle.syntax.proofs.GrammarLaws.{fine, formed}
-use Rattle.turbo_lines.specs.declared.Mark.{Mark}
-use Rattle.turbo_lines.specs.declared.Mark.the-variants as Marks
-use Rattle.turbo_lines.specs.Lines.{lines, markOf}
+use Rattle.turbo_lines.specs.Lines.{lines}
 use Rattle.columns.specs.declared.Table.{Table}
 use Rattle.columns.specs.declared.Table.the-variants.{Message, Planning, Calendar}
 use Rattle.columns.specs.Tables.{rowOf}
 use Rattle.register.specs.Register.{grants}
 use Rattle.register.proofs.RegisterLaws.{grants-desk}
 use Rattle.reader.proofs.BoundLaws.{message-bounded, planning-bounded, calendar-bounded}
-use Rattle.reader.specs.declared.Answer.the-variants.{TooLong, Form, Field, Owner, Rows}
-use Rattle.reader.specs.Items.{Item, head, row, Place, outside, awaiting, under, after, seen, before, items}
-use Rattle.reader.specs.Rules.{largest, formBad, isWrong, wrongAt, ownerBad, lineOf, firstLine, rowsUpTo, settled, answerTo, itemsOf, bySyntax, bySyntaxStaged, readingOf, stagedBy, laid}
+use Rattle.reader.specs.declared.Reading.the-variants.{TooLong, Syntax, Form, Field, Owner, Rows}
+use Rattle.reader.specs.Items.{Item, head, row, outside}
+use Rattle.reader.specs.Rules.{largest, formBad, isWrong, wrongAt, ownerBad, dataRows, answerTo, itemsOf, faults, faultPlace, readingOf}
+use Rattle.reader.specs.Staging.{rowsUpTo, laid, stagedBy}
+use Rattle.reader.specs.inner.Settled.{answeredBy}
+use Rattle.reader.proofs.AllRowsLaws.{items-numbered, none-first, first-none, not-wrong, right-not, all-rows}
 
 -- What an answer says of the items. Assumes nothing.
 
--- lines are numbered from 1
-seen-numbered : (m : Mark) (n : ℕ) (l : List ℕ) (p : Place) (xs : List Item) → 1 ≤ n → Each (λ (x : Item). 1 ≤ lineOf x) xs → Each (λ (x : Item). 1 ≤ lineOf x) (before (seen m n l p) xs)
-seen-numbered Marks.Group n l p xs h e = e
-seen-numbered Marks.Table n l p xs h e = e
-seen-numbered Marks.Labels n l awaiting xs h e = (h, e)
-seen-numbered Marks.Labels n l outside xs h e = e
-seen-numbered Marks.Labels n l (under ls) xs h e = e
-seen-numbered Marks.Data n l outside xs h e = e
-seen-numbered Marks.Data n l awaiting xs h e = e
-seen-numbered Marks.Data n l (under ls) xs h e = (h, e)
-
-items-numbered : (t : Table) (p : Place) (n : ℕ) (ls : List (List ℕ)) → 1 ≤ n → Each (λ (x : Item). 1 ≤ lineOf x) (items t p n ls)
-unfolding items
-items-numbered t p n [] h = tt
-items-numbered t p n (l ∷ ls) h = seen-numbered (markOf l) n l p _ h (items-numbered t (after t (markOf l) l p) (suc n) ls (omega arith))
-
--- no first line at fault exactly where none is at fault
-none-first : (bad : Item → Bool) (xs : List Item) → Each (λ (x : Item). 1 ≤ lineOf x) xs → firstLine bad xs ≡ 0 → Each (λ (x : Item). bad x ≡ false) xs
-unfolding firstLine
-none-first bad [] e h = tt
-none-first bad (x ∷ xs) e h = go (bad x) refl h (none-first bad xs (e .1))
-  where
-    go : (b : Bool) → bad x ≡ b → on b (lineOf x) (firstLine bad xs) ≡ 0 → (firstLine bad xs ≡ 0 → Each (λ (y : Item). bad y ≡ false) xs) → Each (λ (y : Item). bad y ≡ false) (x ∷ xs)
-    go true q k ih = let l = e .0 in absurd (omega arith)
-    go false q k ih = (q, ih k)
-
-first-none : (bad : Item → Bool) (xs : List Item) → Each (λ (x : Item). bad x ≡ false) xs → firstLine bad xs ≡ 0
-unfolding firstLine
-first-none bad [] e = refl
-first-none bad (x ∷ xs) e = rw (e .0) (first-none bad xs (e .1))
-
--- a field is wrong exactly where its column is not 0
-not-wrong : (t : Table) (xs : List Item) → Each (λ (x : Item). isWrong t x ≡ false) xs → Each (λ (x : Item). wrongAt t x ≡ 0) xs
-not-wrong t [] e = tt
-not-wrong t (x ∷ xs) e = (go (eqb (wrongAt t x) 0) refl (e .0), not-wrong t xs (e .1))
-  where
-    go : (b : Bool) → eqb (wrongAt t x) 0 ≡ b → not b ≡ false → wrongAt t x ≡ 0
-    go true q k = eqb-true _ _ q
-    go false q k = absurd (let z : _≡_ {A = ℕ} 0 1 = cc in omega arith)
-
-right-not : (t : Table) (xs : List Item) → Each (λ (x : Item). wrongAt t x ≡ 0) xs → Each (λ (x : Item). isWrong t x ≡ false) xs
-right-not t [] e = tt
-right-not t (x ∷ xs) e = (rw (eq-eqb (wrongAt t x) 0 (e .0)), right-not t xs (e .1))
-
 -- an answer of rows says that there is no fault
-settled-rows : (f w c o r n : ℕ) → settled f w c o r ≡ Rows n → (f ≡ 0) × (w ≡ 0) × (o ≡ 0) × (r ≡ n)
+settled-rows : (f w c o r n : ℕ) → answeredBy f w c o r ≡ Rows n → (f ≡ 0) × (w ≡ 0) × (o ≡ 0) × (r ≡ n)
 settled-rows f w c o r n = go (eqb f 0) (eqb w 0) (eqb o 0) refl refl refl
   where
-    go : (a b d : Bool) → eqb f 0 ≡ a → eqb w 0 ≡ b → eqb o 0 ≡ d → on a (on b (on d (Rows r) (Owner o)) (Field w c)) (Form f) ≡ Rows n → (f ≡ 0) × (w ≡ 0) × (o ≡ 0) × (r ≡ n)
+    go : (a b d : Bool) → eqb f 0 ≡ a → eqb w 0 ≡ b → eqb o 0 ≡ d → on (not a) (Form f) (on (not b) (Field w c) (on (not d) (Owner o) (Rows r))) ≡ Rows n → (f ≡ 0) × (w ≡ 0) × (o ≡ 0) × (r ≡ n)
     go true true true p q s e = (eqb-true _ _ p, eqb-true _ _ q, eqb-true _ _ s, cc)
     go true true false p q s e = absurd (let z : _≡_ {A = ℕ} 0 1 = cc in omega arith)
     go true false d p q s e = absurd (let z : _≡_ {A = ℕ} 0 1 = cc in omega arith)
@@ -96,7 +53,7 @@ module _ (t : Table) (register : List ℕ) (sender : ℕ) (d : List ℕ) where
       × Each (λ (x : Item). wrongAt t x ≡ 0) its
       × Each (λ (x : Item). ownerBad t register sender x ≡ false) its
 
-  answer-right : (n : ℕ) → answerTo t register sender its ≡ Rows n → (Each (λ (x : Item). formBad t x ≡ false) its) × (Each (λ (x : Item). wrongAt t x ≡ 0) its) × (Each (λ (x : Item). ownerBad t register sender x ≡ false) its) × (length (rowsUpTo t register sender its) ≡ n)
+  answer-right : (n : ℕ) → answerTo t register sender its ≡ Rows n → (Each (λ (x : Item). formBad t x ≡ false) its) × (Each (λ (x : Item). wrongAt t x ≡ 0) its) × (Each (λ (x : Item). ownerBad t register sender x ≡ false) its) × (length (dataRows t its) ≡ n)
   unfolding answerTo
   answer-right n e =
       let k = settled-rows _ _ _ _ _ n e in
@@ -107,13 +64,13 @@ module _ (t : Table) (register : List ℕ) (sender : ℕ) (d : List ℕ) where
   unfolding readingOf
   reading-looked n = go (ltb largest (length d)) (fault d) refl refl
     where
-      go : (b : Bool) (v : Verdict) → ltb largest (length d) ≡ b → fault d ≡ v → on b TooLong (bySyntax v (answerTo t register sender its)) ≡ Rows n → (length d ≤ largest) × (fault d ≡ Verdicts.Fine) × (answerTo t register sender its ≡ Rows n)
+      go : (b : Bool) (v : Verdict) → ltb largest (length d) ≡ b → fault d ≡ v → on b TooLong (on (faults v) (Syntax (faultPlace v)) (answerTo t register sender its)) ≡ Rows n → (length d ≤ largest) × (fault d ≡ Verdicts.Fine) × (answerTo t register sender its ≡ Rows n)
       go true v p q e = absurd (let z : _≡_ {A = ℕ} 0 1 = cc in omega arith)
       go false Verdicts.Fine p q e = (ltb-false _ _ p, q, e)
       go false (Verdicts.FaultAt i) p q e = absurd (let z : _≡_ {A = ℕ} 0 1 = cc in omega arith)
 
   accepted-back : length d ≤ largest → WellFormed d → Each (λ (x : Item). formBad t x ≡ false) its → Each (λ (x : Item). wrongAt t x ≡ 0) its → Each (λ (x : Item). ownerBad t register sender x ≡ false) its
-      → readingOf t register sender d ≡ Rows (length (rowsUpTo t register sender its))
+      → readingOf t register sender d ≡ Rows (length (dataRows t its))
   unfolding readingOf answerTo
   accepted-back small w f r o =
       rw (le-ltb largest (length d) small, fine w, first-none (formBad t) its f, first-none (isWrong t) its (right-not t its r), first-none (ownerBad t register sender) its o)
@@ -125,10 +82,18 @@ module _ (t : Table) (register : List ℕ) (sender : ℕ) (d : List ℕ) where
       to (n, e) = let k = reading-looked n e in let a = answer-right n (k .2) in (k .0, formed d (k .1), a .0, a .1, a .2)
 
       back : Right → (n : ℕ) × (readingOf t register sender d ≡ Rows n)
-      back (small, w, f, r, o) = (length (rowsUpTo t register sender its), accepted-back small w f r o)
+      back (small, w, f, r, o) = (length (dataRows t its), accepted-back small w f r o)
 
-  pub rows-counted : (n : ℕ) → readingOf t register sender d ≡ Rows n → n ≡ length (rowsUpTo t register sender its)
+  pub rows-counted : (n : ℕ) → readingOf t register sender d ≡ Rows n → n ≡ length (dataRows t its)
   rows-counted n e = let k = reading-looked n e in sym (answer-right n (k .2) .3)
+
+  -- the rows before the first line at fault are all rows
+  pub accepted-rows : (n : ℕ) → readingOf t register sender d ≡ Rows n → rowsUpTo t register sender its ≡ dataRows t its
+  accepted-rows n e = let a = answer-right n (reading-looked n e .2) in all-rows t register sender its (a .0) (a .1) (a .2)
+
+  -- so what holds of each of them holds of each row
+  pub accepted-each : (P : List ℕ → Type 0) → Each P (rowsUpTo t register sender its) → (n : ℕ) → readingOf t register sender d ≡ Rows n → Each P (dataRows t its)
+  accepted-each P h n e = subst (Each P) (accepted-rows n e) h
 
 -- every row of the desk's is refused
 desk-never : {A : Type 0} (register owner : List ℕ) → not (grants register 0 owner) ≡ false → A
@@ -136,14 +101,10 @@ desk-never register owner q =
     let y : grants register 0 owner ≡ false = grants-desk register 0 owner refl in
     absurd (let z : _≡_ {A = ℕ} 0 1 = cc in omega arith)
 
-desk-rows : (register : List ℕ) (xs : List Item) → Each (λ (x : Item). ownerBad Message register 0 x ≡ false) xs → rowsUpTo Message register 0 xs ≡ []
-unfolding rowsUpTo
+desk-rows : (register : List ℕ) (xs : List Item) → Each (λ (x : Item). ownerBad Message register 0 x ≡ false) xs → dataRows Message xs ≡ []
+unfolding dataRows
 desk-rows register [] e = refl
-desk-rows register (head n ls ∷ xs) e = go (both (not (formBad Message (head n ls))) (both (not (isWrong Message (head n ls))) (not false))) (desk-rows register xs (e .1))
-  where
-    go : (b : Bool) → rowsUpTo Message register 0 xs ≡ [] → on b (rowsUpTo Message register 0 xs) [] ≡ []
-    go true ih = ih
-    go false ih = refl
+desk-rows register (head n ls ∷ xs) e = desk-rows register xs (e .1)
 desk-rows register (row n ls l ∷ xs) e = desk-never register (part 0 10 (rowOf Message ls l)) (e .0)
 
 pub desk-nothing : (register d : List ℕ) (n : ℕ) → readingOf Message register 0 d ≡ Rows n → n ≡ 0
@@ -154,18 +115,17 @@ desk-nothing register d n e =
 
 pub area-length : (t : Table) (register : List ℕ) (sender : ℕ) (d staging : List ℕ) → length (stagedBy t register sender d staging) ≡ length staging
 unfolding stagedBy
-area-length t register sender d staging = go (ltb largest (length d)) (fault d)
+area-length t register sender d staging = go (ltb largest (length d) || faults (fault d))
   where
-    go : (b : Bool) (v : Verdict) → length (on b staging (bySyntaxStaged v (laid t (rowsUpTo t register sender (itemsOf t d)) staging) staging)) ≡ length staging
-    go true v = refl
-    go false Verdicts.Fine = length-over 0 _ staging
-    go false (Verdicts.FaultAt i) = refl
+    go : (b : Bool) → length (on b staging (laid t (rowsUpTo t register sender (itemsOf t d)) staging)) ≡ length staging
+    go true = refl
+    go false = length-over 0 _ staging
 
 -- few rows of a table whose rows are bounded
 module _ (t : Table) (register : List ℕ) (sender least : ℕ) (bounded : (d : List ℕ) → length (rowsUpTo t register sender (itemsOf t d)) * least ≤ length d + 2) where
   few-rows : (d : List ℕ) (n : ℕ) → readingOf t register sender d ≡ Rows n → (n * least ≤ length d + 2) × (length d ≤ largest)
   few-rows d n e =
-      let c = rows-counted t register sender d n e in
+      let c = rows-counted t register sender d n e ∙ ap length (sym (accepted-rows t register sender d n e)) in
       let b : length (rowsUpTo t register sender (itemsOf t d)) * least ≤ length d + 2 = bounded d in
       (rw (← c) at b, reading-looked t register sender d n e .0)
 

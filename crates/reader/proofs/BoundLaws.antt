@@ -4,15 +4,16 @@ use native.Mathlib.Decide.{ℕ-discrete, decLt}
 use native.Mathlib.Omega.{arith}
 use native.Mathlib.Nat.{zero-mul, suc-mul}
 use mathlib.Core.Path.{_≡_, refl, sym, ap, _∙_}
-use mathlib.Core.Bool.{Bool, true, false, not}
+use mathlib.Core.Bool.{Bool, true, false, not, _&&_}
 use mathlib.Core.List.{List, [], _∷_}
 use mathlib.Core.Logic.{_⊎_, inl, inr, ⊎-elim}
 use borrow.Author.Tests.{ne-eqb, eqb-true}
 use lib.Dec.{eqb}
 use lib.ListN.{length, drop, length-drop}
-use Rattle.lists.specs.Logic.{on, both}
+use Rattle.lists.specs.Part.{some}
+use Rattle.lists.specs.Logic.{on}
 use Rattle.lists.specs.Text.{bytes, same}
-use Rattle.lists.proofs.LogicLaws.{both-false}
+use Rattle.lists.proofs.LogicLaws.{and-false}
 use Rattle.lists.proofs.TextLaws.{same-equal}
 use Rattle.field_types.specs.Dates.{date}
 use Rattle.field_types.specs.Times.{time}
@@ -22,19 +23,21 @@ use Rattle.turbo_lines.specs.declared.Mark.{Mark}
 use Rattle.turbo_lines.specs.declared.Mark.the-variants as Marks
 use Rattle.turbo.specs.Split.{until, past, tailAt, fields, fieldAt}
 use Rattle.turbo_lines.specs.Lines.{lines, markOf, afterMark}
-use Rattle.turbo_labels.specs.Columns.{place}
+use Rattle.turbo_labels.specs.Columns.{columnOf}
 use Rattle.turbo.proofs.SplitLaws.{until-le, past-drop, field-tail}
 use Rattle.turbo_lines.proofs.LineLaws.{lines-cons, lines-none}
 use Rattle.columns.specs.declared.Table.{Table}
 use Rattle.columns.specs.declared.Table.the-variants.{Message, Planning, Calendar}
-use Rattle.columns.specs.Cell.{null, missing, cell, numberCell, timeCell, timeAt, some}
-use Rattle.columns.specs.Cell as Cell
+use Rattle.columns.specs.Cell.{null, missingTime, cell, numberCell, timeCell, timeAt}
+use Rattle.columns.specs.declared.Kind.{Kind}
+use Rattle.columns.specs.declared.Kind.the-variants as Kinds
 use Rattle.columns.specs.Layout.{columnAt}
-use Rattle.columns.specs.Tables.{must, cellAt, stopPlace, wrongColumn, rowOf, columnsIn, messageColumns, planningColumns, calendarColumns}
+use Rattle.columns.specs.Tables.{must, stopField, cellUnder, wrongColumn, rowOf, columnsIn, messageColumns, planningColumns, calendarColumns}
 use Rattle.rows.proofs.RowLaws.{all-right}
 use Rattle.reader.proofs.HeldLaws.{must-cell}
-use Rattle.reader.specs.Items.{Item, head, row, Place, outside, awaiting, under, after, seen, before, items}
-use Rattle.reader.specs.Rules.{formBad, ownerBad, rowsUpTo, itemsOf, fine}
+use Rattle.reader.specs.Items.{Item, head, row, Place, outside, awaiting, under, placeAfter, seen, inFront, items}
+use Rattle.reader.specs.Rules.{formBad, ownerBad, itemsOf}
+use Rattle.reader.specs.Staging.{fine, rowsUpTo}
 
 -- How many rows a dossier can give: each row's line holds a stamp, a time or a date, and ends in two bytes. Assumes nothing.
 
@@ -87,11 +90,11 @@ length-kept kept n f none e = go (ℕ-discrete (length f) n)
     go (no h) = let k = ap some (none h) in absurd (let z : _≡_ {A = ℕ} 0 1 = cc in omega arith)
 
 -- a stamp has 25 bytes, a date ten, a time eight
-stamp-long : (s f : List ℕ) → some (cell Cell.stamp s f) ≡ true → length f ≡ 25
+stamp-long : (s f : List ℕ) → some (cell Kinds.Stamp s f) ≡ true → length f ≡ 25
 unfolding cell stamp
 stamp-long s f = length-kept (numberCell 4 (stamp f)) 25 f (λ h. rw (ne-eqb (length f) 25 h))
 
-date-long : (s f : List ℕ) → some (cell Cell.date s f) ≡ true → length f ≡ 10
+date-long : (s f : List ℕ) → some (cell Kinds.Date s f) ≡ true → length f ≡ 10
 unfolding cell date
 date-long s f = length-kept (numberCell 4 (date f)) 10 f (λ h. rw (← (triple-length 4 45 f h)))
 
@@ -103,7 +106,7 @@ time-long f = length-kept (timeCell (time f)) 8 f (λ h. rw (← (clock-other 31
 timed-long : (word s f : List ℕ) → some (timeAt word s f) ≡ true → (length f ≡ 8) ⊎ (s ≡ word)
 timed-long word s f = go (same f null) (same s word) refl
   where
-    go : (b c : Bool) → same s word ≡ c → some (on b (on c missing []) (timeCell (time f))) ≡ true → (length f ≡ 8) ⊎ (s ≡ word)
+    go : (b c : Bool) → same s word ≡ c → some (on b (on c missingTime []) (timeCell (time f))) ≡ true → (length f ≡ 8) ⊎ (s ≡ word)
     go true true q e = inr (same-equal s word q)
     go true false q e = absurd (let z : _≡_ {A = ℕ} 0 1 = cc in omega arith)
     go false c q e = inl (time-long f e)
@@ -112,41 +115,41 @@ timed-long word s f = go (same f null) (same s word) refl
 not-both : (s : List ℕ) → s ≡ bytes "FIRST" → s ≡ bytes "LAST" → ⊥
 not-both s e f = let z : _≡_ {A = ℕ} 5 4 = sym (ap length e) ∙ ap length f in omega arith
 
-times-long : (s f g : List ℕ) → some (cell Cell.arrival s f) ≡ true → some (cell Cell.departure s g) ≡ true → (length f ≡ 8) ⊎ (length g ≡ 8)
+times-long : (s f g : List ℕ) → some (cell Kinds.Arrival s f) ≡ true → some (cell Kinds.Departure s g) ≡ true → (length f ≡ 8) ⊎ (length g ≡ 8)
 unfolding cell
 times-long s f g a b =
     ⊎-elim inl (λ e. ⊎-elim inr (λ k. absurd (not-both s e k)) (timed-long (bytes "LAST") s g b)) (timed-long (bytes "FIRST") s f a)
 
 -- something is kept of a column that must be there
 right :
-    (ls : List (List ℕ)) (l : List ℕ) (name : String) (k : ℕ) → some (cellAt (length ls) (stopPlace ls) l (must name k) (place (bytes name) ls)) ≡ true
-    → some (cell k (fieldAt (stopPlace ls) l) (fieldAt (place (bytes name) ls) l)) ≡ true
-right ls l name k e = must-cell (length ls) (stopPlace ls) l name k (place (bytes name) ls) e .1
+    (ls : List (List ℕ)) (l : List ℕ) (name : String) (k : Kind) → some (cellUnder ls l (must name k)) ≡ true
+    → some (cell k (stopField ls l) (fieldAt (columnOf (bytes name) ls) l)) ≡ true
+right ls l name k e = must-cell ls l name k e .1
 
 -- the ninth column of a message is its stamp
 message-long : (ls : List (List ℕ)) (l : List ℕ) → wrongColumn Message ls l ≡ 0 → 27 ≤ length l + 2
 unfolding columnsIn messageColumns columnAt
 message-long ls l e =
-    let m = right ls l "LastUpdateTimeStamp" Cell.stamp (all-right Message ls l e 8 (omega arith)) in
-    omega (arith, field-shorter (place (bytes "LastUpdateTimeStamp") ls) l, stamp-long _ _ m)
+    let m = right ls l "LastUpdateTimeStamp" Kinds.Stamp (all-right Message ls l e 8 (omega arith)) in
+    omega (arith, field-shorter (columnOf (bytes "LastUpdateTimeStamp") ls) l, stamp-long _ _ m)
 
 -- the ninth and tenth of a planning are its times
 planning-long : (ls : List (List ℕ)) (l : List ℕ) → wrongColumn Planning ls l ≡ 0 → 10 ≤ length l + 2
 unfolding columnsIn planningColumns columnAt
 planning-long ls l e =
-    let a = right ls l "TargetArrivalTime" Cell.arrival (all-right Planning ls l e 8 (omega arith)) in
-    let b = right ls l "TargetDepartureTime" Cell.departure (all-right Planning ls l e 9 (omega arith)) in
+    let a = right ls l "TargetArrivalTime" Kinds.Arrival (all-right Planning ls l e 8 (omega arith)) in
+    let b = right ls l "TargetDepartureTime" Kinds.Departure (all-right Planning ls l e 9 (omega arith)) in
     ⊎-elim
-    (λ h. omega (arith, field-shorter (place (bytes "TargetArrivalTime") ls) l, h))
-    (λ h. omega (arith, field-shorter (place (bytes "TargetDepartureTime") ls) l, h))
+    (λ h. omega (arith, field-shorter (columnOf (bytes "TargetArrivalTime") ls) l, h))
+    (λ h. omega (arith, field-shorter (columnOf (bytes "TargetDepartureTime") ls) l, h))
     (times-long _ _ _ a b)
 
 -- the third of a calendar is its date
 calendar-long : (ls : List (List ℕ)) (l : List ℕ) → wrongColumn Calendar ls l ≡ 0 → 12 ≤ length l + 2
 unfolding columnsIn calendarColumns columnAt
 calendar-long ls l e =
-    let m = right ls l "OperationDate" Cell.date (all-right Calendar ls l e 2 (omega arith)) in
-    omega (arith, field-shorter (place (bytes "OperationDate") ls) l, date-long _ _ m)
+    let m = right ls l "OperationDate" Kinds.Date (all-right Calendar ls l e 2 (omega arith)) in
+    omega (arith, field-shorter (columnOf (bytes "OperationDate") ls) l, date-long _ _ m)
 
 -- ---- the rows of a dossier, each of at least `least` bytes with its line end
 
@@ -170,23 +173,23 @@ module _ (t : Table) (least : ℕ) (long : (ls : List (List ℕ)) (l : List ℕ)
   row-weigh n fs l xs w h = go (eqb (wrongColumn t fs l) 0) refl
     where
       go : (b : Bool) → eqb (wrongColumn t fs l) 0 ≡ b
-          → bytesOf (on (both (not (formBad t (row n fs l))) (both (not (not b)) (not (ownerBad t register sender (row n fs l))))) (rowOf t fs l ∷ staged xs) []) ≤ length l + 2 + w
+          → bytesOf (on (not (formBad t (row n fs l)) && (not (not b) && not (ownerBad t register sender (row n fs l)))) (rowOf t fs l ∷ staged xs) []) ≤ length l + 2 + w
       go true e =
-          on-weigh (both (not (formBad t (row n fs l))) (both true (not (ownerBad t register sender (row n fs l))))) (rowOf t fs l ∷ staged xs) (length l + 2 + w)
+          on-weigh (not (formBad t (row n fs l)) && (true && not (ownerBad t register sender (row n fs l)))) (rowOf t fs l ∷ staged xs) (length l + 2 + w)
           (omega (arith, long fs l (eqb-true _ _ e), suc-mul (length (staged xs)) least))
-      go false e = rw (both-false (not (formBad t (row n fs l))), zero-mul least) (omega arith)
+      go false e = rw (and-false (not (formBad t (row n fs l))), zero-mul least) (omega arith)
 
   rows-weigh : (p : Place) (n : ℕ) (ls : List (List ℕ)) → bytesOf (staged (items t p n ls)) ≤ weights ls
   unfolding items rowsUpTo
   rows-weigh p n [] = rw (zero-mul least) (omega arith)
-  rows-weigh p n (l ∷ ls) = go (markOf l) p (rows-weigh (after t (markOf l) l p) (suc n) ls)
+  rows-weigh p n (l ∷ ls) = go (markOf l) p (rows-weigh (placeAfter t (markOf l) l p) (suc n) ls)
     where
-      go : (m : Mark) (p : Place) → bytesOf (staged (items t (after t m l p) (suc n) ls)) ≤ weights ls
-          → bytesOf (staged (before (seen m n l p) (items t (after t m l p) (suc n) ls))) ≤ length l + 2 + weights ls
+      go : (m : Mark) (p : Place) → bytesOf (staged (items t (placeAfter t m l p) (suc n) ls)) ≤ weights ls
+          → bytesOf (staged (inFront (seen m n l p) (items t (placeAfter t m l p) (suc n) ls))) ≤ length l + 2 + weights ls
       go Marks.Group p h = omega arith
       go Marks.Table p h = omega arith
       go Marks.Labels outside h = omega arith
-      go Marks.Labels awaiting h = head-weigh n l (items t (after t Marks.Labels l awaiting) (suc n) ls) (weights ls) h
+      go Marks.Labels awaiting h = head-weigh n l (items t (placeAfter t Marks.Labels l awaiting) (suc n) ls) (weights ls) h
       go Marks.Labels (under fs) h = omega arith
       go Marks.Data outside h = omega arith
       go Marks.Data awaiting h = omega arith

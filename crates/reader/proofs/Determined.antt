@@ -13,16 +13,16 @@ pub read-message-determined : OneResult 3 read-message.ps read-message.r read-me
 read-message-determined κs a x y s t p q = p .0 ∙ sym (q .0)
 
 pub read-message-area-determined : Determined 3 read-message.ps read-message.r read-message-reads.Post (λ κs x s. now (s .1 .1 .1 .0))
-read-message-area-determined κs a x y s t p q = p .1 ∙ sym (q .1)
+read-message-area-determined κs a x y s t p q = p .1 .0 ∙ sym (q .1 .0)
 
 pub read-planning-determined : OneResult 2 read-planning.ps read-planning.r read-planning-reads.Post
 read-planning-determined κs a x y s t p q = p .0 ∙ sym (q .0)
 
 pub read-planning-area-determined : Determined 2 read-planning.ps read-planning.r read-planning-reads.Post (λ κs x s. now (s .1 .0))
-read-planning-area-determined κs a x y s t p q = p .1 ∙ sym (q .1)
+read-planning-area-determined κs a x y s t p q = p .1 .0 ∙ sym (q .1 .0)
 
 pub read-calendar-determined : OneResult 2 read-calendar.ps read-calendar.r read-calendar-reads.Post
 read-calendar-determined κs a x y s t p q = p .0 ∙ sym (q .0)
 
 pub read-calendar-area-determined : Determined 2 read-calendar.ps read-calendar.r read-calendar-reads.Post (λ κs x s. now (s .1 .0))
-read-calendar-area-determined κs a x y s t p q = p .1 ∙ sym (q .1)
+read-calendar-area-determined κs a x y s t p q = p .1 .0 ∙ sym (q .1 .0)

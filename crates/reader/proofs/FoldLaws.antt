@@ -1,12 +1,12 @@
 use Prim.Native.Nat.{ℕ, _+_}
 use native.Mathlib.Omega.{arith}
 use mathlib.Core.Path.{_≡_, refl, sym, ap, subst, _∙_}
-use mathlib.Core.Bool.{Bool, true, false, not}
+use mathlib.Core.Bool.{Bool, true, false, not, _&&_}
 use mathlib.Core.List.{List, [], _∷_}
 use borrow.Author.Tests.{eq-eqb, ne-eqb, eqb-true, eqb-false}
 use lib.Dec.{eqb}
 use lib.ListN.{length, replicate}
-use Rattle.lists.specs.Logic.{on, both}
+use Rattle.lists.specs.Logic.{on}
 use Rattle.lists.specs.Text.{same}
 use Rattle.lists.specs.Part.{over}
 use Rattle.turbo_lines.specs.declared.Mark.{Mark}
@@ -14,17 +14,20 @@ use Rattle.turbo_lines.specs.declared.Mark.the-variants as Marks
 use Rattle.turbo.specs.Split.{until, fields}
 use Rattle.turbo_lines.specs.Lines.{markOf, afterMark}
 use Rattle.columns.specs.declared.Table.{Table}
-use Rattle.columns.specs.Tables.{tableName, rowOf, wrongColumn}
+use Rattle.columns.specs.Tables.{tableName, rowOf, wrongColumn, labelFault}
 use Rattle.rows.specs.declared.Shape.{Shape}
-use Rattle.rows.specs.Shape.{labelFault, shapeOf}
-use Rattle.rows.specs.Reading.{readBy, readGiven}
-use Rattle.columns.specs.Layout.{room}
+use Rattle.rows.specs.inner.Shape.{shapeOf}
+use Rattle.rows.specs.inner.Reading.{readBy, readGiven}
+use Rattle.columns.specs.inner.Blank.{widest-row}
 use Rattle.reader_step.specs.declared.State.{State}
-use Rattle.reader.specs.declared.Answer.{Answer}
-use Rattle.reader.specs.declared.Answer.the-variants.{Form}
-use Rattle.reader.specs.Items.{Item, head, row, Place, outside, awaiting, under, after, seen, before}
-use Rattle.reader.specs.Rules.{formBad, isWrong, ownerBad, firstLine, firstColumn, rowsUpTo, settled}
-use Rattle.reader_step.specs.Step.{moved, misformed, labelled, mistyped, disowned, counted, maySend, rowStep, dataStep, labelStep, stepAt, stepBy}
+use Rattle.reader.specs.declared.Reading.{Reading}
+use Rattle.reader.specs.declared.Reading.the-variants.{Form}
+use Rattle.reader.specs.Items.{Item, head, row, Place, outside, awaiting, under, placeAfter, seen, inFront}
+use Rattle.reader.specs.Rules.{formBad, isWrong, ownerBad, firstLine, firstColumn}
+use Rattle.reader.specs.Staging.{rowsUpTo}
+use Rattle.reader.specs.inner.Settled.{answeredBy}
+use Rattle.reader_step.specs.inner.Step.{moved, misformed, labelled, mistyped, disowned, oneRowMore, rowStep, dataStep, labelStep, stepAt, stepBy}
+use Rattle.register.specs.Register.{maySend}
 
 -- The answer by lines: what a line changes in the state is what its item changes in the answer. Assumes nothing.
 
@@ -33,15 +36,15 @@ abbrev pub first : ℕ → ℕ → ℕ
 first a b = on (eqb a 0) b a
 
 abbrev pub clean : State → Bool
-clean s = both (eqb (s .wrong) 0) (eqb (s .owner) 0)
+clean s = eqb (s .wrong) 0 && eqb (s .owner) 0
 
 -- what the rest of the items can still give, and the answer from a state on
 abbrev pub rowsFrom : Table → List ℕ → ℕ → State → List Item → List (List ℕ)
 rowsFrom t register sender s xs = on (clean s) (rowsUpTo t register sender xs) []
 
-abbrev pub settledFrom : Table → List ℕ → ℕ → State → List Item → Answer
+abbrev pub settledFrom : Table → List ℕ → ℕ → State → List Item → Reading
 settledFrom t register sender s xs =
-    settled
+    answeredBy
     (firstLine (formBad t) xs)
     (first (s .wrong) (firstLine (isWrong t) xs))
     (on (eqb (s .wrong) 0) (firstColumn t xs) (s .column))
@@ -57,23 +60,9 @@ Agrees t s (under ls) = (s .place ≡ 2) × (s .shape ≡ shapeOf t ls) × (labe
 -- what a line leaves: a fault of form ends it, else the state stands at the next place and the answer is the same
 abbrev pub Goes : Table → List ℕ → ℕ → State → State → List Item → Place → List Item → Type 0
 Goes t register sender s n ys p xs =
-    ((n .form ≡ 0 → ⊥) → settledFrom t register sender s (before ys xs) ≡ Form (n .form))
-    × (n .form ≡ 0 → Agrees t n p × (settledFrom t register sender s (before ys xs) ≡ settledFrom t register sender n xs))
+    ((n .form ≡ 0 → ⊥) → settledFrom t register sender s (inFront ys xs) ≡ Form (n .form))
+    × (n .form ≡ 0 → Agrees t n p × (settledFrom t register sender s (inFront ys xs) ≡ settledFrom t register sender n xs))
     × (n .line ≡ s .line + 1)
-
--- a state whose first wrong field is known: owner and rows are not asked
-settled-wrong : (f w c o r o′ r′ : ℕ) → (w ≡ 0 → ⊥) → settled f w c o r ≡ settled f w c o′ r′
-settled-wrong f w c o r o′ r′ h = rw (ne-eqb w 0 h)
-
--- a state whose first owner at fault is known: rows are not asked
-settled-owner : (f w c o r r′ : ℕ) → (o ≡ 0 → ⊥) → settled f w c o r ≡ settled f w c o r′
-settled-owner f w c o r r′ h = rw (ne-eqb o 0 h)
-
-settled-form : (f w c o r : ℕ) → (f ≡ 0 → ⊥) → settled f w c o r ≡ Form f
-settled-form f w c o r h = rw (ne-eqb f 0 h)
-
-first-known : (a b : ℕ) → (a ≡ 0 → ⊥) → first a b ≡ a
-first-known a b h = rw (ne-eqb a 0 h)
 
 on-fault : (b : Bool) (x y : Shape) → x .fault ≡ true → y .fault ≡ false → (on b x y) .fault ≡ b
 on-fault true x y p q = p
@@ -120,7 +109,7 @@ module _ (t : Table) (register : List ℕ) (sender : ℕ) (s : State) (form : s 
       (ls : List (List ℕ)) (l : List ℕ) (xs : List Item)
       (there : s .place ≡ 2) (shape : s .shape ≡ shapeOf t ls) (right : labelFault t ls ≡ false)
       (reads : readBy t (shapeOf t ls) l ≡ readGiven (wrongColumn t ls l) (rowOf t ls l))
-      (sends : wrongColumn t ls l ≡ 0 → maySend t register sender (over 0 (rowOf t ls l) (replicate room 0)) ≡ maySend t register sender (rowOf t ls l)) where
+      (sends : wrongColumn t ls l ≡ 0 → maySend t register sender (over 0 (rowOf t ls l) (replicate widest-row 0)) ≡ maySend t register sender (rowOf t ls l)) where
     stays : (n : State) → n .place ≡ s .place → n .shape ≡ s .shape → Agrees t n (under ls)
     stays n p q = (p ∙ there, q ∙ shape, right)
 
@@ -174,11 +163,11 @@ module _ (t : Table) (register : List ℕ) (sender : ℕ) (s : State) (form : s 
               refl,
             )
 
-            sent-here : maySend t register sender (rowOf t ls l) ≡ true → Goes t register sender s (counted s) (row (s .line) ls l ∷ []) (under ls) xs
+            sent-here : maySend t register sender (rowOf t ls l) ≡ true → Goes t register sender s (oneRowMore s) (row (s .line) ls l ∷ []) (under ls) xs
             unfolding firstLine firstColumn rowsUpTo
             sent-here h = (
               λ f. absurd (f form),
-              λ f. (stays (counted s) refl refl, simp (count, typed, first-wrong, first-owner, h) (ap (λ (n : ℕ). settled (firstLine (formBad t) xs) (firstLine (isWrong t) xs) (firstColumn t xs) (firstLine (ownerBad t register sender) xs) n) (omega arith))),
+              λ f. (stays (oneRowMore s) refl refl, simp (count, typed, first-wrong, first-owner, h) (ap (λ (n : ℕ). answeredBy (firstLine (formBad t) xs) (firstLine (isWrong t) xs) (firstColumn t xs) (firstLine (ownerBad t register sender) xs) n) (omega arith))),
               refl,
             )
 
@@ -186,7 +175,7 @@ module _ (t : Table) (register : List ℕ) (sender : ℕ) (s : State) (form : s 
     abbrev tested : Bool → Bool → Bool → Bool → Bool → State
     tested b₁ b₂ b₃ b₄ b₅ =
         on b₁
-        (on b₂ (on b₃ (on b₄ (on b₅ (counted s) (disowned s)) (moved s (s .place))) (mistyped s (wrongColumn t ls l))) (moved s (s .place)))
+        (on b₂ (on b₃ (on b₄ (on b₅ (oneRowMore s) (disowned s)) (moved s (s .place))) (mistyped s (wrongColumn t ls l))) (moved s (s .place)))
         (misformed s)
 
     data-go : (b₁ b₂ b₃ b₄ b₅ : Bool)
@@ -201,9 +190,9 @@ module _ (t : Table) (register : List ℕ) (sender : ℕ) (s : State) (form : s 
 
     -- what is read of the line, in the state's step
     row-step : (b : Bool) → eqb (wrongColumn t ls l) 0 ≡ b → rowStep t register sender s (readGiven (wrongColumn t ls l) (rowOf t ls l))
-        ≡ on b (on (eqb (s .owner) 0) (on (maySend t register sender (rowOf t ls l)) (counted s) (disowned s)) (moved s (s .place))) (mistyped s (wrongColumn t ls l))
+        ≡ on b (on (eqb (s .owner) 0) (on (maySend t register sender (rowOf t ls l)) (oneRowMore s) (disowned s)) (moved s (s .place))) (mistyped s (wrongColumn t ls l))
     unfolding rowStep
-    row-step true e = rw e (ap (λ (b : Bool). on (eqb (s .owner) 0) (on b (counted s) (disowned s)) (moved s (s .place))) (sends (eqb-true _ _ e)))
+    row-step true e = rw e (ap (λ (b : Bool). on (eqb (s .owner) 0) (on b (oneRowMore s) (disowned s)) (moved s (s .place))) (sends (eqb-true _ _ e)))
     row-step false e = simp e
 
     pub data-tested : dataStep t register sender s l
@@ -225,7 +214,7 @@ abbrev pub Reads : Table → List ℕ → ℕ → List ℕ → Type 0
 Reads t register sender l =
     (ls : List (List ℕ)) → labelFault t ls ≡ false →
     (readBy t (shapeOf t ls) l ≡ readGiven (wrongColumn t ls l) (rowOf t ls l))
-    × (wrongColumn t ls l ≡ 0 → maySend t register sender (over 0 (rowOf t ls l) (replicate room 0)) ≡ maySend t register sender (rowOf t ls l))
+    × (wrongColumn t ls l ≡ 0 → maySend t register sender (over 0 (rowOf t ls l) (replicate widest-row 0)) ≡ maySend t register sender (rowOf t ls l))
 
 -- a line, whatever its mark
 module _ (t : Table) (register : List ℕ) (sender : ℕ) (s : State) (form : s .form ≡ 0) (from : s .line ≡ 0 → ⊥) (l : List ℕ) (reads : Reads t register sender l) (xs : List Item) where
@@ -233,7 +222,7 @@ module _ (t : Table) (register : List ℕ) (sender : ℕ) (s : State) (form : s 
   name-go true = passes t register sender s form from awaiting 1 xs refl
   name-go false = passes t register sender s form from outside 0 xs refl
 
-  mark-go : (m : Mark) (p : Place) → Agrees t s p → Goes t register sender s (stepAt t register sender s l m) (seen m (s .line) l p) (after t m l p) xs
+  mark-go : (m : Mark) (p : Place) → Agrees t s p → Goes t register sender s (stepAt t register sender s l m) (seen m (s .line) l p) (placeAfter t m l p) xs
   mark-go Marks.Group p a = passes t register sender s form from outside 0 xs refl
   mark-go Marks.Table p a = name-go (same (until 124 (afterMark l)) (tableName t))
   mark-go Marks.Labels outside a = rw (ne-eqb (s .place) 1 (λ e. omega arith)) (passes t register sender s form from outside 0 xs refl)
@@ -245,6 +234,6 @@ module _ (t : Table) (register : List ℕ) (sender : ℕ) (s : State) (form : s 
       let r = reads ls (a .2) in
       rw (eq-eqb (s .place) 2 (a .0)) (data-step t register sender s form from ls l xs (a .0) (a .1) (a .2) (r .0) (r .1))
 
-  pub line-go : (p : Place) → Agrees t s p → Goes t register sender s (stepBy t register sender s l) (seen (markOf l) (s .line) l p) (after t (markOf l) l p) xs
+  pub line-go : (p : Place) → Agrees t s p → Goes t register sender s (stepBy t register sender s l) (seen (markOf l) (s .line) l p) (placeAfter t (markOf l) l p) xs
   unfolding stepBy
   line-go p a = mark-go (markOf l) p a

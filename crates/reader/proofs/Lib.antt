@@ -1,6 +1,7 @@
 pub mod FoldLaws
 pub mod StageLaws
 pub mod ReadLaws
+pub mod AllRowsLaws
 pub mod LinesLaws
 pub mod LookLaws
 pub mod EachRowLaws
@@ -9,6 +10,9 @@ pub mod RangeLaws
 pub mod PlanRangeLaws
 pub mod BoundLaws
 pub mod AnswerLaws
+pub mod RefusalLaws
+pub mod ItemLaws
+pub mod SaidLaws
 pub mod StagedLaws
 pub mod Claims
 pub mod Determined

@@ -2,7 +2,7 @@ use Prim.Native.Nat.{ℕ, suc, _+_, _/_, _≤_, _<_}
 use native.Mathlib.Omega.{arith}
 use native.Mathlib.Numerals.{add-one}
 use mathlib.Core.Path.{_≡_, refl, sym, ap, subst, _∙_}
-use mathlib.Core.Bool.{Bool, true, false}
+use mathlib.Core.Bool.{Bool, true, false, not}
 use mathlib.Core.List.{List, [], _∷_, _++_, append-assoc, append-nil}
 use borrow.Author.Tests.{eqb-true}
 use lib.Dec.{eqb}
@@ -20,17 +20,21 @@ use Rattle.turbo_lines.proofs.LineLaws.{lines-cons, lines-none, after-line-shor
 use Rattle.columns.specs.declared.Table.{Table}
 use Rattle.columns.specs.Tables.{rowWidth}
 use Rattle.reader_step.specs.declared.State.{State}
-use Rattle.reader.specs.declared.Answer.the-variants.{Form, Field, Owner, Rows}
-use Rattle.reader.specs.Items.{Item, Place, outside, after, seen, before, items}
+use Rattle.reader.specs.declared.Reading.the-variants.{Form, Field, Owner, Rows}
+use Rattle.reader.specs.Items.{Item, Place, outside, placeAfter, seen, inFront, items}
 use Rattle.rows.specs.declared.Shape.{Shape}
 use Rattle.rows.specs.declared.Read.{Read}
-use Rattle.rows.specs.Shape.{shapeOf}
-use Rattle.rows.specs.Reading.{readBy}
-use Rattle.reader.specs.Rules.{settled, firstLine, firstColumn, answerTo, rowsUpTo, itemsOf, laid}
-use Rattle.reader_step.specs.Step.{moved, misformed, labelled, mistyped, disowned, counted, maySend, rowStep, dataStep, labelStep, stepAt, stepBy, stageBy, Fresh}
+use Rattle.rows.specs.inner.Shape.{shapeOf}
+use Rattle.rows.specs.inner.Reading.{readBy}
+use Rattle.reader.specs.Rules.{firstLine, firstColumn, answerTo, itemsOf}
+use Rattle.reader.specs.Staging.{rowsUpTo, laid}
+use Rattle.reader.specs.inner.Settled.{answeredBy}
+use Rattle.reader_step.specs.inner.Step.{moved, misformed, labelled, mistyped, disowned, oneRowMore, rowStep, dataStep, labelStep, stepAt, stepBy, stageBy, Fresh}
 use Rattle.reader_step.proofs.WidthLaws.{width-some}
+use Rattle.reader.proofs.AllRowsLaws.{items-numbered, answer-counted}
 use Rattle.reader.proofs.FoldLaws.{first, clean, rowsFrom, settledFrom, Agrees, Goes, Reads, line-go}
 use Rattle.reader.proofs.StageLaws.{Stages, Fronts, line-stages, on-same}
+use Rattle.register.specs.Register.{maySend}
 
 -- The loop over a dossier's lines: what holds at its start, after a line, and at each way out. Assumes nothing.
 
@@ -58,7 +62,7 @@ row-few : (t : Table) (register : List ℕ) (sender : ℕ) (s : State) (r : Read
 unfolding rowStep
 row-few t register sender s r =
     on-rows (eqb (r .wrong) 0) _ (mistyped s (r .wrong)) _
-    (on-rows (eqb (s .owner) 0) _ (moved s (s .place)) _ (on-rows (maySend t register sender (r .row)) (counted s) (disowned s) _ (omega arith) (omega arith)) (omega arith))
+    (on-rows (eqb (s .owner) 0) _ (moved s (s .place)) _ (on-rows (maySend t register sender (r .row)) (oneRowMore s) (disowned s) _ (omega arith) (omega arith)) (omega arith))
     (omega arith)
 
 data-few : (t : Table) (register : List ℕ) (sender : ℕ) (s : State) (l : List ℕ) → dataStep t register sender s l .rows ≤ s .rows + 1
@@ -88,13 +92,13 @@ pub laid-none : (t : Table) (st : List ℕ) → st ≡ laid t [] st
 unfolding flat
 laid-none t st = sym (ap (λ (rs : List (List ℕ)). over 0 (flat rs) st) (take-nil (length st / rowWidth t)) ∙ over-nil 0 st)
 
-items-cons : (t : Table) (p : Place) (n : ℕ) (l : List ℕ) (ls : List (List ℕ)) → items t p n (l ∷ ls) ≡ before (seen (markOf l) n l p) (items t (after t (markOf l) l p) (suc n) ls)
+items-cons : (t : Table) (p : Place) (n : ℕ) (l : List ℕ) (ls : List (List ℕ)) → items t p n (l ∷ ls) ≡ inFront (seen (markOf l) n l p) (items t (placeAfter t (markOf l) l p) (suc n) ls)
 unfolding items
 items-cons t p n l ls = refl
 
 -- what comes after the line l at place p, which has the number n
 abbrev comes : Table → Place → ℕ → List ℕ → List ℕ → List Item
-comes t p n l rest = items t (after t (markOf l) l p) (suc n) (lines rest)
+comes t p n l rest = items t (placeAfter t (markOf l) l p) (suc n) (lines rest)
 
 items-none : (t : Table) (p : Place) (n : ℕ) → items t p n [] ≡ []
 unfolding items
@@ -108,28 +112,28 @@ first-none n = go (eqb n 0) refl
     go true e = eqb-true n 0 e
     go false e = refl
 
-column-none : (s : State) → settled 0 (s .wrong) (s .column) (s .owner) (s .rows) ≡ settled 0 (s .wrong) (on (eqb (s .wrong) 0) 0 (s .column)) (s .owner) (s .rows)
+column-none : (s : State) → answeredBy 0 (s .wrong) (s .column) (s .owner) (s .rows) ≡ answeredBy 0 (s .wrong) (on (eqb (s .wrong) 0) 0 (s .column)) (s .owner) (s .rows)
 column-none s = go (eqb (s .wrong) 0)
   where
-    go : (b : Bool) → on b (on (eqb (s .owner) 0) (Rows (s .rows)) (Owner (s .owner))) (Field (s .wrong) (s .column)) ≡ on b (on (eqb (s .owner) 0) (Rows (s .rows)) (Owner (s .owner))) (Field (s .wrong) (on b 0 (s .column)))
+    go : (b : Bool) → on (not b) (Field (s .wrong) (s .column)) (on (not (eqb (s .owner) 0)) (Owner (s .owner)) (Rows (s .rows)))
+        ≡ on (not b) (Field (s .wrong) (on b 0 (s .column))) (on (not (eqb (s .owner) 0)) (Owner (s .owner)) (Rows (s .rows)))
     go true = refl
     go false = refl
 
-settled-none : (t : Table) (register : List ℕ) (sender : ℕ) (s : State) → settled 0 (s .wrong) (s .column) (s .owner) (s .rows) ≡ settledFrom t register sender s []
+settled-none : (t : Table) (register : List ℕ) (sender : ℕ) (s : State) → answeredBy 0 (s .wrong) (s .column) (s .owner) (s .rows) ≡ settledFrom t register sender s []
 unfolding firstLine firstColumn rowsUpTo
 settled-none t register sender s =
     let z : s .rows ≡ s .rows + length (rowsFrom t register sender s []) = rw (on-same {A = List (List ℕ)} (clean s) []) (omega arith) in
     column-none s
-    ∙ ap (λ (w : ℕ). settled 0 w (on (eqb (s .wrong) 0) 0 (s .column)) (s .owner) (s .rows)) (first-none (s .wrong))
-    ∙ ap (λ (o : ℕ). settled 0 (first (s .wrong) 0) (on (eqb (s .wrong) 0) 0 (s .column)) o (s .rows)) (first-none (s .owner))
-    ∙ ap (λ (r : ℕ). settled 0 (first (s .wrong) 0) (on (eqb (s .wrong) 0) 0 (s .column)) (first (s .owner) 0) r) z
+    ∙ ap (λ (w : ℕ). answeredBy 0 w (on (eqb (s .wrong) 0) 0 (s .column)) (s .owner) (s .rows)) (first-none (s .wrong))
+    ∙ ap (λ (o : ℕ). answeredBy 0 (first (s .wrong) 0) (on (eqb (s .wrong) 0) 0 (s .column)) o (s .rows)) (first-none (s .owner))
+    ∙ ap (λ (r : ℕ). answeredBy 0 (first (s .wrong) 0) (on (eqb (s .wrong) 0) 0 (s .column)) (first (s .owner) 0) r) z
 
 module _ (t : Table) (register : List ℕ) (sender : ℕ) (d st₀ : List ℕ) where
   zero-first : (n : ℕ) → 0 + n ≡ n
   zero-first n = omega arith
 
   pub reading-start : (s : State) → Fresh s → Reading t register sender d st₀ s d st₀
-  unfolding answerTo
   reading-start s (p, l, f, w, c, o, r, h) =
       record {
         place = outside;
@@ -139,7 +143,9 @@ module _ (t : Table) (register : List ℕ) (sender : ℕ) (d st₀ : List ℕ) w
         from = omega arith;
         left = omega arith;
         few = omega arith;
-        answer = rw (l, w, o, r, zero-first (length (rowsUpTo t register sender (itemsOf t d))));
+        answer =
+            answer-counted t register sender (itemsOf t d) (items-numbered t outside 1 (lines d) (omega arith))
+            ∙ rw (l, w, o, r, zero-first (length (rowsUpTo t register sender (itemsOf t d))));
         rows = rw (l, w, o);
         area = laid-none t st₀;
         all = tt;
@@ -151,14 +157,14 @@ module _ (t : Table) (register : List ℕ) (sender : ℕ) (d st₀ : List ℕ) w
       (l rest′ : List ℕ) (line : l ≡ until 13 rest) (after-it : rest′ ≡ drop 1 (past 13 rest))
       (n : State) (step : n ≡ stepBy t register sender s l) (st′ : List ℕ) (staged : st′ ≡ stageBy t register sender s l st)
       (reads : Reads t register sender l) (fronts : Fronts t l) where
-    split : items t (now .place) (s .line) (lines rest) ≡ before (seen (markOf l) (s .line) l (now .place)) (comes t (now .place) (s .line) l rest′)
+    split : items t (now .place) (s .line) (lines rest) ≡ inFront (seen (markOf l) (s .line) l (now .place)) (comes t (now .place) (s .line) l rest′)
     split =
         ap (items t (now .place) (s .line)) (lines-cons rest some ∙ ap (λ (x : List ℕ). x ∷ lines (drop 1 (past 13 rest))) (sym line) ∙ ap (λ (x : List ℕ). l ∷ lines x) (sym after-it))
         ∙ items-cons t (now .place) (s .line) l (lines rest′)
 
-    goes : Goes t register sender s n (seen (markOf l) (s .line) l (now .place)) (after t (markOf l) l (now .place)) (comes t (now .place) (s .line) l rest′)
+    goes : Goes t register sender s n (seen (markOf l) (s .line) l (now .place)) (placeAfter t (markOf l) l (now .place)) (comes t (now .place) (s .line) l rest′)
     goes =
-        subst (λ (x : State). Goes t register sender s x (seen (markOf l) (s .line) l (now .place)) (after t (markOf l) l (now .place)) (comes t (now .place) (s .line) l rest′)) (sym step)
+        subst (λ (x : State). Goes t register sender s x (seen (markOf l) (s .line) l (now .place)) (placeAfter t (markOf l) l (now .place)) (comes t (now .place) (s .line) l rest′)) (sym step)
         (line-go t register sender s (now .form) (λ e. let f = now .from in omega arith) l reads (comes t (now .place) (s .line) l rest′) (now .place) (now .agrees))
 
     stages : Stages t register sender s n (seen (markOf l) (s .line) l (now .place)) (comes t (now .place) (s .line) l rest′) (now .done) st₀ st′
@@ -185,19 +191,19 @@ module _ (t : Table) (register : List ℕ) (sender : ℕ) (d st₀ : List ℕ) w
         let k = now .left in
         let m : n .rows ≤ s .rows + 1 = subst (λ (x : State). x .rows ≤ s .rows + 1) (sym step) (line-few t register sender s l) in
         record {
-          place = after t (markOf l) l (now .place);
+          place = placeAfter t (markOf l) l (now .place);
           done = now .done ++ stages .more;
           agrees = g .0;
           form = h;
           from = omega arith;
           left = omega arith;
           few = omega arith;
-          answer = now .answer ∙ ap (settledFrom t register sender s) split ∙ g .1 ∙ ap (λ (i : ℕ). settledFrom t register sender n (items t (after t (markOf l) l (now .place)) i (lines rest′))) (sym e);
+          answer = now .answer ∙ ap (settledFrom t register sender s) split ∙ g .1 ∙ ap (λ (i : ℕ). settledFrom t register sender n (items t (placeAfter t (markOf l) l (now .place)) i (lines rest′))) (sym e);
           rows =
               now .rows
               ∙ ap (λ (rs : List (List ℕ)). now .done ++ rs) (ap (rowsFrom t register sender s) split ∙ stages .next h)
               ∙ sym (append-assoc (now .done) (stages .more) (rowsFrom t register sender n (comes t (now .place) (s .line) l rest′)))
-              ∙ ap (λ (i : ℕ). (now .done ++ stages .more) ++ rowsFrom t register sender n (items t (after t (markOf l) l (now .place)) i (lines rest′))) (sym e);
+              ∙ ap (λ (i : ℕ). (now .done ++ stages .more) ++ rowsFrom t register sender n (items t (placeAfter t (markOf l) l (now .place)) i (lines rest′))) (sym e);
           area = stages .area;
           all = stages .all;
           count = stages .count;
@@ -205,7 +211,7 @@ module _ (t : Table) (register : List ℕ) (sender : ℕ) (d st₀ : List ℕ) w
 
   -- nothing is left
   pub reading-done : (s : State) (rest st : List ℕ) → Reading t register sender d st₀ s rest st → length rest ≤ 0
-      → (settled 0 (s .wrong) (s .column) (s .owner) (s .rows) ≡ answerTo t register sender (itemsOf t d)) × (st ≡ laid t (rowsUpTo t register sender (itemsOf t d)) st₀)
+      → (answeredBy 0 (s .wrong) (s .column) (s .owner) (s .rows) ≡ answerTo t register sender (itemsOf t d)) × (st ≡ laid t (rowsUpTo t register sender (itemsOf t d)) st₀)
   unfolding firstLine firstColumn rowsUpTo
   reading-done s rest st now h =
       let e : items t (now .place) (s .line) (lines rest) ≡ [] = ap (items t (now .place) (s .line)) (lines-none rest h) ∙ items-none t (now .place) (s .line) in (

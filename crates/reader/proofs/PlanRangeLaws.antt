@@ -8,14 +8,14 @@ use Rattle.lists.specs.Text.{bytes}
 use Rattle.lists.specs.Each.{Each}
 use Rattle.clock.specs.Date.{isDate}
 use Rattle.columns.specs.declared.Table.the-variants.{Planning, Calendar}
-use Rattle.columns.specs.Cell as Cell
+use Rattle.columns.specs.declared.Kind.the-variants as Kinds
 use Rattle.columns.specs.Cell.{width}
 use Rattle.columns.specs.Tables.{columnsIn, planningColumns, calendarColumns, rowOf, rowWidth, wrongColumn}
 use Rattle.columns.specs.Layout.{columnAt, kindAt, widths, total, offset}
 use Rattle.columns.proofs.RangeLaws.{dates-in-range, numbers-in-range, words-in-range, times-in-range, stop-types-coded}
 use Rattle.rows.proofs.RowLaws.{row-length}
 use Rattle.reader.specs.Items.{Item}
-use Rattle.reader.specs.Rules.{rowsUpTo}
+use Rattle.reader.specs.Staging.{rowsUpTo}
 use Rattle.reader.specs.Staged.{PassFacts, ValidityFacts}
 use Rattle.reader.proofs.HeldLaws.{Right, there, text-in, spelled-in, byte-in, optional-in, time-in}
 use Rattle.reader.proofs.EachRowLaws.{rows-each}
@@ -31,20 +31,20 @@ pass-facts ls l e =
       wide = row-length Planning ls l e;
       owner = text-in right 0 "DataOwnerCode" (there right 0 (omega arith));
       line = text-in right 10 "LinePlanningNumber" (there right 1 (omega arith));
-      journey = spelled-in right 20 4 Cell.journey "VehicleJourneyNumber" (there right 2 (omega arith)) (λ (n : ℕ). n < 1000000) (numbers-in-range .0 _ _);
-      fortify = byte-in right 24 Cell.fortify "FortifyOrderNumber" (λ (n : ℕ). n < 100) (omega arith) (there right 3 (omega arith)) (numbers-in-range .1 _ _);
+      journey = spelled-in right 20 4 Kinds.Journey "VehicleJourneyNumber" (there right 2 (omega arith)) (λ (n : ℕ). n < 1000000) (numbers-in-range .0 _ _);
+      fortify = byte-in right 24 Kinds.Fortify "FortifyOrderNumber" (λ (n : ℕ). n < 100) (omega arith) (there right 3 (omega arith)) (numbers-in-range .1 _ _);
       stop = text-in right 25 "UserStopCode" (there right 4 (omega arith));
-      order = spelled-in right 35 2 Cell.order "UserStopOrderNumber" (there right 5 (omega arith)) (λ (n : ℕ). n < 1000) (numbers-in-range .2 _ _);
+      order = spelled-in right 35 2 Kinds.Order "UserStopOrderNumber" (there right 5 (omega arith)) (λ (n : ℕ). n < 1000) (numbers-in-range .2 _ _);
       level = text-in right 37 "LocalServiceLevelCode" (there right 6 (omega arith));
       destination = text-in right 47 "DestinationCode" (there right 7 (omega arith));
       arrival =
-          time-in right 63 (omega arith) type (bytes "FIRST") 0 57 Cell.arrival "TargetArrivalTime" (stop-types-coded _ .0) (times-in-range _ _ .0) (there right 8 (omega arith));
+          time-in right 63 (omega arith) type (bytes "FIRST") 0 57 Kinds.Arrival "TargetArrivalTime" (stop-types-coded _ .0) (times-in-range _ _ .0) (there right 8 (omega arith));
       departure =
-          time-in right 63 (omega arith) type (bytes "LAST") 2 60 Cell.departure "TargetDepartureTime" (stop-types-coded _ .2) (times-in-range _ _ .1) (there right 9 (omega arith));
-      stop-type = byte-in right 63 Cell.stopType "JourneyStopType" (λ (n : ℕ). n ≤ 2) (omega arith) type (words-in-range .1 _ _);
+          time-in right 63 (omega arith) type (bytes "LAST") 2 60 Kinds.Departure "TargetDepartureTime" (stop-types-coded _ .2) (times-in-range _ _ .1) (there right 9 (omega arith));
+      stop-type = byte-in right 63 Kinds.StopType "JourneyStopType" (λ (n : ℕ). n ≤ 2) (omega arith) type (words-in-range .1 _ _);
       flexible =
           ⊎-elim (λ h. h .1) (λ h. omega arith)
-          (optional-in right 64 Cell.flexible 0 "ShowFlexibleTrip" (λ (n : ℕ). (1 ≤ n) × (n ≤ 3)) (omega arith) (there right 11 (omega arith)) (words-in-range .3 _ _));
+          (optional-in right 64 Kinds.Flexible 0 "ShowFlexibleTrip" (λ (n : ℕ). (1 ≤ n) × (n ≤ 3)) (omega arith) (there right 11 (omega arith)) (words-in-range .3 _ _));
     }
 
 validity-facts : (ls : List (List ℕ)) (l : List ℕ) → wrongColumn Calendar ls l ≡ 0 → ValidityFacts (rowOf Calendar ls l)
@@ -55,7 +55,7 @@ validity-facts ls l e =
       wide = row-length Calendar ls l e;
       owner = text-in right 0 "DataOwnerCode" (there right 0 (omega arith));
       level = text-in right 10 "LocalServiceLevelCode" (there right 1 (omega arith));
-      date = spelled-in right 20 4 Cell.date "OperationDate" (there right 2 (omega arith)) (λ (n : ℕ). isDate n ≡ true) (dates-in-range _ _);
+      date = spelled-in right 20 4 Kinds.Date "OperationDate" (there right 2 (omega arith)) (λ (n : ℕ). isDate n ≡ true) (dates-in-range _ _);
     }
 
 pub passes-in-range : (register : List ℕ) (sender : ℕ) (xs : List Item) → Each PassFacts (rowsUpTo Planning register sender xs)

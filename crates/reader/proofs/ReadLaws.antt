@@ -9,13 +9,12 @@ use Rattle.lists.proofs.ReadLaws.{part-written}
 use Rattle.columns.specs.declared.Table.{Table}
 use Rattle.columns.specs.declared.Table.the-variants.{Message, Planning, Calendar}
 use Rattle.columns.specs.Tables.{rowOf, rowWidth}
-use Rattle.columns.specs.Layout.{room}
-use Rattle.register.specs.Register.{grants}
+use Rattle.columns.specs.inner.Blank.{widest-row}
+use Rattle.register.specs.Register.{grants, maySend}
 use Rattle.rows.specs.declared.Shape.{Shape}
-use Rattle.rows.specs.Reading.{IsShape}
+use Rattle.rows.specs.inner.Reading.{IsShape}
 use Rattle.rows.proofs.RowLaws.{shape-reads, row-length}
 use Rattle.reader_step.specs.declared.State.{State}
-use Rattle.reader_step.specs.Step.{maySend}
 use Rattle.reader.specs.Items.{Place, outside, awaiting, under}
 use Rattle.reader_step.proofs.WidthLaws.{width-most, width-owner}
 use Rattle.reader.proofs.FoldLaws.{Agrees, Reads, shape-fault}
@@ -25,17 +24,17 @@ use Rattle.reader.proofs.StageLaws.{Fronts}
 
 module _ (t : Table) (r : List ℕ) (w : length r ≡ rowWidth t) where
   -- the front of what is read is the row
-  pub row-front : take (rowWidth t) (over 0 r (replicate room 0)) ≡ r
+  pub row-front : take (rowWidth t) (over 0 r (replicate widest-row 0)) ≡ r
   unfolding part
   row-front =
-      let h : 0 + length r ≤ length (replicate {A = ℕ} room 0) = omega (arith, length-replicate {A = ℕ} room 0, width-most t) in
-      ap (λ (n : ℕ). take n (over 0 r (replicate room 0))) (sym w) ∙ part-written 0 r (replicate room 0) h
+      let h : 0 + length r ≤ length (replicate {A = ℕ} widest-row 0) = omega (arith, length-replicate {A = ℕ} widest-row 0, width-most t) in
+      ap (λ (n : ℕ). take n (over 0 r (replicate widest-row 0))) (sym w) ∙ part-written 0 r (replicate widest-row 0) h
 
-  owner-front : part 0 10 (over 0 r (replicate room 0)) ≡ part 0 10 r
+  owner-front : part 0 10 (over 0 r (replicate widest-row 0)) ≡ part 0 10 r
   unfolding part
-  owner-front = sym (take-take 10 (rowWidth t) (over 0 r (replicate room 0)) (width-owner t)) ∙ ap (take 10) row-front
+  owner-front = sym (take-take 10 (rowWidth t) (over 0 r (replicate widest-row 0)) (width-owner t)) ∙ ap (take 10) row-front
 
-pub sends-front : (t : Table) (register : List ℕ) (sender : ℕ) (r : List ℕ) → length r ≡ rowWidth t → maySend t register sender (over 0 r (replicate room 0)) ≡ maySend t register sender r
+pub sends-front : (t : Table) (register : List ℕ) (sender : ℕ) (r : List ℕ) → length r ≡ rowWidth t → maySend t register sender (over 0 r (replicate widest-row 0)) ≡ maySend t register sender r
 sends-front Message register sender r w = ap (grants register sender) (owner-front Message r w)
 sends-front Planning register sender r w = refl
 sends-front Calendar register sender r w = refl

@@ -2,17 +2,17 @@ use Prim.Native.Nat.{ℕ, _+_, _*_, _/_, _≤_, _<_}
 use native.Mathlib.Omega.{arith}
 use native.Mathlib.Nat.{le-div-iff-mul-le}
 use mathlib.Core.Path.{_≡_, refl, sym, ap, subst, _∙_}
-use mathlib.Core.Bool.{Bool, true, false, not}
+use mathlib.Core.Bool.{Bool, true, false, not, _&&_}
 use mathlib.Core.List.{List, [], _∷_, _++_, append-nil}
 use borrow.Author.Tests.{eq-eqb, ne-eqb, eqb-true, leb-true, leb-false}
 use lib.Dec.{eqb, leb}
 use lib.ListN.{length, take, replicate, length-append}
 use lib.Seq.{take-all, take-append-le}
-use Rattle.lists.specs.Logic.{on, both}
+use Rattle.lists.specs.Logic.{on}
 use Rattle.lists.specs.Text.{same}
 use Rattle.lists.specs.Part.{over}
 use Rattle.lists.specs.Rows.{flat, Wide}
-use Rattle.lists.proofs.LogicLaws.{both-true}
+use Rattle.lists.proofs.LogicLaws.{and-pass}
 use Rattle.lists.proofs.EachLaws.{each-append}
 use Rattle.lists.proofs.OverLaws.{length-over, over-then}
 use Rattle.lists.proofs.RowLaws.{flat-append}
@@ -22,17 +22,18 @@ use Rattle.turbo_lines.specs.declared.Mark.the-variants as Marks
 use Rattle.turbo.specs.Split.{until, fields}
 use Rattle.turbo_lines.specs.Lines.{markOf, afterMark}
 use Rattle.columns.specs.declared.Table.{Table}
-use Rattle.columns.specs.Tables.{tableName, rowOf, rowWidth, wrongColumn}
+use Rattle.columns.specs.Tables.{tableName, rowOf, rowWidth, wrongColumn, labelFault}
 use Rattle.rows.specs.declared.Shape.{Shape}
 use Rattle.rows.specs.declared.Read.{Read}
-use Rattle.rows.specs.Shape.{labelFault, shapeOf}
-use Rattle.rows.specs.Reading.{readBy, readGiven}
-use Rattle.columns.specs.Layout.{room}
+use Rattle.rows.specs.inner.Shape.{shapeOf}
+use Rattle.rows.specs.inner.Reading.{readBy, readGiven}
+use Rattle.columns.specs.inner.Blank.{widest-row}
 use Rattle.reader_step.specs.declared.State.{State}
-use Rattle.reader.specs.Items.{Item, head, row, Place, outside, awaiting, under, after, seen, before}
-use Rattle.reader.specs.Rules.{rowsUpTo, laid}
-use Rattle.reader_step.specs.Step.{moved, misformed, labelled, mistyped, disowned, counted, maySend, dataStep, labelStep, stepAt, stepBy, staged, rowStaged, dataStaged, stagedAt, stageBy}
+use Rattle.reader.specs.Items.{Item, head, row, Place, outside, awaiting, under, placeAfter, seen, inFront}
+use Rattle.reader.specs.Staging.{rowsUpTo, laid}
+use Rattle.reader_step.specs.inner.Step.{moved, misformed, labelled, mistyped, disowned, oneRowMore, dataStep, labelStep, stepAt, stepBy, staged, rowStaged, dataStaged, stagedAt, stageBy}
 use Rattle.reader.proofs.FoldLaws.{clean, rowsFrom, Agrees, Reads, shape-fault, shape-count, data-tested}
+use Rattle.register.specs.Register.{maySend}
 
 -- The staging area by lines: what a line stages is what its item gives. Assumes nothing.
 
@@ -63,19 +64,19 @@ module _ (t : Table) (wide : 0 < rowWidth t) (done : List (List ℕ)) (r st₀ :
       → on (leb ((n + 1) * rowWidth t) (length (laid t done st₀))) (over (n * rowWidth t) r (laid t done st₀)) (laid t done st₀) ≡ laid t (done ++ r ∷ []) st₀
   lay-more n e = go (leb ((n + 1) * rowWidth t) (length (laid t done st₀))) refl
     where
-      room : (n + 1 ≤ length st₀ / rowWidth t → (n + 1) * rowWidth t ≤ length st₀) × ((n + 1) * rowWidth t ≤ length st₀ → n + 1 ≤ length st₀ / rowWidth t)
-      room = let q = le-div-iff-mul-le {k = rowWidth t} {x = n + 1} {y = length st₀} wide in (q .0, q .1)
+      widest-row : (n + 1 ≤ length st₀ / rowWidth t → (n + 1) * rowWidth t ≤ length st₀) × ((n + 1) * rowWidth t ≤ length st₀ → n + 1 ≤ length st₀ / rowWidth t)
+      widest-row = let q = le-div-iff-mul-le {k = rowWidth t} {x = n + 1} {y = length st₀} wide in (q .0, q .1)
 
       go : (b : Bool) → leb ((n + 1) * rowWidth t) (length (laid t done st₀)) ≡ b → on b (over (n * rowWidth t) r (laid t done st₀)) (laid t done st₀) ≡ laid t (done ++ r ∷ []) st₀
       go true q =
           let h : (n + 1) * rowWidth t ≤ length (laid t done st₀) = leb-true _ _ q in
           let k : (n + 1) * rowWidth t ≤ length st₀ = rw laid-length at h in
-          let m = room .1 k in
+          let m = widest-row .1 k in
           ap (λ (i : ℕ). over (i * rowWidth t) r (laid t done st₀)) e ∙ lay-fits (omega arith)
       go false q =
           let h : length (laid t done st₀) < (n + 1) * rowWidth t = leb-false _ _ q in
           let k : length st₀ < (n + 1) * rowWidth t = rw laid-length at h in
-          lay-full (let z : (n + 1 ≤ length st₀ / rowWidth t → ⊥) = λ m. let y = room .0 m in omega arith in omega (arith, z))
+          lay-full (let z : (n + 1 ≤ length st₀ / rowWidth t → ⊥) = λ m. let y = widest-row .0 m in omega arith in omega (arith, z))
 
 -- ---- what a line stages
 
@@ -84,15 +85,9 @@ pub record Stages (t : Table) (register : List ℕ) (sender : ℕ) (s n : State)
   pub more : List (List ℕ)
   pub area : st ≡ laid t (done ++ more) st₀
   pub all : Wide (rowWidth t) (done ++ more)
-  pub last : (n .form ≡ 0 → ⊥) → rowsFrom t register sender s (before ys xs) ≡ more
-  pub next : n .form ≡ 0 → rowsFrom t register sender s (before ys xs) ≡ more ++ rowsFrom t register sender n xs
+  pub last : (n .form ≡ 0 → ⊥) → rowsFrom t register sender s (inFront ys xs) ≡ more
+  pub next : n .form ≡ 0 → rowsFrom t register sender s (inFront ys xs) ≡ more ++ rowsFrom t register sender n xs
   pub count : clean n ≡ true → length (done ++ more) ≡ n .rows
-
-both-front : (a b : Bool) → both a b ≡ true → a ≡ true
-both-front a b e = both-true a b e .0
-
-both-back : (a b : Bool) → both a b ≡ true → b ≡ true
-both-back a b e = both-true a b e .1
 
 pub on-same : {A : Type 0} (b : Bool) (x : A) → on b x x ≡ x
 on-same true x = refl
@@ -106,8 +101,8 @@ module _
     (wide : 0 < rowWidth t) (done : List (List ℕ)) (st₀ : List ℕ) (all : Wide (rowWidth t) done) (so-far : clean s ≡ true → length done ≡ s .rows) where
   -- nothing is staged
   nothing : (n : State) (ys xs : List Item)
-      → ((n .form ≡ 0 → ⊥) → rowsFrom t register sender s (before ys xs) ≡ [])
-      → (n .form ≡ 0 → rowsFrom t register sender s (before ys xs) ≡ rowsFrom t register sender n xs)
+      → ((n .form ≡ 0 → ⊥) → rowsFrom t register sender s (inFront ys xs) ≡ [])
+      → (n .form ≡ 0 → rowsFrom t register sender s (inFront ys xs) ≡ rowsFrom t register sender n xs)
       → (clean n ≡ true → length done ≡ n .rows)
       → Stages t register sender s n ys xs done st₀ (laid t done st₀)
   nothing n ys xs p q c =
@@ -130,20 +125,20 @@ module _
   stage-labels ls xs false e = nothing (labelled s (shapeOf t ls)) (head (s .line) ls ∷ []) xs (λ h. absurd (h form)) (λ h. rw e) so-far
 
   module _ (ls : List (List ℕ)) (l : List ℕ) (xs : List Item)
-      (front : wrongColumn t ls l ≡ 0 → (length (rowOf t ls l) ≡ rowWidth t) × (take (rowWidth t) (over 0 (rowOf t ls l) (replicate room 0)) ≡ rowOf t ls l)) where
+      (front : wrongColumn t ls l ≡ 0 → (length (rowOf t ls l) ≡ rowWidth t) × (take (rowWidth t) (over 0 (rowOf t ls l) (replicate widest-row 0)) ≡ rowOf t ls l)) where
     -- the area after a data line, by the tests that are made of it
     abbrev laying : Bool → Bool → Bool → Bool → Bool → List ℕ
     laying b₁ b₂ b₃ b₄ b₅ =
-        on b₁ (on b₂ (on b₃ (on b₄ (on b₅ (staged t (s .rows) (over 0 (rowOf t ls l) (replicate room 0)) (laid t done st₀)) (laid t done st₀)) (laid t done st₀)) (laid t done st₀)) (laid t done st₀)) (laid t done st₀)
+        on b₁ (on b₂ (on b₃ (on b₄ (on b₅ (staged t (s .rows) (over 0 (rowOf t ls l) (replicate widest-row 0)) (laid t done st₀)) (laid t done st₀)) (laid t done st₀)) (laid t done st₀)) (laid t done st₀)) (laid t done st₀)
 
     abbrev leading : Bool → Bool → Bool → Bool → Bool → State
     leading b₁ b₂ b₃ b₄ b₅ =
         on b₁
-        (on b₂ (on b₃ (on b₄ (on b₅ (counted s) (disowned s)) (moved s (s .place))) (mistyped s (wrongColumn t ls l))) (moved s (s .place)))
+        (on b₂ (on b₃ (on b₄ (on b₅ (oneRowMore s) (disowned s)) (moved s (s .place))) (mistyped s (wrongColumn t ls l))) (moved s (s .place)))
         (misformed s)
 
     stage-sent : eqb (length (fields l)) (length ls) ≡ true → s .wrong ≡ 0 → wrongColumn t ls l ≡ 0 → s .owner ≡ 0 → maySend t register sender (rowOf t ls l) ≡ true
-        → Stages t register sender s (counted s) (row (s .line) ls l ∷ []) xs done st₀ (staged t (s .rows) (over 0 (rowOf t ls l) (replicate room 0)) (laid t done st₀))
+        → Stages t register sender s (oneRowMore s) (row (s .line) ls l ∷ []) xs done st₀ (staged t (s .rows) (over 0 (rowOf t ls l) (replicate widest-row 0)) (laid t done st₀))
     unfolding rowsUpTo staged
     stage-sent p q r u v =
         let f = front r in
@@ -166,26 +161,26 @@ module _
     stage-go true true false b₄ b₅ p q r u v =
         nothing (mistyped s (wrongColumn t ls l)) (row (s .line) ls l ∷ []) xs (λ h. absurd (h form))
         (λ h. simp (p, r, ne-eqb (s .line) 0 from) (on-same (clean s) []))
-        (λ c. never (eqb (s .line) 0) (ne-eqb (s .line) 0 from) (both-front (eqb (s .line) 0) (eqb (s .owner) 0) c))
+        (λ c. never (eqb (s .line) 0) (ne-eqb (s .line) 0 from) (and-pass (eqb (s .line) 0) (eqb (s .owner) 0) c .0))
     stage-go true true true false b₅ p q r u v =
         nothing (moved s (s .place)) (row (s .line) ls l ∷ []) xs (λ h. absurd (h form)) (λ h. simp (q, u)) so-far
     stage-go true true true true false p q r u v =
         nothing (disowned s) (row (s .line) ls l ∷ []) xs (λ h. absurd (h form))
         (λ h. simp (p, q, r, u, v, ne-eqb (s .line) 0 from))
-        (λ c. never (eqb (s .line) 0) (ne-eqb (s .line) 0 from) (both-back (eqb (s .wrong) 0) (eqb (s .line) 0) c))
+        (λ c. never (eqb (s .line) 0) (ne-eqb (s .line) 0 from) (and-pass (eqb (s .wrong) 0) (eqb (s .line) 0) c .1))
     stage-go true true true true true p q r u v = stage-sent p (eqb-true _ _ q) (eqb-true _ _ r) (eqb-true _ _ u) v
 
     module _
         (shape : s .shape ≡ shapeOf t ls) (right : labelFault t ls ≡ false)
         (reads : readBy t (shapeOf t ls) l ≡ readGiven (wrongColumn t ls l) (rowOf t ls l))
-        (sends : wrongColumn t ls l ≡ 0 → maySend t register sender (over 0 (rowOf t ls l) (replicate room 0)) ≡ maySend t register sender (rowOf t ls l)) where
+        (sends : wrongColumn t ls l ≡ 0 → maySend t register sender (over 0 (rowOf t ls l) (replicate widest-row 0)) ≡ maySend t register sender (rowOf t ls l)) where
       abbrev area : List ℕ
       area = laid t done st₀
 
       row-laying : (b : Bool) → eqb (wrongColumn t ls l) 0 ≡ b → rowStaged t register sender s (readGiven (wrongColumn t ls l) (rowOf t ls l)) area
-          ≡ on b (on (eqb (s .owner) 0) (on (maySend t register sender (rowOf t ls l)) (staged t (s .rows) (over 0 (rowOf t ls l) (replicate room 0)) area) area) area) area
+          ≡ on b (on (eqb (s .owner) 0) (on (maySend t register sender (rowOf t ls l)) (staged t (s .rows) (over 0 (rowOf t ls l) (replicate widest-row 0)) area) area) area) area
       unfolding rowStaged
-      row-laying true e = rw e (ap (λ (b : Bool). on (eqb (s .owner) 0) (on b (staged t (s .rows) (over 0 (rowOf t ls l) (replicate room 0)) area) area) area) (sends (eqb-true _ _ e)))
+      row-laying true e = rw e (ap (λ (b : Bool). on (eqb (s .owner) 0) (on b (staged t (s .rows) (over 0 (rowOf t ls l) (replicate widest-row 0)) area) area) area) (sends (eqb-true _ _ e)))
       row-laying false e = simp e
 
       data-laying : dataStaged t register sender s l area
@@ -207,7 +202,7 @@ module _
 abbrev pub Fronts : Table → List ℕ → Type 0
 Fronts t l =
     (ls : List (List ℕ)) → labelFault t ls ≡ false → wrongColumn t ls l ≡ 0 →
-    (length (rowOf t ls l) ≡ rowWidth t) × (take (rowWidth t) (over 0 (rowOf t ls l) (replicate room 0)) ≡ rowOf t ls l)
+    (length (rowOf t ls l) ≡ rowWidth t) × (take (rowWidth t) (over 0 (rowOf t ls l) (replicate widest-row 0)) ≡ rowOf t ls l)
 
 -- a line, whatever its mark
 module _

@@ -14,11 +14,12 @@ use Rattle.columns.specs.declared.Table.{Table}
 use Rattle.columns.specs.declared.Table.the-variants.{Message, Planning, Calendar}
 use Rattle.columns.specs.Cell.{width}
 use Rattle.columns.specs.Tables.{messageColumns, planningColumns, calendarColumns, columnsIn, rowWidth}
-use Rattle.reader.specs.declared.Answer.the-variants.{Rows}
-use Rattle.reader.specs.Rules.{largest, rowsUpTo, itemsOf, readingOf, stagedBy}
+use Rattle.reader.specs.declared.Reading.the-variants.{Rows}
+use Rattle.reader.specs.Rules.{largest, dataRows, itemsOf, readingOf}
+use Rattle.reader.specs.Staging.{stagedBy}
 use Rattle.reader_step.proofs.WidthLaws.{width-some}
 use Rattle.reader.proofs.EachRowLaws.{rows-wide}
-use Rattle.reader.proofs.AnswerLaws.{reading-looked, rows-counted}
+use Rattle.reader.proofs.AnswerLaws.{reading-looked, rows-counted, accepted-rows, accepted-each}
 
 -- The staging area after a dossier that is accepted, read as rows. Assumes nothing.
 
@@ -31,7 +32,7 @@ over-rows w rs st h f =
 
 module _ (t : Table) (register : List ℕ) (sender : ℕ) (d staging : List ℕ) (n : ℕ) (e : readingOf t register sender d ≡ Rows n) (room : n * rowWidth t ≤ length staging) where
   abbrev rs : List (List ℕ)
-  rs = rowsUpTo t register sender (itemsOf t d)
+  rs = dataRows t (itemsOf t d)
 
   -- all rows fit
   pub staged-all : stagedBy t register sender d staging ≡ over 0 (flat rs) staging
@@ -40,28 +41,29 @@ module _ (t : Table) (register : List ℕ) (sender : ℕ) (d staging : List ℕ)
       let k = reading-looked t register sender d n e in
       let c = rows-counted t register sender d n e in
       let m : n ≤ length staging / rowWidth t = le-div-iff-mul-le (width-some t) .1 room in
-      rw (le-ltb largest (length d) (k .0), k .1, take-all (length staging / rowWidth t) rs (omega arith))
+      rw (le-ltb largest (length d) (k .0), k .1, accepted-rows t register sender d n e, take-all (length staging / rowWidth t) rs (omega arith))
 
   -- and are read back
   pub staged-rows : rowsOf (rowWidth t) n (stagedBy t register sender d staging) ≡ rs
   staged-rows =
       let c = rows-counted t register sender d n e in
       let f : length rs * rowWidth t ≤ length staging = rw (← c) room in
-      rw (staged-all, c) (over-rows (rowWidth t) rs staging (rows-wide t register sender (itemsOf t d)) f)
+      let w = accepted-each t register sender d (λ (r : List ℕ). length r ≡ rowWidth t) (rows-wide t register sender (itemsOf t d)) n e in
+      rw (staged-all, c) (over-rows (rowWidth t) rs staging w f)
 
 -- with the width of each table's rows written out
 
 pub staged-updates : (register : List ℕ) (sender : ℕ) (d staging : List ℕ) (n : ℕ) → readingOf Message register sender d ≡ Rows n → n * 66 ≤ length staging
-    → rowsOf 66 n (stagedBy Message register sender d staging) ≡ rowsUpTo Message register sender (itemsOf Message d)
+    → rowsOf 66 n (stagedBy Message register sender d staging) ≡ dataRows Message (itemsOf Message d)
 unfolding rowWidth columnsIn messageColumns width
 staged-updates = staged-rows Message
 
 pub staged-passes : (d staging : List ℕ) (n : ℕ) → readingOf Planning [] 0 d ≡ Rows n → n * 65 ≤ length staging
-    → rowsOf 65 n (stagedBy Planning [] 0 d staging) ≡ rowsUpTo Planning [] 0 (itemsOf Planning d)
+    → rowsOf 65 n (stagedBy Planning [] 0 d staging) ≡ dataRows Planning (itemsOf Planning d)
 unfolding rowWidth columnsIn planningColumns width
 staged-passes = staged-rows Planning [] 0
 
 pub staged-validities : (d staging : List ℕ) (n : ℕ) → readingOf Calendar [] 0 d ≡ Rows n → n * 24 ≤ length staging
-    → rowsOf 24 n (stagedBy Calendar [] 0 d staging) ≡ rowsUpTo Calendar [] 0 (itemsOf Calendar d)
+    → rowsOf 24 n (stagedBy Calendar [] 0 d staging) ≡ dataRows Calendar (itemsOf Calendar d)
 unfolding rowWidth columnsIn calendarColumns width
 staged-validities = staged-rows Calendar [] 0

@@ -10,26 +10,25 @@ use Rattle.lists.specs.Rows.{flat, rowsOf}
 use Rattle.lists.specs.BigEndian.{spelled}
 use Rattle.clock.specs.Date.{daysIn, isDate}
 use Rattle.clock.specs.Moment.{monthStart, dayCount}
-use Rattle.syntax.specs.Machine.{field, escape, firstEscape, nul, ret, opened, marked, step, accepting, run, fault}
+use Rattle.syntax.specs.Machine.{fieldStep, escapeStep, firstEscapeStep, nullStep, returnStep, startStep, markStep, step, accepting, run, fault}
 use Rattle.turbo.specs.Escape.{escaped, decode}
 use Rattle.turbo.specs.Split.{until, past, fields, fieldAt}
 use Rattle.turbo_lines.specs.Lines.{linesFrom, markOf, afterMark}
-use Rattle.turbo_labels.specs.Columns.{count, place, anyTwice}
-use Rattle.field_types.specs.Digits.{number, triple}
+use Rattle.turbo_labels.specs.Columns.{count, columnOf, fieldUnder, anyTwice}
+use Rattle.field_types.specs.Digits.{numeral, triple}
 use Rattle.field_types.specs.Times.{clock, time}
 use Rattle.field_types.specs.Dates.{date}
-use Rattle.field_types.specs.Stamps.{offset, stampSeconds, stamp}
+use Rattle.field_types.specs.Stamps.{utcOffset, stampSeconds, stamp}
 use Rattle.field_types.specs.Names.{bit, status, stopType, flexible}
 use Rattle.texts.specs.Texts.{text}
 use Rattle.columns.specs.declared.Table.the-variants.{Message, Calendar}
 use Rattle.columns.specs.Cell.{cell}
-use Rattle.columns.specs.Tables.{messageColumns, calendarColumns, columnsIn, tableName, names, misses, rowOf, wrongColumn}
-use Rattle.rows.specs.Shape.{labelFault}
-use Rattle.register.specs.Register.{among, grants}
-use Rattle.reader.specs.declared.Answer.{Answer}
-use Rattle.reader.specs.declared.Answer.the-variants.{Syntax, Form, Field, Owner, Rows}
+use Rattle.columns.specs.Tables.{messageColumns, calendarColumns, columnsIn, tableName, names, misses, rowOf, wrongColumn, labelFault}
+use Rattle.register.specs.Register.{hasPair, grants}
+use Rattle.reader.specs.declared.Reading.{Reading}
+use Rattle.reader.specs.declared.Reading.the-variants.{Syntax, Form, Field, Owner, Rows}
 use Rattle.reader.specs.Items.{items}
-use Rattle.reader.specs.Rules.{firstLine, firstColumn, rowsUpTo, answerTo, readingOf}
+use Rattle.reader.specs.Rules.{firstLine, firstColumn, dataRows, answerTo, readingOf}
 
 -- lines, each with its line end
 abbrev joined : List String → List ℕ
@@ -38,7 +37,7 @@ joined (l ∷ ls) = bytes l ++ 13 ∷ 10 ∷ joined ls
 
 -- ---- a calendar, its columns out of order and an unwanted one among them
 
-abbrev calendar : List String → Answer
+abbrev calendar : List String → Reading
 calendar ls = readingOf Calendar [] 0 (joined ("\\G" ∷ "\\TLOCALSERVICEGROUPVALIDITY" ∷ "\\LOperationDate|X|LocalServiceLevelCode|DataOwnerCode" ∷ ls))
 
 pub calendars :
@@ -52,7 +51,7 @@ pub calendars :
     × (calendar ("2017-02-29||A|CXX" ∷ "\\TLOCALSERVICEGROUPVALIDITY" ∷ "\\LOperationDate" ∷ []) ≡ Form 6)
     -- an escape that there is not, behind all of these
     × (calendar ("2017-02-29||A|CXX" ∷ "2016-03-01||A" ∷ "\\x" ∷ []) ≡ Syntax 123)
-unfolding readingOf fault run accepting step marked opened ret nul firstEscape escape field answerTo firstLine firstColumn rowsUpTo items linesFrom markOf afterMark until past fields fieldAt tableName labelFault anyTwice count place names columnsIn calendarColumns misses same wrongColumn rowOf flat cell spelled text decode escaped date isDate daysIn triple number
+unfolding readingOf fault run accepting step markStep startStep returnStep nullStep firstEscapeStep escapeStep fieldStep answerTo firstLine firstColumn dataRows items linesFrom markOf afterMark until past fields fieldAt fieldUnder tableName labelFault anyTwice count columnOf names columnsIn calendarColumns misses same wrongColumn rowOf flat cell spelled text decode escaped date isDate daysIn triple numeral
 calendars = (refl, refl, refl, refl, refl, refl, refl)
 
 -- ---- a message of one row, its owner registered for sender 1, and for the desk, to which that grants nothing
@@ -60,7 +59,7 @@ calendars = (refl, refl, refl, refl, refl, refl, refl)
 abbrev register : List ℕ
 register = 1 ∷ bytes "CXX" ++ replicate 7 0 ++ 0 ∷ bytes "CXX" ++ replicate 7 0
 
-abbrev message : ℕ → String → Answer
+abbrev message : ℕ → String → Reading
 message sender row =
     readingOf
     Message
@@ -79,5 +78,5 @@ pub messages :
     -- no arrival at INTERMEDIATE; no departure at LAST is right
     × (message 2 "CXX|2016-03-01|A031|122|0|S1|15|CIOS|2016-03-01T15:15:30+01:00|CANCEL|\\0|24:10:30|INTERMEDIATE" ≡ Field 4 11)
     × (message 1 "CXX|2016-03-01|A031|122|0|S1|15|CIOS|2016-03-01T15:15:30+01:00|CANCEL|24:10:00|\\0|LAST" ≡ Rows 1)
-unfolding readingOf fault run accepting step marked opened ret nul firstEscape escape field answerTo firstLine firstColumn rowsUpTo items linesFrom markOf afterMark until past fields fieldAt tableName labelFault anyTwice count place names columnsIn messageColumns misses same wrongColumn rowOf flat cell spelled text decode escaped date isDate daysIn triple number stamp stampSeconds monthStart dayCount offset clock time status stopType bit flexible part among grants rowsOf
+unfolding readingOf fault run accepting step markStep startStep returnStep nullStep firstEscapeStep escapeStep fieldStep answerTo firstLine firstColumn dataRows items linesFrom markOf afterMark until past fields fieldAt fieldUnder tableName labelFault anyTwice count columnOf names columnsIn messageColumns misses same wrongColumn rowOf flat cell spelled text decode escaped date isDate daysIn triple numeral stamp stampSeconds monthStart dayCount utcOffset clock time status stopType bit flexible part hasPair grants rowsOf
 messages = (refl, refl, refl, refl, refl, refl)

@@ -23,17 +23,17 @@ pub data Place : Type 0 where
   under : List (List ℕ) → Place
 
 -- the table's name runs to the first bar or the line's end
-abbrev pub named : Table → List ℕ → Place
-named t l = on (same (until 124 (afterMark l)) (tableName t)) awaiting outside
+abbrev pub afterName : Table → List ℕ → Place
+afterName t l = on (same (until 124 (afterMark l)) (tableName t)) awaiting outside
 
 -- the place after a line, and what the line is to the reader
-abbrev pub after : Table → Mark → List ℕ → Place → Place
-after t Marks.Group l p = outside
-after t Marks.Table l p = named t l
-after t Marks.Labels l awaiting = under (fields (afterMark l))
-after t Marks.Labels l outside = outside
-after t Marks.Labels l (under ls) = outside
-after t Marks.Data l p = p
+abbrev pub placeAfter : Table → Mark → List ℕ → Place → Place
+placeAfter t Marks.Group l p = outside
+placeAfter t Marks.Table l p = afterName t l
+placeAfter t Marks.Labels l awaiting = under (fields (afterMark l))
+placeAfter t Marks.Labels l outside = outside
+placeAfter t Marks.Labels l (under ls) = outside
+placeAfter t Marks.Data l p = p
 
 abbrev pub seen : Mark → ℕ → List ℕ → Place → List Item
 seen Marks.Group n l p = []
@@ -46,11 +46,11 @@ seen Marks.Data n l awaiting = []
 seen Marks.Data n l (under ls) = row n ls l ∷ []
 
 -- one before the rest, if there is one
-abbrev pub before : List Item → List Item → List Item
-before [] xs = xs
-before (x ∷ ys) xs = x ∷ xs
+abbrev pub inFront : List Item → List Item → List Item
+inFront [] xs = xs
+inFront (x ∷ ys) xs = x ∷ xs
 
 -- the lines ls from number n on
 unfoldable pub items : Table → Place → ℕ → List (List ℕ) → List Item
 items t p n [] = []
-items t p n (l ∷ ls) = before (seen (markOf l) n l p) (items t (after t (markOf l) l p) (suc n) ls)
+items t p n (l ∷ ls) = inFront (seen (markOf l) n l p) (items t (placeAfter t (markOf l) l p) (suc n) ls)

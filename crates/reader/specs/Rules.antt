@@ -1,32 +1,29 @@
--- What a reader answers, in the order of document 01's table: each number is looked for over the whole dossier before the next. Assumes nothing.
-use Prim.Native.Nat.{ℕ, _/_}
-use mathlib.Core.Bool.{Bool, false, not}
+-- What a reader answers, as document 01's table says: of its lines 2 to 6 the first that holds, each looked for over the whole dossier. Assumes nothing.
+use Prim.Native.Nat.{ℕ}
+use mathlib.Core.Bool.{Bool, true, false, not}
 use mathlib.Core.List.{List, [], _∷_}
 use lib.Dec.{eqb, ltb}
-use lib.ListN.{length, take}
-use Rattle.lists.specs.Logic.{on, both}
-use Rattle.lists.specs.Part.{over}
-use Rattle.lists.specs.Rows.{flat}
+use lib.ListN.{length}
+use Rattle.lists.specs.Logic.{on, firstHeld}
 use Rattle.syntax.specs.declared.Verdict.{Verdict}
 use Rattle.syntax.specs.declared.Verdict.the-variants as Verdicts
 use Rattle.syntax.specs.Machine.{fault}
 use Rattle.turbo.specs.Split.{fields}
 use Rattle.turbo_lines.specs.Lines.{lines}
 use Rattle.columns.specs.declared.Table.{Table}
-use Rattle.columns.specs.Tables.{rowWidth, rowOf, wrongColumn}
-use Rattle.rows.specs.Shape.{labelFault}
-use Rattle.reader_step.specs.Step.{maySend}
-use Rattle.reader.specs.declared.Answer.{Answer}
-use Rattle.reader.specs.declared.Answer.the-variants.{TooLong, Syntax, Form, Field, Owner, Rows}
-use Rattle.reader.specs.Items.{Item, head, row, Place, outside, items}
+use Rattle.columns.specs.Tables.{rowOf, wrongColumn, labelFault}
+use Rattle.reader.specs.declared.Reading.{Reading}
+use Rattle.reader.specs.declared.Reading.the-variants.{TooLong, Syntax, Form, Field, Owner, Rows}
+use Rattle.reader.specs.Items.{Item, head, row, outside, items}
+use Rattle.register.specs.Register.{maySend}
 
 -- the most bytes of a dossier
 abbrev pub largest : ℕ
 largest = 65536
 
-abbrev pub lineOf : Item → ℕ
-lineOf (head n ls) = n
-lineOf (row n ls l) = n
+abbrev pub lineNumber : Item → ℕ
+lineNumber (head n ls) = n
+lineNumber (row n ls l) = n
 
 -- 4: a wanted name twice, or missing and not optional, or a field count unlike the label line's
 abbrev pub formBad : Table → Item → Bool
@@ -47,7 +44,7 @@ ownerBad t register sender (row n ls l) = not (maySend t register sender (rowOf 
 
 unfoldable pub firstLine : (Item → Bool) → List Item → ℕ
 firstLine bad [] = 0
-firstLine bad (x ∷ xs) = on (bad x) (lineOf x) (firstLine bad xs)
+firstLine bad (x ∷ xs) = on (bad x) (lineNumber x) (firstLine bad xs)
 
 abbrev pub isWrong : Table → Item → Bool
 isWrong t x = not (eqb (wrongAt t x) 0)
@@ -57,57 +54,48 @@ unfoldable pub firstColumn : Table → List Item → ℕ
 firstColumn t [] = 0
 firstColumn t (x ∷ xs) = on (isWrong t x) (wrongAt t x) (firstColumn t xs)
 
--- ---- the rows before the first line at fault
+-- ---- the rows
 
-abbrev pub fine : Table → List ℕ → ℕ → Item → Bool
-fine t register sender x = both (not (formBad t x)) (both (not (isWrong t x)) (not (ownerBad t register sender x)))
-
-abbrev pub given : Table → Item → List (List ℕ) → List (List ℕ)
-given t (head n ls) rs = rs
-given t (row n ls l) rs = rowOf t ls l ∷ rs
-
-unfoldable pub rowsUpTo : Table → List ℕ → ℕ → List Item → List (List ℕ)
-rowsUpTo t register sender [] = []
-rowsUpTo t register sender (x ∷ xs) = on (fine t register sender x) (given t x (rowsUpTo t register sender xs)) []
+-- the row of each data line, in order
+unfoldable pub dataRows : Table → List Item → List (List ℕ)
+dataRows t [] = []
+dataRows t (head n ls ∷ xs) = dataRows t xs
+dataRows t (row n ls l ∷ xs) = rowOf t ls l ∷ dataRows t xs
 
 -- ---- the answer
-
--- x where there is none, else y of it
-abbrev pub orElse : ℕ → Answer → Answer → Answer
-orElse n x y = on (eqb n 0) x y
-
-abbrev pub settled : ℕ → ℕ → ℕ → ℕ → ℕ → Answer
-settled form line column owner rows = orElse form (orElse line (orElse owner (Rows rows) (Owner owner)) (Field line column)) (Form form)
-
-unfoldable pub answerTo : Table → List ℕ → ℕ → List Item → Answer
-answerTo t register sender xs =
-    settled
-    (firstLine (formBad t) xs)
-    (firstLine (isWrong t) xs)
-    (firstColumn t xs)
-    (firstLine (ownerBad t register sender) xs)
-    (length (rowsUpTo t register sender xs))
 
 -- the items of a whole dossier
 abbrev pub itemsOf : Table → List ℕ → List Item
 itemsOf t d = items t outside 1 (lines d)
 
--- whether the dossier is looked into at all: 2, then 3
-abbrev pub bySyntax : Verdict → Answer → Answer
-bySyntax Verdicts.Fine a = a
-bySyntax (Verdicts.FaultAt i) a = Syntax i
+-- whether the bytes fault, and where
+abbrev pub faults : Verdict → Bool
+faults Verdicts.Fine = false
+faults (Verdicts.FaultAt i) = true
 
-unfoldable pub readingOf : Table → List ℕ → ℕ → List ℕ → Answer
-readingOf t register sender d = on (ltb largest (length d)) TooLong (bySyntax (fault d) (answerTo t register sender (itemsOf t d)))
+abbrev pub faultPlace : Verdict → ℕ
+faultPlace Verdicts.Fine = 0
+faultPlace (Verdicts.FaultAt i) = i
 
--- the rows go to the staging area, as many as fit; its later bytes stay
-abbrev pub laid : Table → List (List ℕ) → List ℕ → List ℕ
-laid t rs staging = over 0 (flat (take (length staging / rowWidth t) rs)) staging
+-- there is such a line
+abbrev pub isLine : ℕ → Bool
+isLine n = not (eqb n 0)
 
-abbrev pub bySyntaxStaged : Verdict → List ℕ → List ℕ → List ℕ
-bySyntaxStaged Verdicts.Fine a s = a
-bySyntaxStaged (Verdicts.FaultAt i) a s = s
+-- lines 4 to 6 of the table, and the rows where none holds
+unfoldable pub answerTo : Table → List ℕ → ℕ → List Item → Reading
+answerTo t register sender xs =
+    firstHeld
+    ((isLine (firstLine (formBad t) xs), Form (firstLine (formBad t) xs))
+    ∷ (isLine (firstLine (isWrong t) xs), Field (firstLine (isWrong t) xs) (firstColumn t xs))
+    ∷ (isLine (firstLine (ownerBad t register sender) xs), Owner (firstLine (ownerBad t register sender) xs))
+    ∷ [])
+    (Rows (length (dataRows t xs)))
 
-unfoldable pub stagedBy : Table → List ℕ → ℕ → List ℕ → List ℕ → List ℕ
-stagedBy t register sender d staging =
-    on (ltb largest (length d)) staging (bySyntaxStaged (fault d) (laid t (rowsUpTo t register sender (itemsOf t d)) staging) staging)
+-- lines 2 and 3 before them
+unfoldable pub readingOf : Table → List ℕ → ℕ → List ℕ → Reading
+readingOf t register sender d =
+    firstHeld
+    ((ltb largest (length d), TooLong)
+    ∷ (faults (fault d), Syntax (faultPlace (fault d)))
+    ∷ [])
+    (answerTo t register sender (itemsOf t d))

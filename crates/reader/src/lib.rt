@@ -6,10 +6,13 @@ ghost use mathlib.Core.Path.{_≡_};
 ghost use mathlib.Core.List.{[]};
 ghost use Prim.Native.Nat.{_≤_};
 ghost use lib.ListN.{length};
-ghost use Rattle.reader.specs.Rules.{largest, answerTo, itemsOf, rowsUpTo, laid, readingOf, stagedBy, settled};
+ghost use Rattle.reader.specs.Rules.{largest, answerTo, itemsOf, readingOf};
+ghost use Rattle.reader.specs.Numbers.{readingNumbers, readingTable};
+ghost use Rattle.reader.specs.Staging.{rowsUpTo, laid, stagedBy};
+ghost use Rattle.reader.specs.inner.Settled.{answeredBy};
 
 // What a reader answers: refusals 2 to 6 with their places, or how many rows the dossier has.
-pub enum Answer {
+pub enum Reading {
     TooLong,
     Syntax(usize),
     Form(usize),
@@ -19,72 +22,82 @@ pub enum Answer {
 }
 
 // The answer once no line is left, by the order of the numbers.
-fn settle(last: State) -> Answer
-    ensures { λ r. ⌜ r ≡ settled 0 (last .wrong) (last .column) (last .owner) (last .rows) ⌝ }
+fn settle(last: State) -> Reading
+    ensures { λ r. ⌜ r ≡ answeredBy 0 (last .wrong) (last .column) (last .owner) (last .rows) ⌝ }
 {
     if last.wrong != 0 {
-        return Answer::Field(last.wrong, last.column);
+        return Reading::Field(last.wrong, last.column);
     }
     if last.owner != 0 {
-        return Answer::Owner(last.owner);
+        return Reading::Owner(last.owner);
     }
-    Answer::Rows(last.rows)
+    Reading::Rows(last.rows)
 }
 
 // The lines of a dossier within its size, one after another.
-fn read_lines(t: Table, d: &[u8], register: &[u8], sender: u8, staging: &mut [u8]) -> Answer
-    requires { ⌜ length (now d) ≤ largest ⌝ }
-    ensures answer { λ r. ⌜ r ≡ answerTo t (now (register .entry)) sender (itemsOf t (now (d .entry))) ⌝ }
-    ensures area { λ _. ⌜ now (staging .exit) ≡ laid t (rowsUpTo t (now (register .entry)) sender (itemsOf t (now (d .entry)))) (now (staging .entry)) ⌝ }
+fn read_lines(
+    table: Table,
+    dossier: &[u8],
+    register: &[u8],
+    sender: u8,
+    staging: &mut [u8],
+) -> Reading
+    requires { ⌜ length (now dossier) ≤ largest ⌝ }
+    ensures answer { λ r. ⌜ r ≡ answerTo table (now (register .entry)) sender (itemsOf table (now (dossier .entry))) ⌝ }
+    ensures area { λ _. ⌜ now (staging .exit) ≡ laid table (rowsUpTo table (now (register .entry)) sender (itemsOf table (now (dossier .entry)))) (now (staging .entry)) ⌝ }
 {
-    let mut s = reader_step::start();
-    let mut rest = d;
+    let mut state = reader_step::start();
+    let mut rest = dossier;
     while 0 < rest.len() {
         let mut size: usize = 0;
         let next = turbo_lines::read_line(rest, &mut size);
-        s = reader_step::line_step(t, s, &rest[..size], register, sender, staging);
-        if s.form != 0 {
-            return Answer::Form(s.form);
+        state = reader_step::line_step(table, state, &rest[..size], register, sender, staging);
+        if state.form != 0 {
+            return Reading::Form(state.form);
         }
         rest = next;
     }
-    settle(s)
+    settle(state)
 }
 
 // Any bytes, in the order of document 01's table: 2, 3, then 4 to 6.
-fn read(t: Table, d: &[u8], register: &[u8], sender: u8, staging: &mut [u8]) -> Answer
-    ensures answer { λ r. ⌜ r ≡ readingOf t (now (register .entry)) sender (now (d .entry)) ⌝ }
-    ensures area { λ _. ⌜ now (staging .exit) ≡ stagedBy t (now (register .entry)) sender (now (d .entry)) (now (staging .entry)) ⌝ }
+fn read(table: Table, dossier: &[u8], register: &[u8], sender: u8, staging: &mut [u8]) -> Reading
+    ensures answer { λ r. ⌜ r ≡ readingOf table (now (register .entry)) sender (now (dossier .entry)) ⌝ }
+    ensures area { λ _. ⌜ now (staging .exit) ≡ stagedBy table (now (register .entry)) sender (now (dossier .entry)) (now (staging .entry)) ⌝ }
+    ensures numbers { λ r. ⌜ readingNumbers r ≡ readingTable table (now (register .entry)) sender (now (dossier .entry)) ⌝ }
 {
-    if 65536 < d.len() {
-        return Answer::TooLong;
+    if 65536 < dossier.len() {
+        return Reading::TooLong;
     }
-    match syntax::check_syntax(d) {
-        Verdict::FaultAt(i) => Answer::Syntax(i),
-        Verdict::Fine => read_lines(t, d, register, sender, staging),
+    match syntax::check_syntax(dossier) {
+        Verdict::FaultAt(i) => Reading::Syntax(i),
+        Verdict::Fine => read_lines(table, dossier, register, sender, staging),
     }
 }
 
 // A message: its rows as 66-byte bodies into the staging area.
-pub fn read_message(d: &[u8], register: &[u8], sender: u8, staging: &mut [u8]) -> Answer
-    ensures answer { λ r. ⌜ r ≡ readingOf Table.Message (now (register .entry)) sender (now (d .entry)) ⌝ }
-    ensures area { λ _. ⌜ now (staging .exit) ≡ stagedBy Table.Message (now (register .entry)) sender (now (d .entry)) (now (staging .entry)) ⌝ }
+pub fn read_message(dossier: &[u8], register: &[u8], sender: u8, staging: &mut [u8]) -> Reading
+    ensures answer { λ r. ⌜ r ≡ readingOf Table.Message (now (register .entry)) sender (now (dossier .entry)) ⌝ }
+    ensures area { λ _. ⌜ now (staging .exit) ≡ stagedBy Table.Message (now (register .entry)) sender (now (dossier .entry)) (now (staging .entry)) ⌝ }
+    ensures numbers { λ r. ⌜ readingNumbers r ≡ readingTable Table.Message (now (register .entry)) sender (now (dossier .entry)) ⌝ }
 {
-    read(Table::Message, d, register, sender, staging)
+    read(Table::Message, dossier, register, sender, staging)
 }
 
 // The planning: pass times of 65 bytes, without a date and with their service level.
-pub fn read_planning(d: &[u8], staging: &mut [u8]) -> Answer
-    ensures answer { λ r. ⌜ r ≡ readingOf Table.Planning [] 0 (now (d .entry)) ⌝ }
-    ensures area { λ _. ⌜ now (staging .exit) ≡ stagedBy Table.Planning [] 0 (now (d .entry)) (now (staging .entry)) ⌝ }
+pub fn read_planning(dossier: &[u8], staging: &mut [u8]) -> Reading
+    ensures answer { λ r. ⌜ r ≡ readingOf Table.Planning [] 0 (now (dossier .entry)) ⌝ }
+    ensures area { λ _. ⌜ now (staging .exit) ≡ stagedBy Table.Planning [] 0 (now (dossier .entry)) (now (staging .entry)) ⌝ }
+    ensures numbers { λ r. ⌜ readingNumbers r ≡ readingTable Table.Planning [] 0 (now (dossier .entry)) ⌝ }
 {
-    read(Table::Planning, d, &d[..0], 0, staging)
+    read(Table::Planning, dossier, &dossier[..0], 0, staging)
 }
 
 // The calendar: owner, service level and date, 24 bytes.
-pub fn read_calendar(d: &[u8], staging: &mut [u8]) -> Answer
-    ensures answer { λ r. ⌜ r ≡ readingOf Table.Calendar [] 0 (now (d .entry)) ⌝ }
-    ensures area { λ _. ⌜ now (staging .exit) ≡ stagedBy Table.Calendar [] 0 (now (d .entry)) (now (staging .entry)) ⌝ }
+pub fn read_calendar(dossier: &[u8], staging: &mut [u8]) -> Reading
+    ensures answer { λ r. ⌜ r ≡ readingOf Table.Calendar [] 0 (now (dossier .entry)) ⌝ }
+    ensures area { λ _. ⌜ now (staging .exit) ≡ stagedBy Table.Calendar [] 0 (now (dossier .entry)) (now (staging .entry)) ⌝ }
+    ensures numbers { λ r. ⌜ readingNumbers r ≡ readingTable Table.Calendar [] 0 (now (dossier .entry)) ⌝ }
 {
-    read(Table::Calendar, d, &d[..0], 0, staging)
+    read(Table::Calendar, dossier, &dossier[..0], 0, staging)
 }

@@ -6,7 +6,8 @@ use borrow.Author.Tests.{eq-eqb, ne-eqb}
 use Rattle.columns.specs.declared.Table.{Table}
 use Rattle.rows.specs.declared.Read.{Read}
 use Rattle.reader_step.specs.declared.State.{State}
-use Rattle.reader_step.specs.Step.{moved, mistyped, disowned, counted, maySend, rowStep, staged, rowStaged}
+use Rattle.reader_step.specs.inner.Step.{moved, mistyped, disowned, oneRowMore, rowStep, staged, rowStaged}
+use Rattle.register.specs.Register.{maySend}
 
 -- Which case of a row's step holds. Assumes nothing.
 
@@ -21,7 +22,7 @@ module _ (t : Table) (register : List ℕ) (sender : ℕ) (s : State) (r : Read)
     row-before h = rw (eq-eqb (r .wrong) 0 typed, ne-eqb (s .owner) 0 h) (refl, refl)
 
     module _ (first : s .owner ≡ 0) where
-      pub row-sent : maySend t register sender (r .row) ≡ true → (counted s ≡ rowStep t register sender s r) × (staged t (s .rows) (r .row) st ≡ rowStaged t register sender s r st)
+      pub row-sent : maySend t register sender (r .row) ≡ true → (oneRowMore s ≡ rowStep t register sender s r) × (staged t (s .rows) (r .row) st ≡ rowStaged t register sender s r st)
       unfolding rowStep rowStaged
       row-sent h = rw (eq-eqb (r .wrong) 0 typed, eq-eqb (s .owner) 0 first, h) (refl, refl)
 

@@ -13,7 +13,7 @@ use Rattle.columns.specs.declared.Table.{Table}
 use Rattle.columns.specs.declared.Table.the-variants.{Message, Planning, Calendar}
 use Rattle.columns.specs.Cell.{width}
 use Rattle.columns.specs.Tables.{messageColumns, planningColumns, calendarColumns, columnsIn, rowWidth}
-use Rattle.reader_step.specs.Step.{staged}
+use Rattle.reader_step.specs.inner.Step.{staged}
 
 -- How wide a row is, and where it goes. Assumes nothing.
 

@@ -1,16 +1,16 @@
 // One line of a dossier at a time: what is kept of the lines so far, and what a line changes in it and in the staging area. It asks for no line before or behind, so lines may come one by one.
 use columns::Table;
-use turbo_lines::Mark;
 use rows::Read;
 use rows::Shape;
+use turbo_lines::Mark;
 ghost use mathlib.Core.Path.{_≡_};
 ghost use Prim.Native.Nat.{_≤_, _<_};
 ghost use lib.ListN.{length};
-ghost use Rattle.rows.specs.Reading.{IsShape};
+ghost use Rattle.rows.specs.inner.Reading.{IsShape};
 ghost use Rattle.lists.specs.Text.{same};
 ghost use Rattle.columns.specs.Tables.{tableName};
-ghost use Rattle.reader_step.specs.Step.{moved, misformed, labelled, mistyped, disowned, counted, maySend, rowStep, dataStep, labelStep, placeNamed, stepBy, Fresh};
-ghost use Rattle.reader_step.specs.Step.{staged, rowStaged, dataStaged, stageBy};
+ghost use Rattle.reader_step.specs.inner.Step.{moved, misformed, labelled, mistyped, disowned, oneRowMore, rowStep, dataStep, labelStep, placeNamed, stepBy, Fresh};
+ghost use Rattle.reader_step.specs.inner.Step.{staged, rowStaged, dataStaged, stageBy};
 
 // What is kept of the lines so far. `place`: 0 outside the table, 1 between its `\T` and `\L` lines, 2 under its labels.
 // `line` is the number of the line to come; `form`, `wrong` with `column`, and `owner` are the first lines at fault, 0 for none.
@@ -26,101 +26,89 @@ pub struct State {
 }
 
 // A line that changes only the place.
-fn moved_to(s: State, place: u8) -> State
-    requires { ⌜ s .line < 4294967296 ⌝ }
-    ensures { λ r. ⌜ r ≡ moved s place ⌝ }
+fn moved_to(state: State, place: u8) -> State
+    requires { ⌜ state .line < 4294967296 ⌝ }
+    ensures { λ r. ⌜ r ≡ moved state place ⌝ }
 {
-    let mut n = s;
+    let mut n = state;
     n.place = place;
-    n.line = s.line + 1;
+    n.line = state.line + 1;
     n
 }
 
 // A fault of form in this line.
-fn form_fault(s: State) -> State
-    requires { ⌜ s .line < 4294967296 ⌝ }
-    ensures { λ r. ⌜ r ≡ misformed s ⌝ }
+fn form_fault(state: State) -> State
+    requires { ⌜ state .line < 4294967296 ⌝ }
+    ensures { λ r. ⌜ r ≡ misformed state ⌝ }
 {
-    let mut n = s;
-    n.form = s.line;
-    n.line = s.line + 1;
+    let mut n = state;
+    n.form = state.line;
+    n.line = state.line + 1;
     n
 }
 
 // Under new labels.
-fn under_labels(s: State, h: Shape) -> State
-    requires { ⌜ s .line < 4294967296 ⌝ }
-    ensures { λ r. ⌜ r ≡ labelled s h ⌝ }
+fn under_labels(state: State, shape: Shape) -> State
+    requires { ⌜ state .line < 4294967296 ⌝ }
+    ensures { λ r. ⌜ r ≡ labelled state shape ⌝ }
 {
-    let mut n = s;
+    let mut n = state;
     n.place = 2;
-    n.line = s.line + 1;
-    n.shape = h;
+    n.line = state.line + 1;
+    n.shape = shape;
     n
 }
 
 // A field outside its type, in a column of this line.
-fn wrong_field(s: State, column: usize) -> State
-    requires { ⌜ s .line < 4294967296 ⌝ }
-    ensures { λ r. ⌜ r ≡ mistyped s column ⌝ }
+fn wrong_field(state: State, column: usize) -> State
+    requires { ⌜ state .line < 4294967296 ⌝ }
+    ensures { λ r. ⌜ r ≡ mistyped state column ⌝ }
 {
-    let mut n = s;
-    n.wrong = s.line;
+    let mut n = state;
+    n.wrong = state.line;
     n.column = column;
-    n.line = s.line + 1;
+    n.line = state.line + 1;
     n
 }
 
 // An owner for which the sender is not registered.
-fn wrong_owner(s: State) -> State
-    requires { ⌜ s .line < 4294967296 ⌝ }
-    ensures { λ r. ⌜ r ≡ disowned s ⌝ }
+fn wrong_owner(state: State) -> State
+    requires { ⌜ state .line < 4294967296 ⌝ }
+    ensures { λ r. ⌜ r ≡ disowned state ⌝ }
 {
-    let mut n = s;
-    n.owner = s.line;
-    n.line = s.line + 1;
+    let mut n = state;
+    n.owner = state.line;
+    n.line = state.line + 1;
     n
 }
 
 // One row more.
-fn one_more(s: State) -> State
-    requires { ⌜ (s .line < 4294967296) × (s .rows < 4294967296) ⌝ }
-    ensures { λ r. ⌜ r ≡ counted s ⌝ }
+fn one_more(state: State) -> State
+    requires { ⌜ (state .line < 4294967296) × (state .rows < 4294967296) ⌝ }
+    ensures { λ r. ⌜ r ≡ oneRowMore state ⌝ }
 {
-    let mut n = s;
-    n.rows = s.rows + 1;
-    n.line = s.line + 1;
+    let mut n = state;
+    n.rows = state.rows + 1;
+    n.line = state.line + 1;
     n
 }
 
-fn label_step(s: State, h: Shape) -> State
-    requires { ⌜ s .line < 4294967296 ⌝ }
-    ensures { λ r. ⌜ r ≡ labelStep s h ⌝ }
+fn label_step(state: State, shape: Shape) -> State
+    requires { ⌜ state .line < 4294967296 ⌝ }
+    ensures { λ r. ⌜ r ≡ labelStep state shape ⌝ }
 {
-    if h.fault {
-        return form_fault(s);
+    if shape.fault {
+        return form_fault(state);
     }
-    under_labels(s, h)
-}
-
-// Whether the sender may send this row. Only messages have a sender.
-fn may_send(t: Table, register: &[u8], sender: u8, row: &[u8]) -> bool
-    requires { ⌜ 10 ≤ length (now row) ⌝ }
-    ensures { λ r. ⌜ r ≡ maySend t (now (register .entry)) sender (now (row .entry)) ⌝ }
-{
-    match t {
-        Table::Message => register::registered(register, sender, row, 0),
-        Table::Planning => true,
-        Table::Calendar => true,
-    }
+    under_labels(state, shape)
 }
 
 // The row goes behind the n rows so far, if it fits.
-fn stage(t: Table, n: usize, row: &[u8], staging: &mut [u8])
+fn stage(table: Table, n: usize, row: &[u8], staging: &mut [u8])
     requires { ⌜ (n < 4294967296) × (length (now row) ≡ 80) ⌝ }
-    ensures { λ _. ⌜ now (staging .exit) ≡ staged t n (now (row .entry)) (now (staging .entry)) ⌝ }
+    ensures { λ _. ⌜ now (staging .exit) ≡ staged table n (now (row .entry)) (now (staging .entry)) ⌝ }
 {
-    let w = columns::row_width(t);
+    let w = columns::row_width(table);
     let a = n * w;
     if a + w <= staging.len() {
         lists::copy_to(staging, a, &row[..w]);
@@ -128,64 +116,71 @@ fn stage(t: Table, n: usize, row: &[u8], staging: &mut [u8])
 }
 
 // A row that was read: its fault, its owner, its place in the staging area.
-fn row_step(t: Table, s: State, r: Read, register: &[u8], sender: u8, staging: &mut [u8]) -> State
-    requires { ⌜ (s .line < 4294967296) × (s .rows < 4294967296) ⌝ }
-    ensures state { λ n. ⌜ n ≡ rowStep t (now (register .entry)) sender s r ⌝ }
-    ensures area { λ _. ⌜ now (staging .exit) ≡ rowStaged t (now (register .entry)) sender s r (now (staging .entry)) ⌝ }
+fn row_step(
+    table: Table,
+    state: State,
+    read: Read,
+    register: &[u8],
+    sender: u8,
+    staging: &mut [u8],
+) -> State
+    requires { ⌜ (state .line < 4294967296) × (state .rows < 4294967296) ⌝ }
+    ensures state { λ n. ⌜ n ≡ rowStep table (now (register .entry)) sender state read ⌝ }
+    ensures area { λ _. ⌜ now (staging .exit) ≡ rowStaged table (now (register .entry)) sender state read (now (staging .entry)) ⌝ }
 {
-    let wrong = r.wrong;
+    let wrong = read.wrong;
     if wrong != 0 {
-        return wrong_field(s, wrong);
+        return wrong_field(state, wrong);
     }
-    if s.owner != 0 {
-        return moved_to(s, s.place);
+    if state.owner != 0 {
+        return moved_to(state, state.place);
     }
-    let row = r.row;
-    if may_send(t, register, sender, &row) {
-        stage(t, s.rows, &row, staging);
-        return one_more(s);
+    let row = read.row;
+    if register::may_send(table, register, sender, &row) {
+        stage(table, state.rows, &row, staging);
+        return one_more(state);
     }
-    wrong_owner(s)
+    wrong_owner(state)
 }
 
 // A data line: its count of fields first, and no more once a field was wrong.
 fn data_step(
-    t: Table,
-    s: State,
+    table: Table,
+    state: State,
     line: &[u8],
     register: &[u8],
     sender: u8,
     staging: &mut [u8],
 ) -> State
-    requires { ⌜ (s .line < 4294967296) × (s .rows < 4294967296) × IsShape t (s .shape) ⌝ }
-    ensures state { λ n. ⌜ n ≡ dataStep t (now (register .entry)) sender s (now (line .entry)) ⌝ }
-    ensures area { λ _. ⌜ now (staging .exit) ≡ dataStaged t (now (register .entry)) sender s (now (line .entry)) (now (staging .entry)) ⌝ }
+    requires { ⌜ (state .line < 4294967296) × (state .rows < 4294967296) × IsShape table (state .shape) ⌝ }
+    ensures state { λ n. ⌜ n ≡ dataStep table (now (register .entry)) sender state (now (line .entry)) ⌝ }
+    ensures area { λ _. ⌜ now (staging .exit) ≡ dataStaged table (now (register .entry)) sender state (now (line .entry)) (now (staging .entry)) ⌝ }
 {
-    let h = s.shape;
-    if turbo::count_fields(line) != h.count {
-        return form_fault(s);
+    let shape = state.shape;
+    if turbo::count_fields(line) != shape.count {
+        return form_fault(state);
     }
-    if s.wrong != 0 {
-        return moved_to(s, s.place);
+    if state.wrong != 0 {
+        return moved_to(state, state.place);
     }
-    let r = rows::read_row(t, h, line);
-    row_step(t, s, r, register, sender, staging)
+    let read = rows::read_row(table, shape, line);
+    row_step(table, state, read, register, sender, staging)
 }
 
 // The place after a `\T` line: whether its name is the table's.
-fn named_place(t: Table, name: &[u8]) -> u8
-    ensures { λ r. ⌜ r ≡ placeNamed t (now (name .entry)) ⌝ }
+fn named_place(table: Table, name: &[u8]) -> u8
+    ensures { λ r. ⌜ r ≡ placeNamed table (now (name .entry)) ⌝ }
 {
-    if is_named(t, name) {
+    if is_named(table, name) {
         return 1;
     }
     0
 }
 
-fn is_named(t: Table, name: &[u8]) -> bool
-    ensures { λ r. ⌜ r ≡ same (now (name .entry)) (tableName t) ⌝ }
+fn is_named(table: Table, name: &[u8]) -> bool
+    ensures { λ r. ⌜ r ≡ same (now (name .entry)) (tableName table) ⌝ }
 {
-    match t {
+    match table {
         Table::Message => lists::same_bytes(name, b"DATEDPASSTIME"),
         Table::Planning => lists::same_bytes(name, b"LOCALSERVICEGROUPPASSTIME"),
         Table::Calendar => lists::same_bytes(name, b"LOCALSERVICEGROUPVALIDITY"),
@@ -194,36 +189,36 @@ fn is_named(t: Table, name: &[u8]) -> bool
 
 // One line: what it changes in the state and in the staging area. It needs nothing of the lines before but the state.
 pub fn line_step(
-    t: Table,
-    s: State,
+    table: Table,
+    state: State,
     line: &[u8],
     register: &[u8],
     sender: u8,
     staging: &mut [u8],
 ) -> State
-    requires { ⌜ (s .line < 4294967296) × (s .rows < 4294967296) × (s .place ≡ 2 → IsShape t (s .shape)) ⌝ }
-    ensures state { λ n. ⌜ n ≡ stepBy t (now (register .entry)) sender s (now (line .entry)) ⌝ }
-    ensures area { λ _. ⌜ now (staging .exit) ≡ stageBy t (now (register .entry)) sender s (now (line .entry)) (now (staging .entry)) ⌝ }
+    requires { ⌜ (state .line < 4294967296) × (state .rows < 4294967296) × (state .place ≡ 2 → IsShape table (state .shape)) ⌝ }
+    ensures state { λ n. ⌜ n ≡ stepBy table (now (register .entry)) sender state (now (line .entry)) ⌝ }
+    ensures area { λ _. ⌜ now (staging .exit) ≡ stageBy table (now (register .entry)) sender state (now (line .entry)) (now (staging .entry)) ⌝ }
 {
-    let place = s.place;
+    let place = state.place;
     match turbo_lines::mark_of(line) {
-        Mark::Group => moved_to(s, 0),
+        Mark::Group => moved_to(state, 0),
         Mark::Table => {
             let name = turbo::first_field(turbo_lines::after_mark(line));
-            moved_to(s, named_place(t, name))
+            moved_to(state, named_place(table, name))
         }
         Mark::Labels => {
             if place == 1 {
-                let h = rows::read_labels(t, turbo_lines::after_mark(line));
-                return label_step(s, h);
+                let shape = rows::read_labels(table, turbo_lines::after_mark(line));
+                return label_step(state, shape);
             }
-            moved_to(s, 0)
+            moved_to(state, 0)
         }
         Mark::Data => {
             if place == 2 {
-                return data_step(t, s, line, register, sender, staging);
+                return data_step(table, state, line, register, sender, staging);
             }
-            moved_to(s, place)
+            moved_to(state, place)
         }
     }
 }

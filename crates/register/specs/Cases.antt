@@ -6,7 +6,7 @@ use Prim.Native.Nat.{ℕ}
 use Rattle.lists.specs.Text.{bytes, same}
 use Rattle.lists.specs.Rows.{rowsOf}
 use Rattle.texts.specs.Texts.{padded}
-use Rattle.register.specs.Register.{among, grants, registerSound}
+use Rattle.register.specs.Register.{hasPair, grants, registerSound}
 
 -- a register of sender 3 for CXX and the desk for CXX, and a byte that is no pair
 register : List ℕ
@@ -19,5 +19,5 @@ register-case :
     × (grants register 0 (padded (bytes "CXX")) ≡ false)
     × (registerSound register ≡ false)
     × (registerSound [] ≡ true)
-unfolding register grants among rowsOf same registerSound
+unfolding register grants hasPair rowsOf same registerSound
 register-case = (refl, refl, refl, refl, refl, refl)

@@ -3,11 +3,11 @@ use mathlib.Core.Path.{_≡_}
 use mathlib.Core.Bool.{true, false}
 use mathlib.Core.List.{List, [], _∷_, _++_}
 use mathlib.Core.Logic.{_↔_}
-use Prim.Native.Nat.{ℕ, _*_, _/_, _<_}
+use Prim.Native.Nat.{ℕ, _*_, _/_, _≤_, _<_}
 use lib.ListN.{length}
 use Rattle.lists.specs.Part.{part}
 use Rattle.passage.specs.Layout.{text-wide}
-use Rattle.register.specs.Register.{pair-wide, grants}
+use Rattle.register.specs.Register.{pair-wide, grants, registerSound}
 
 -- Sender 0, the desk, is registered for no owner, whatever the register.
 abbrev pub DeskNeverGranted : Type 0
@@ -31,6 +31,10 @@ DeskPairIgnored =
     (front rest : List ℕ) (k : ℕ) → length front ≡ k * pair-wide → (owner : List ℕ) → length owner ≡ text-wide
     → (sender : ℕ) (o : List ℕ) → grants (front ++ (0 ∷ owner ++ rest)) sender o ≡ grants (front ++ rest) sender o
 
+-- A register is sound exactly where its length is a multiple of 11 and at most 704, whatever its bytes.
+abbrev pub SoundExactly : Type 0
+SoundExactly = (register : List ℕ) → (registerSound register ≡ true) ↔ ((k : ℕ) × (length register ≡ k * 11) × (length register ≤ 704))
+
 -- All of them.
 abbrev pub All : Type 0
 All =
@@ -38,3 +42,4 @@ All =
     × EmptyGrantsNothing
     × GrantsExactly
     × DeskPairIgnored
+    × SoundExactly

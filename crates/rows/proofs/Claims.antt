@@ -1,13 +1,15 @@
 -- The claims of `specs/Claims.antt`. Assumes nothing.
 use mathlib.Core.Path.{_∙_}
 use Rattle.rows.specs.Claims.{All}
-use Rattle.rows.proofs.RowLaws.{shape-reads, read-length, row-length, row-part}
+use Rattle.rows.proofs.LabelLaws.{faultless, once, there}
+use Rattle.rows.proofs.RowLaws.{shape-reads, row-length, row-part}
 use Rattle.rows.proofs.UnderLaws.{cell-stands, cell-absent, right-none, none-right, first-outside, outside-first, row-alike, right-alike, right-alike-back, fault-alike}
 
 pub claims : All
 claims = (
+  λ t labels. (λ e. (once t labels e, there t labels e), λ p. faultless t labels (p .0) (p .1)),
   shape-reads,
-  (read-length, row-length),
+  row-length,
   λ t labels line e w j h. (
     λ p s. row-part t labels line w j h ∙ cell-stands t labels e line j h p s,
     λ f. row-part t labels line w j h ∙ cell-absent t labels e line j h f,

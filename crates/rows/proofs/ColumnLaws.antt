@@ -10,12 +10,11 @@ use lib.Dec.{eqb, ltb}
 use lib.ListN.{length, getD, set}
 use Rattle.lists.specs.Logic.{on}
 use Rattle.lists.specs.Rows.{flat}
-use Rattle.lists.specs.Part.{onto, over}
-use Rattle.columns.specs.Cell.{some}
+use Rattle.lists.specs.Part.{onto, over, some}
 use Rattle.columns.specs.Tables.{Column, lesser}
 use Rattle.columns.specs.Layout.{total}
 use Rattle.columns.proofs.PartLaws.{begins, Fit}
-use Rattle.rows.specs.Reading.{perColumn, firstWrong}
+use Rattle.rows.specs.inner.Reading.{perColumn, firstWrong}
 
 module _ (f : Column → ℕ → List ℕ) where
   pub per-length : (cs : List Column) (ps : List ℕ) → length cs ≤ length ps → length (perColumn f cs ps) ≡ length cs

@@ -9,22 +9,24 @@ use borrow.Author.Tests.{lt-ltb, le-ltb, eqb-true, eqb-false}
 use lib.Dec.{ltb, eqb}
 use lib.ListN.{length, getD, set, replicate, length-set, length-replicate}
 use lib.Seq.{ext-getD, getD-set-same, getD-set-other, set-getD}
-use Rattle.lists.specs.Logic.{on, both}
+use Rattle.lists.specs.Logic.{on}
 use Rattle.lists.specs.Text.{same}
-use Rattle.lists.specs.Part.{over}
+use Rattle.lists.specs.Part.{over, some}
 use Rattle.lists.specs.Rows.{flat}
-use Rattle.lists.proofs.LogicLaws.{both-true}
+use Rattle.lists.proofs.LogicLaws.{and-pass}
 use Rattle.turbo.specs.Split.{fieldAt}
-use Rattle.turbo_labels.specs.Columns.{most}
+use Rattle.turbo_labels.specs.Columns.{fieldUnder, most}
 use Rattle.columns.specs.declared.Table.{Table}
-use Rattle.columns.specs.Cell.{null, text, width, cell, some}
-use Rattle.columns.specs.Tables.{Column, must, columnsIn, isOptional, cellAt, rowWidth}
-use Rattle.columns.specs.Layout.{wanted, columnAt, kindAt, optionalAt, widthIn, widths, offset, room, blankCell, blankRow}
+use Rattle.columns.specs.declared.Kind.the-variants as Kinds
+use Rattle.columns.specs.Cell.{null, width, cell}
+use Rattle.columns.specs.Tables.{Column, must, columnsIn, isOptional, leftOut, cellOf, rowWidth}
+use Rattle.columns.specs.Layout.{wanted, columnAt, kindAt, optionalAt, widthIn, widths, offset}
+use Rattle.columns.specs.inner.Blank.{widest-row, blankCell, blankRow}
 use Rattle.columns.proofs.CellLaws.{cell-width}
 use Rattle.columns.proofs.PartLaws.{Fit}
 use Rattle.columns.proofs.LayoutLaws.{absent-width, width-at, length-widths, wanted-most}
 use Rattle.rows.specs.declared.Shape.{Shape}
-use Rattle.rows.specs.Reading.{perColumn, cellsBy, empty, cellOf, filled}
+use Rattle.rows.specs.inner.Reading.{cellAt, perColumn, cellsBy, filled}
 use Rattle.rows.proofs.ColumnLaws.{per-length, per-at, flat-set, fit-each}
 use Rattle.rows.proofs.SoundLaws.{Sound}
 
@@ -54,7 +56,7 @@ heldIn t h line at = perColumn (heldAt at (h .count) (h .stop) line) (columnsIn 
 
 -- a row with these cells
 abbrev pub rowWith : Table → List (List ℕ) → List ℕ
-rowWith t xs = flat xs ++ replicate (room - rowWidth t) 0
+rowWith t xs = flat xs ++ replicate (widest-row - rowWidth t) 0
 
 -- nothing is passed yet
 held-start : (n s : ℕ) (line : List ℕ) (cs : List Column) (ps : List ℕ) → length cs ≤ length ps → perColumn (heldAt 0 n s line) cs ps ≡ map blankCell cs
@@ -76,16 +78,16 @@ blank-wide t k h = go (isOptional (columnAt t k)) (absent-width t k h)
 -- a cell that is right is as wide as its column; of n columns, it stands at p
 pub cell-wide : (t : Table) (n s : ℕ) (line : List ℕ) (k p : ℕ) → k < wanted t → some (cellAt n s line (columnAt t k) p) ≡ true → length (cellAt n s line (columnAt t k) p) ≡ width (kindAt t k)
 unfolding kindAt optionalAt
-cell-wide t n s line k p h e = go (ltb p n) (empty (columnAt t k) (fieldAt p line)) e
+cell-wide t n s line k p h e = go (ltb p n) (leftOut (columnAt t k) (fieldAt p line)) e
   where
     absent : some (columnAt t k .absent) ≡ true → length (columnAt t k .absent) ≡ width (columnAt t k .kind)
     absent q = absent-width t k h q
 
     go : (a b : Bool)
-        → some (on a (on b (columnAt t k .absent) (cell (columnAt t k .kind) (fieldAt s line) (fieldAt p line))) (columnAt t k .absent)) ≡ true
-        → length (on a (on b (columnAt t k .absent) (cell (columnAt t k .kind) (fieldAt s line) (fieldAt p line))) (columnAt t k .absent)) ≡ width (columnAt t k .kind)
+        → some (on a (on b (columnAt t k .absent) (cell (columnAt t k .kind) (fieldUnder s n line) (fieldAt p line))) (columnAt t k .absent)) ≡ true
+        → length (on a (on b (columnAt t k .absent) (cell (columnAt t k .kind) (fieldUnder s n line) (fieldAt p line))) (columnAt t k .absent)) ≡ width (columnAt t k .kind)
     go true true q = absent q
-    go true false q = cell-width (columnAt t k .kind) (fieldAt s line) (fieldAt p line) q
+    go true false q = cell-width (columnAt t k .kind) (fieldUnder s n line) (fieldAt p line) q
     go false b q = absent q
 
 -- ---- a shape's columns
@@ -114,7 +116,7 @@ module _ (t : Table) (h : Shape) (line : List ℕ) (g : Sound t h) where
 
   pub cells-at : (k : ℕ) → k < wanted t → getD (cellsIn t h line) k [] ≡ cellIn t h line k
   unfolding columnAt
-  cells-at k m = per-at (cellAt (h .count) (h .stop) line) (columnsIn t) (h .places) (must "" text) k roomy m
+  cells-at k m = per-at (cellAt (h .count) (h .stop) line) (columnsIn t) (h .places) (must "" Kinds.Text) k roomy m
 
   module _ (at : ℕ) where
     held-length : length (heldIn t h line at) ≡ wanted t
@@ -122,7 +124,7 @@ module _ (t : Table) (h : Shape) (line : List ℕ) (g : Sound t h) where
 
     held-at : (k : ℕ) → k < wanted t → getD (heldIn t h line at) k [] ≡ heldAt at (h .count) (h .stop) line (columnAt t k) (placeOf h k)
     unfolding columnAt
-    held-at k m = per-at (heldAt at (h .count) (h .stop) line) (columnsIn t) (h .places) (must "" text) k roomy m
+    held-at k m = per-at (heldAt at (h .count) (h .stop) line) (columnsIn t) (h .places) (must "" Kinds.Text) k roomy m
 
     held-passed : (k : ℕ) → k < wanted t → placeOf h k < at → getD (heldIn t h line at) k [] ≡ cellIn t h line k
     held-passed k m l = held-at k m ∙ rw (lt-ltb (placeOf h k) at l)
@@ -170,7 +172,7 @@ module _ (t : Table) (h : Shape) (line : List ℕ) (g : Sound t h) where
         go (yes x) (no y) = absurd (d (sym (g .apart j k m n (let z = least k n l x in omega (arith, y)) b)))
         go (no x) (no y) = omega (arith, x)
 
-    pub cell-of : cellIn t h line j ≡ cellOf (columnAt t j) (fieldAt (h .stop) line) (fieldAt (placeOf h j) line)
+    pub cell-of : cellIn t h line j ≡ cellOf (columnAt t j) (fieldUnder (h .stop) (h .count) line) (fieldAt (placeOf h j) line)
     cell-of = rw (lt-ltb (placeOf h j) (h .count) b)
 
     held-turn : heldIn t h line (placeOf h j + 1) ≡ set (heldIn t h line at) j (cellIn t h line j)
@@ -198,12 +200,12 @@ module _ (t : Table) (h : Shape) (line : List ℕ) (g : Sound t h) where
 
     -- the row with the field's cell
     module _ (f : (k : ℕ) → k < wanted t → placeOf h k < at → some (cellIn t h line k) ≡ true) (r : some (cellIn t h line j) ≡ true) where
-      row-written : cellIn t h line j ≡ cell (columnAt t j .kind) (fieldAt (h .stop) line) (fieldAt (placeOf h j) line) → over (offset t j) (cell (columnAt t j .kind) (fieldAt (h .stop) line) (fieldAt (placeOf h j) line)) (rowWith t (heldIn t h line at)) ≡ rowWith t (heldIn t h line (placeOf h j + 1))
+      row-written : cellIn t h line j ≡ cell (columnAt t j .kind) (fieldUnder (h .stop) (h .count) line) (fieldAt (placeOf h j) line) → over (offset t j) (cell (columnAt t j .kind) (fieldUnder (h .stop) (h .count) line) (fieldAt (placeOf h j) line)) (rowWith t (heldIn t h line at)) ≡ rowWith t (heldIn t h line (placeOf h j + 1))
       unfolding offset
       row-written e =
           let w = length-widths t in
           rw (← e, held-turn)
-          (flat-set (widths t) (heldIn t h line at) (replicate (room - rowWidth t) 0) j (cellIn t h line j) (held-fit at f) (omega arith)
+          (flat-set (widths t) (heldIn t h line at) (replicate (widest-row - rowWidth t) 0) j (cellIn t h line j) (held-fit at f) (omega arith)
           (cell-wide t (h .count) (h .stop) line j (placeOf h j) m r ∙ sym (width-at t j m)))
 
       row-kept : isOptional (columnAt t j) ≡ true → cellIn t h line j ≡ columnAt t j .absent → rowWith t (heldIn t h line at) ≡ rowWith t (heldIn t h line (placeOf h j + 1))
@@ -211,10 +213,10 @@ module _ (t : Table) (h : Shape) (line : List ℕ) (g : Sound t h) where
           let q : cellIn t h line j ≡ getD (heldIn t h line at) j [] = e ∙ sym (held-ahead at j m a ∙ blank-absent (columnAt t j) o) in
           ap (rowWith t) (sym (held-turn ∙ ap (set (heldIn t h line at) j) q ∙ set-getD (heldIn t h line at) j []))
 
-      pub row-turn : filled t j (fieldAt (h .stop) line) (fieldAt (placeOf h j) line) (rowWith t (heldIn t h line at)) ≡ rowWith t (heldIn t h line (placeOf h j + 1))
-      row-turn = go (empty (columnAt t j) (fieldAt (placeOf h j) line)) refl
+      pub row-turn : filled t j (fieldUnder (h .stop) (h .count) line) (fieldAt (placeOf h j) line) (rowWith t (heldIn t h line at)) ≡ rowWith t (heldIn t h line (placeOf h j + 1))
+      row-turn = go (leftOut (columnAt t j) (fieldAt (placeOf h j) line)) refl
         where
-          go : (x : Bool) → empty (columnAt t j) (fieldAt (placeOf h j) line) ≡ x →
-              on x (rowWith t (heldIn t h line at)) (over (offset t j) (cell (columnAt t j .kind) (fieldAt (h .stop) line) (fieldAt (placeOf h j) line)) (rowWith t (heldIn t h line at))) ≡ rowWith t (heldIn t h line (placeOf h j + 1))
-          go true x = row-kept (both-true (isOptional (columnAt t j)) _ x .0) (cell-of ∙ rw x)
+          go : (x : Bool) → leftOut (columnAt t j) (fieldAt (placeOf h j) line) ≡ x →
+              on x (rowWith t (heldIn t h line at)) (over (offset t j) (cell (columnAt t j .kind) (fieldUnder (h .stop) (h .count) line) (fieldAt (placeOf h j) line)) (rowWith t (heldIn t h line at))) ≡ rowWith t (heldIn t h line (placeOf h j + 1))
+          go true x = row-kept (and-pass (isOptional (columnAt t j)) _ x .0) (cell-of ∙ rw x)
           go false x = row-written (cell-of ∙ rw x)

@@ -9,24 +9,23 @@ use borrow.Author.Tests.{lt-ltb}
 use lib.Dec.{ltb}
 use lib.ListN.{length, getD}
 use Rattle.lists.specs.Logic.{on}
-use Rattle.turbo_labels.specs.Columns.{place, anyTwice}
+use Rattle.turbo_labels.specs.Columns.{columnOf, anyTwice}
 use Rattle.turbo_labels.specs.Claims.{Twice}
 use Rattle.turbo_labels.proofs.PlaceLaws.{place-there, place-before, second-find, place-once}
 use Rattle.columns.specs.declared.Table.{Table}
-use Rattle.columns.specs.Cell.{text}
-use Rattle.columns.specs.Tables.{Column, must, columnsIn, names, nameOf, isOptional, missesIn, misses}
+use Rattle.columns.specs.declared.Kind.the-variants as Kinds
+use Rattle.columns.specs.Tables.{Column, must, columnsIn, names, nameOf, isOptional, missesIn, misses, labelFault}
 use Rattle.columns.specs.Layout.{wanted, columnAt, optionalAt}
 use Rattle.columns.proofs.LayoutLaws.{names-wanted}
-use Rattle.rows.specs.Shape.{labelFault}
-use Rattle.rows.specs.ShapesClaims.{Stands}
+use Rattle.rows.specs.Claims.{Stands}
 use Rattle.rows.proofs.ShapeLaws.{found-twice}
 use Rattle.rows.proofs.SoundLaws.{name-at, fault-parts, place-at, places-there}
 
-misses-none : (cs : List Column) (labels : List (List ℕ)) (d : Column) → ((k : ℕ) → k < length cs → isOptional (getD cs k d) ≡ false → place (nameOf (getD cs k d)) labels < length labels) → missesIn cs labels ≡ false
+misses-none : (cs : List Column) (labels : List (List ℕ)) (d : Column) → ((k : ℕ) → k < length cs → isOptional (getD cs k d) ≡ false → columnOf (nameOf (getD cs k d)) labels < length labels) → missesIn cs labels ≡ false
 misses-none [] labels d f = refl
 misses-none (c ∷ cs) labels d f = go (isOptional c) (f 0 (omega arith)) (misses-none cs labels d (λ k m. f (suc k) (omega arith)))
   where
-    go : (b : Bool) → (b ≡ false → place (nameOf c) labels < length labels) → missesIn cs labels ≡ false → on b (missesIn cs labels) (on (ltb (place (nameOf c) labels) (length labels)) (missesIn cs labels) true) ≡ false
+    go : (b : Bool) → (b ≡ false → columnOf (nameOf c) labels < length labels) → missesIn cs labels ≡ false → on b (missesIn cs labels) (on (ltb (columnOf (nameOf c) labels) (length labels)) (missesIn cs labels) true) ≡ false
     go true g e = e
     go false g e = rw (lt-ltb _ _ (g refl)) e
 
@@ -39,13 +38,13 @@ abbrev pub There : Table → List (List ℕ) → Type 0
 There t labels = (j : ℕ) → j < wanted t → optionalAt t j ≡ false → (p : ℕ) × Stands t labels j p
 
 module _ (t : Table) (labels : List (List ℕ)) where
-  pub stands-place : (j : ℕ) → place (nameOf (columnAt t j)) labels < length labels → Stands t labels j (place (nameOf (columnAt t j)) labels)
+  pub stands-place : (j : ℕ) → columnOf (nameOf (columnAt t j)) labels < length labels → Stands t labels j (columnOf (nameOf (columnAt t j)) labels)
   stands-place j h = (h, place-there (nameOf (columnAt t j)) labels h)
 
-  place-stands : (j p : ℕ) → Stands t labels j p → place (nameOf (columnAt t j)) labels ≤ p
-  place-stands j p (h, q) = go (decLt p (place (nameOf (columnAt t j)) labels))
+  place-stands : (j p : ℕ) → Stands t labels j p → columnOf (nameOf (columnAt t j)) labels ≤ p
+  place-stands j p (h, q) = go (decLt p (columnOf (nameOf (columnAt t j)) labels))
     where
-      go : Dec (p < place (nameOf (columnAt t j)) labels) → place (nameOf (columnAt t j)) labels ≤ p
+      go : Dec (p < columnOf (nameOf (columnAt t j)) labels) → columnOf (nameOf (columnAt t j)) labels ≤ p
       go (yes l) = absurd (place-before (nameOf (columnAt t j)) labels p l q)
       go (no l) = omega (arith, l)
 
@@ -62,7 +61,7 @@ module _ (t : Table) (labels : List (List ℕ)) where
   there-names : There t labels → misses t labels ≡ false
   unfolding misses optionalAt columnAt
   there-names f =
-      misses-none (columnsIn t) labels (must "" text)
+      misses-none (columnsIn t) labels (must "" Kinds.Text)
       (λ k h o. let s = f k h o in let l = place-stands k (s .0) (s .1) in let m = s .1 .0 in omega arith)
 
   pub faultless : Once t labels → There t labels → labelFault t labels ≡ false
@@ -79,11 +78,11 @@ module _ (t : Table) (labels : List (List ℕ)) where
         let z : _≡_ {A = ℕ} 0 1 = cc in
         omega arith
 
-    pub must-stand : (j : ℕ) → j < wanted t → optionalAt t j ≡ false → place (nameOf (columnAt t j)) labels < length labels
-    must-stand j h o = let a = places-there t labels e j h o in let b = place-at t labels e j h in let c = ap (λ (n : List ℕ). place n labels) (name-at t j h) in omega arith
+    pub must-stand : (j : ℕ) → j < wanted t → optionalAt t j ≡ false → columnOf (nameOf (columnAt t j)) labels < length labels
+    must-stand j h o = let a = places-there t labels e j h o in let b = place-at t labels e j h in let c = ap (λ (n : List ℕ). columnOf n labels) (name-at t j h) in omega arith
 
     pub there : There t labels
-    there j h o = (place (nameOf (columnAt t j)) labels, stands-place j (must-stand j h o))
+    there j h o = (columnOf (nameOf (columnAt t j)) labels, stands-place j (must-stand j h o))
 
-    pub place-is : (j : ℕ) → j < wanted t → (p : ℕ) → Stands t labels j p → place (nameOf (columnAt t j)) labels ≡ p
+    pub place-is : (j : ℕ) → j < wanted t → (p : ℕ) → Stands t labels j p → columnOf (nameOf (columnAt t j)) labels ≡ p
     place-is j h p (l, q) = place-once (nameOf (columnAt t j)) labels p l q (once j h)

@@ -1,3 +1,9 @@
+pub mod NextLaws
+pub mod AheadLaws
+pub mod OrderLaws
+pub mod ShapeLaws
+pub mod SoundLaws
+pub mod LabelLaws
 pub mod TailLaws
 pub mod ColumnLaws
 pub mod FillLaws
@@ -8,11 +14,3 @@ pub mod RowLaws
 pub mod UnderLaws
 pub mod Claims
 pub mod Determined
-pub mod NextLaws
-pub mod OrderLaws
-pub mod AheadLaws
-pub mod ShapeLaws
-pub mod SoundLaws
-pub mod LabelLaws
-pub mod ShapesClaims
-pub mod ShapesDetermined

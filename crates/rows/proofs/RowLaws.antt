@@ -8,20 +8,22 @@ use native.Mathlib.Omega.{arith}
 use lib.Dec.{eqb}
 use lib.ListN.{length, getD, replicate, length-map, length-replicate}
 use Rattle.lists.specs.Logic.{on}
-use Rattle.lists.specs.Part.{part, over}
+use Rattle.lists.specs.Part.{part, over, some}
 use Rattle.lists.specs.Rows.{flat}
 use Rattle.lists.proofs.OverLaws.{length-over}
-use Rattle.turbo_labels.specs.Columns.{place}
+use Rattle.turbo_labels.specs.Columns.{columnOf}
 use Rattle.columns.specs.declared.Table.{Table}
-use Rattle.columns.specs.Cell.{text, width, some}
-use Rattle.columns.specs.Tables.{Column, must, columnsIn, nameOf, cellAt, cellsOf, stopPlace, rowOf, rowWidth, wrongIn, wrongColumn, lesser}
-use Rattle.columns.specs.Layout.{wanted, columnAt, kindAt, widths, offset, room}
+use Rattle.columns.specs.declared.Kind.the-variants as Kinds
+use Rattle.columns.specs.Cell.{width}
+use Rattle.columns.specs.Tables.{Column, must, columnsIn, nameOf, cellUnder, cellsOf, stopPlace, rowOf, rowWidth, wrongIn, wrongColumn, lesser, labelFault}
+use Rattle.columns.specs.Layout.{wanted, columnAt, kindAt, widths, offset}
+use Rattle.columns.specs.inner.Blank.{widest-row}
 use Rattle.columns.proofs.PartLaws.{begins, Fit, length-flat, flat-part}
 use Rattle.columns.proofs.LayoutLaws.{wanted-most, width-at, length-widths, total-widths}
 use Rattle.rows.specs.declared.Shape.{Shape}
 use Rattle.rows.specs.declared.Read.{Read}
-use Rattle.rows.specs.Shape.{placesOf, labelFault, shapeOf}
-use Rattle.rows.specs.Reading.{perColumn, cellsBy, firstWrong, readGiven, readCells, readBy, IsShape}
+use Rattle.rows.specs.inner.Shape.{placesOf, shapeOf}
+use Rattle.rows.specs.inner.Reading.{cellAt, perColumn, cellsBy, firstWrong, readGiven, readCells, readBy, IsShape}
 use Rattle.rows.proofs.ColumnLaws.{WrongIs, wrong-is, fit-each}
 use Rattle.rows.proofs.SoundLaws.{name-at, place-at, places-room, shape-fault, shape-is}
 use Rattle.rows.proofs.FillLaws.{cell-wide}
@@ -30,16 +32,16 @@ use Rattle.rows.proofs.FillLaws.{cell-wide}
 
 -- the columns' places, as the labels have them
 abbrev placesIn : List Column → List (List ℕ) → List ℕ
-placesIn cs labels = map (λ (c : Column). place (nameOf c) labels) cs
+placesIn cs labels = map (λ (c : Column). columnOf (nameOf c) labels) cs
 
 module _ (labels : List (List ℕ)) (line : List ℕ) where
   -- each of the columns cs stands at its place in ps
   abbrev Placed : List Column → List ℕ → Type 0
   Placed [] ps = Unit {0}
   Placed (c ∷ cs) [] = ⊥
-  Placed (c ∷ cs) (p ∷ ps) = (p ≡ place (nameOf c) labels) × Placed cs ps
+  Placed (c ∷ cs) (p ∷ ps) = (p ≡ columnOf (nameOf c) labels) × Placed cs ps
 
-  placed-each : (cs : List Column) (ps : List ℕ) (d : Column) → length cs ≤ length ps → ((k : ℕ) → k < length cs → getD ps k 0 ≡ place (nameOf (getD cs k d)) labels) → Placed cs ps
+  placed-each : (cs : List Column) (ps : List ℕ) (d : Column) → length cs ≤ length ps → ((k : ℕ) → k < length cs → getD ps k 0 ≡ columnOf (nameOf (getD cs k d)) labels) → Placed cs ps
   placed-each [] ps d h f = tt
   placed-each (c ∷ cs) [] d h f = absurd (omega arith)
   placed-each (c ∷ cs) (p ∷ ps) d h f = (f 0 (omega arith), placed-each cs ps d (omega arith) (λ k m. f (suc k) (omega arith)))
@@ -66,7 +68,7 @@ unfolding readBy wrongColumn rowOf columnAt
 shape-reads t labels line e =
     let w = wanted-most t in
     let r = places-room t labels in
-    let p = placed-each labels line (columnsIn t) (placesOf t labels) (must "" text) (omega arith) (λ k m. place-at t labels e k m ∙ ap (λ (n : List ℕ). place n labels) (name-at t k m)) in
+    let p = placed-each labels line (columnsIn t) (placesOf t labels) (must "" Kinds.Text) (omega arith) (λ k m. place-at t labels e k m ∙ ap (λ (n : List ℕ). columnOf n labels) (name-at t k m)) in
     ap (λ (h : Shape). readBy t h line) (shape-is t labels e)
     ∙ ap (λ (xs : List (List ℕ)). readCells xs (placesOf t labels)) (cells-by labels line (columnsIn t) (placesOf t labels) p)
     ∙ ap (λ (n : ℕ). readGiven n (flat (cellsOf (columnsIn t) labels line))) (wrong-by labels line (columnsIn t) (placesOf t labels) p)
@@ -83,18 +85,18 @@ shape-sound t labels e = record { labels = labels; shape = refl; faultless = sha
 
 -- the cell of column k
 abbrev pub cellFor : Table → List (List ℕ) → List ℕ → ℕ → List ℕ
-cellFor t labels line k = cellAt (length labels) (stopPlace labels) line (columnAt t k) (place (nameOf (columnAt t k)) labels)
+cellFor t labels line k = cellUnder labels line (columnAt t k)
 
 pub of-length : (cs : List Column) (labels : List (List ℕ)) (line : List ℕ) → length (cellsOf cs labels line) ≡ length cs
 of-length [] labels line = refl
 of-length (c ∷ cs) labels line = ap suc (of-length cs labels line)
 
-of-at : (cs : List Column) (labels : List (List ℕ)) (line : List ℕ) (d : Column) (k : ℕ) → k < length cs → getD (cellsOf cs labels line) k [] ≡ cellAt (length labels) (stopPlace labels) line (getD cs k d) (place (nameOf (getD cs k d)) labels)
+of-at : (cs : List Column) (labels : List (List ℕ)) (line : List ℕ) (d : Column) (k : ℕ) → k < length cs → getD (cellsOf cs labels line) k [] ≡ cellUnder labels line (getD cs k d)
 of-at [] labels line d k h = absurd (omega arith)
 of-at (c ∷ cs) labels line d zero h = refl
 of-at (c ∷ cs) labels line d (suc k) h = of-at cs labels line d k (omega arith)
 
-in-at : (cs : List Column) (labels : List (List ℕ)) (d : Column) (k : ℕ) → k < length cs → getD (placesIn cs labels) k 0 ≡ place (nameOf (getD cs k d)) labels
+in-at : (cs : List Column) (labels : List (List ℕ)) (d : Column) (k : ℕ) → k < length cs → getD (placesIn cs labels) k 0 ≡ columnOf (nameOf (getD cs k d)) labels
 in-at [] labels d k h = absurd (omega arith)
 in-at (c ∷ cs) labels d zero h = refl
 in-at (c ∷ cs) labels d (suc k) h = in-at cs labels d k (omega arith)
@@ -102,11 +104,11 @@ in-at (c ∷ cs) labels d (suc k) h = in-at cs labels d k (omega arith)
 module _ (t : Table) (labels : List (List ℕ)) (line : List ℕ) where
   pub cell-at : (k : ℕ) → k < wanted t → getD (cellsOf (columnsIn t) labels line) k [] ≡ cellFor t labels line k
   unfolding columnAt
-  cell-at k h = of-at (columnsIn t) labels line (must "" text) k h
+  cell-at k h = of-at (columnsIn t) labels line (must "" Kinds.Text) k h
 
-  places-at : (k : ℕ) → k < wanted t → getD (placesIn (columnsIn t) labels) k 0 ≡ place (nameOf (columnAt t k)) labels
+  places-at : (k : ℕ) → k < wanted t → getD (placesIn (columnsIn t) labels) k 0 ≡ columnOf (nameOf (columnAt t k)) labels
   unfolding columnAt
-  places-at k h = in-at (columnsIn t) labels (must "" text) k h
+  places-at k h = in-at (columnsIn t) labels (must "" Kinds.Text) k h
 
   -- what the wrong column says of the cells
   wrong-cells : WrongIs (cellsOf (columnsIn t) labels line) (placesIn (columnsIn t) labels) (wrongColumn t labels line)
@@ -139,15 +141,15 @@ module _ (t : Table) (labels : List (List ℕ)) (line : List ℕ) where
   pub record First (j : ℕ) : Type 0 where
     pub within : j < wanted t
     pub wrong : some (cellFor t labels line j) ≡ false
-    pub least : (k : ℕ) → k < wanted t → some (cellFor t labels line k) ≡ false → place (nameOf (columnAt t j)) labels ≤ place (nameOf (columnAt t k)) labels
+    pub least : (k : ℕ) → k < wanted t → some (cellFor t labels line k) ≡ false → columnOf (nameOf (columnAt t j)) labels ≤ columnOf (nameOf (columnAt t k)) labels
 
   -- where a column is wrong, it is the first
-  pub first-wrong : (p : ℕ) → wrongColumn t labels line ≡ p + 1 → (j : ℕ) × (p ≡ place (nameOf (columnAt t j)) labels) × First j
+  pub first-wrong : (p : ℕ) → wrongColumn t labels line ≡ p + 1 → (j : ℕ) × (p ≡ columnOf (nameOf (columnAt t j)) labels) × First j
   first-wrong p e = ⊎-elim (λ r. absurd (let z = r .0 in omega arith)) (λ r. go (r .0) (r .1) (r .2 .0) (r .2 .1) (r .2 .2)) wrong-cells
     where
       go : (j : ℕ) → wrongColumn t labels line ≡ getD (placesIn (columnsIn t) labels) j 0 + 1 → j < length (cellsOf (columnsIn t) labels line) → some (getD (cellsOf (columnsIn t) labels line) j []) ≡ false
           → ((k : ℕ) → k < length (cellsOf (columnsIn t) labels line) → some (getD (cellsOf (columnsIn t) labels line) k []) ≡ false → getD (placesIn (columnsIn t) labels) j 0 ≤ getD (placesIn (columnsIn t) labels) k 0)
-          → (j : ℕ) × (p ≡ place (nameOf (columnAt t j)) labels) × First j
+          → (j : ℕ) × (p ≡ columnOf (nameOf (columnAt t j)) labels) × First j
       go j w m q f =
           let l = of-length (columnsIn t) labels line in
           let h : j < wanted t = omega arith in
@@ -173,7 +175,7 @@ module _ (t : Table) (labels : List (List ℕ)) (line : List ℕ) where
         one : (k : ℕ) → k < wanted t → length (getD (cellsOf (columnsIn t) labels line) k []) ≡ getD (widths t) k 0
         one k m =
             ap length (cell-at k m)
-            ∙ cell-wide t (length labels) (stopPlace labels) line k (place (nameOf (columnAt t k)) labels) m (all-right e k m)
+            ∙ cell-wide t (length labels) (stopPlace labels) line k (columnOf (nameOf (columnAt t k)) labels) m (all-right e k m)
             ∙ sym (width-at t k m)
 
     pub row-length : length (rowOf t labels line) ≡ rowWidth t
@@ -189,15 +191,3 @@ module _ (t : Table) (labels : List (List ℕ)) (line : List ℕ) where
         ∙ ap (part (begins (widths t) j) (getD (widths t) j 0)) (sym (append-nil (flat (cellsOf (columnsIn t) labels line))))
         ∙ flat-part (widths t) (cellsOf (columnsIn t) labels line) [] row-fit j l
         ∙ cell-at j h
-
-given-length : (w : ℕ) (row : List ℕ) → length (readGiven w row .row) ≡ room
-given-length w row = go (eqb w 0)
-  where
-    go : (b : Bool) → length ((on {A = Read} b (record { wrong = 0; row = over 0 row (replicate room 0) }) (record { wrong = w; row = replicate room 0 })) .row) ≡ room
-    go true = length-over 0 row (replicate room 0) ∙ length-replicate {A = ℕ} room 0
-    go false = length-replicate {A = ℕ} room 0
-
--- the row that is handed out has room for any table's
-pub read-length : (t : Table) (h : Shape) (line : List ℕ) → length (readBy t h line .row) ≡ room
-unfolding readBy
-read-length t h line = given-length (firstWrong (cellsBy (columnsIn t) (h .places) (h .count) (h .stop) line) (h .places)) (flat (cellsBy (columnsIn t) (h .places) (h .count) (h .stop) line))

@@ -5,17 +5,17 @@ use mathlib.Core.List.{List}
 use Prim.Native.Nat.{ℕ, _≤_}
 use native.Mathlib.Omega.{arith}
 use lib.ListN.{length, take, replicate}
-use Rattle.lists.specs.Logic.{on, either}
+use Rattle.lists.specs.Logic.{on}
 use Rattle.lists.specs.Part.{over}
-use Rattle.lists.proofs.LogicLaws.{either-true}
+use Rattle.lists.proofs.LogicLaws.{or-true}
 use Rattle.turbo_labels.specs.declared.Columns.{Columns}
 use Rattle.turbo_labels.specs.Columns.{anyTwice, placesFrom, columnsOf, most}
 use Rattle.columns.specs.declared.Table.{Table}
 use Rattle.columns.specs.declared.Table.the-variants.{Message, Planning, Calendar}
-use Rattle.columns.specs.Tables.{messageColumns, planningColumns, calendarColumns, columnsIn, names, misses, stopPlace}
+use Rattle.columns.specs.Tables.{messageColumns, planningColumns, calendarColumns, columnsIn, names, misses, stopPlace, labelFault}
 use Rattle.columns.specs.Layout.{wanted}
 use Rattle.rows.specs.declared.Shape.{Shape}
-use Rattle.rows.specs.Shape.{placesOf, mustCount, lacking, labelFault, visits, order, noShape, shapeOf}
+use Rattle.rows.specs.inner.Shape.{placesOf, mustCount, lacking, visits, readingOrder, noShape, shapeOf}
 
 pub must-most : (t : Table) → mustCount t ≤ most
 unfolding mustCount
@@ -78,7 +78,7 @@ module _ {t : Table} {labels : List (List ℕ)} {ps : List ℕ} {n k : ℕ} {b :
   -- one that must be there is missing
   pub shape-lacking : b ≡ true → noShape ≡ shapeOf t labels
   unfolding shapeOf labelFault
-  shape-lacking q = rw (missing ∙ q, either-true (anyTwice (names t) labels))
+  shape-lacking q = rw (missing ∙ q, or-true (anyTwice (names t) labels))
 
   -- none is
   pub shape-right :

@@ -1,6 +1,6 @@
 -- What holds of the shape of a label line without a fault, in the shape's own terms. Assumes nothing.
 use mathlib.Core.Path.{_≡_, refl, sym, ap, _∙_}
-use mathlib.Core.Bool.{Bool, true, false}
+use mathlib.Core.Bool.{Bool, true, false, _&&_}
 use mathlib.Core.List.{List, [], _∷_, map}
 use Prim.Native.Nat.{ℕ, zero, suc, _+_, _≤_, _<_}
 use native.Mathlib.Decide.{decLt}
@@ -8,21 +8,21 @@ use native.Mathlib.Omega.{arith}
 use borrow.Author.Tests.{ltb-true, ltb-false}
 use lib.Dec.{ltb}
 use lib.ListN.{length, getD, take, set, replicate, length-set, length-replicate, List·getD-map}
-use Rattle.lists.specs.Logic.{on, both}
+use Rattle.lists.specs.Logic.{on}
 use Rattle.lists.specs.Text.{same}
 use Rattle.lists.specs.Part.{over}
-use Rattle.lists.proofs.LogicLaws.{both-true, either-false}
+use Rattle.lists.proofs.LogicLaws.{and-pass, or-fail}
 use Rattle.lists.proofs.TextLaws.{same-refl}
-use Rattle.turbo_labels.specs.Columns.{place, anyTwice, placesFrom, columnsOf, most}
+use Rattle.turbo_labels.specs.Columns.{columnOf, anyTwice, placesFrom, columnsOf, most}
 use Rattle.turbo_labels.proofs.PlaceLaws.{place-there, each-place}
 use Rattle.columns.specs.declared.Table.{Table}
 use Rattle.columns.specs.declared.Table.the-variants.{Message, Planning, Calendar}
-use Rattle.columns.specs.Cell.{text}
-use Rattle.columns.specs.Tables.{Column, must, messageColumns, planningColumns, calendarColumns, columnsIn, names, nameOf, isOptional, missesIn, misses, stopPlace}
+use Rattle.columns.specs.declared.Kind.the-variants as Kinds
+use Rattle.columns.specs.Tables.{Column, must, messageColumns, planningColumns, calendarColumns, columnsIn, names, nameOf, isOptional, missesIn, misses, stopPlace, labelFault}
 use Rattle.columns.specs.Layout.{wanted, columnAt, optionalAt}
 use Rattle.columns.proofs.LayoutLaws.{wanted-most, names-wanted}
 use Rattle.rows.specs.declared.Shape.{Shape}
-use Rattle.rows.specs.Shape.{placesOf, labelFault, visits, order, noShape, shapeOf}
+use Rattle.rows.specs.inner.Shape.{placesOf, visits, readingOrder, noShape, shapeOf}
 use Rattle.rows.proofs.AheadLaws.{visits-length}
 use Rattle.rows.proofs.ShapeLaws.{found-twice, found-places}
 
@@ -34,7 +34,7 @@ noneOf w (v ∷ vs) = on (same w v) false (noneOf w vs)
 
 abbrev different : List (List ℕ) → Bool
 different [] = true
-different (w ∷ ws) = both (noneOf w ws) (different ws)
+different (w ∷ ws) = noneOf w ws && different ws
 
 none-at : (w : List ℕ) (vs : List (List ℕ)) (k : ℕ) → noneOf w vs ≡ true → k < length vs → w ≡ getD vs k [] → ⊥
 none-at w [] k e h q = omega arith
@@ -52,8 +52,8 @@ none-at w (v ∷ vs) (suc k) e h q = go (same w v) e (λ d. none-at w vs k d (om
 different-at : (ws : List (List ℕ)) (j k : ℕ) → different ws ≡ true → j < k → k < length ws → getD ws j [] ≡ getD ws k [] → ⊥
 different-at [] j k e l h q = omega arith
 different-at (w ∷ ws) j zero e l h q = omega arith
-different-at (w ∷ ws) zero (suc k) e l h q = none-at w ws k (both-true (noneOf w ws) (different ws) e .0) (omega arith) q
-different-at (w ∷ ws) (suc j) (suc k) e l h q = different-at ws j k (both-true (noneOf w ws) (different ws) e .1) (omega arith) (omega arith) q
+different-at (w ∷ ws) zero (suc k) e l h q = none-at w ws k (and-pass (noneOf w ws) (different ws) e .0) (omega arith) q
+different-at (w ∷ ws) (suc j) (suc k) e l h q = different-at ws j k (and-pass (noneOf w ws) (different ws) e .1) (omega arith) (omega arith) q
 
 names-different : (t : Table) → different (names t) ≡ true
 unfolding names columnsIn messageColumns planningColumns calendarColumns same
@@ -80,18 +80,18 @@ name-in (c ∷ cs) (suc k) d h = name-in cs k d (omega arith)
 
 pub name-at : (t : Table) (k : ℕ) → k < wanted t → getD (names t) k [] ≡ nameOf (columnAt t k)
 unfolding names columnAt
-name-at t k h = name-in (columnsIn t) k (must "" text) h
+name-at t k h = name-in (columnsIn t) k (must "" Kinds.Text) h
 
-misses-at : (cs : List Column) (labels : List (List ℕ)) (k : ℕ) (d : Column) → missesIn cs labels ≡ false → k < length cs → isOptional (getD cs k d) ≡ false → place (nameOf (getD cs k d)) labels < length labels
+misses-at : (cs : List Column) (labels : List (List ℕ)) (k : ℕ) (d : Column) → missesIn cs labels ≡ false → k < length cs → isOptional (getD cs k d) ≡ false → columnOf (nameOf (getD cs k d)) labels < length labels
 misses-at [] labels k d e h o = absurd (omega arith)
-misses-at (c ∷ cs) labels zero d e h o = go (ltb (place (nameOf c) labels) (length labels)) refl (rw o at e)
+misses-at (c ∷ cs) labels zero d e h o = go (ltb (columnOf (nameOf c) labels) (length labels)) refl (rw o at e)
   where
-    go : (t : Bool) → ltb (place (nameOf c) labels) (length labels) ≡ t → on t (missesIn cs labels) true ≡ false → place (nameOf c) labels < length labels
+    go : (t : Bool) → ltb (columnOf (nameOf c) labels) (length labels) ≡ t → on t (missesIn cs labels) true ≡ false → columnOf (nameOf c) labels < length labels
     go true q x = ltb-true _ _ q
     go false q x = absurd (let z : _≡_ {A = ℕ} 0 1 = cc in omega arith)
-misses-at (c ∷ cs) labels (suc k) d e h o = go (isOptional c) (ltb (place (nameOf c) labels) (length labels)) e (λ x. misses-at cs labels k d x (omega arith) o)
+misses-at (c ∷ cs) labels (suc k) d e h o = go (isOptional c) (ltb (columnOf (nameOf c) labels) (length labels)) e (λ x. misses-at cs labels k d x (omega arith) o)
   where
-    go : (t u : Bool) → on t (missesIn cs labels) (on u (missesIn cs labels) true) ≡ false → (missesIn cs labels ≡ false → place (nameOf (getD cs k d)) labels < length labels) → place (nameOf (getD cs k d)) labels < length labels
+    go : (t u : Bool) → on t (missesIn cs labels) (on u (missesIn cs labels) true) ≡ false → (missesIn cs labels ≡ false → columnOf (nameOf (getD cs k d)) labels < length labels) → columnOf (nameOf (getD cs k d)) labels < length labels
     go true u x f = f x
     go false true x f = f x
     go false false x f = absurd (let z : _≡_ {A = ℕ} 0 1 = cc in omega arith)
@@ -99,7 +99,7 @@ misses-at (c ∷ cs) labels (suc k) d e h o = go (isOptional c) (ltb (place (nam
 places-length : (i : ℕ) (ws fs : List (List ℕ)) (ps : List ℕ) → length (placesFrom i ws fs ps) ≡ length ps
 unfolding placesFrom
 places-length i [] fs ps = refl
-places-length i (w ∷ ws) fs ps = places-length (suc i) ws fs (set ps i (place w fs)) ∙ length-set ps i (place w fs)
+places-length i (w ∷ ws) fs ps = places-length (suc i) ws fs (set ps i (columnOf w fs)) ∙ length-set ps i (columnOf w fs)
 
 pub places-room : (t : Table) (labels : List (List ℕ)) → length (placesOf t labels) ≡ most
 places-room t labels = places-length 0 (names t) labels (replicate most 0) ∙ length-replicate {A = ℕ} most 0
@@ -107,10 +107,10 @@ places-room t labels = places-length 0 (names t) labels (replicate most 0) ∙ l
 module _ (t : Table) (labels : List (List ℕ)) (e : labelFault t labels ≡ false) where
   pub fault-parts : (anyTwice (names t) labels ≡ false) × (misses t labels ≡ false)
   unfolding labelFault
-  fault-parts = either-false (anyTwice (names t) labels) (misses t labels) e
+  fault-parts = or-fail (anyTwice (names t) labels) (misses t labels) e
 
   -- each place is that of the column's name
-  pub place-at : (k : ℕ) → k < wanted t → getD (placesOf t labels) k 0 ≡ place (getD (names t) k []) labels
+  pub place-at : (k : ℕ) → k < wanted t → getD (placesOf t labels) k 0 ≡ columnOf (getD (names t) k []) labels
   place-at k h =
       let n = names-wanted t in
       let w = wanted-most t in
@@ -123,14 +123,14 @@ module _ (t : Table) (labels : List (List ℕ)) (e : labelFault t labels ≡ fal
       let y = place-at k b in
       let u = place-there (getD (names t) j []) labels (omega arith) in
       let v = place-there (getD (names t) k []) labels (omega arith) in
-      let z : place (getD (names t) j []) labels ≡ place (getD (names t) k []) labels = omega arith in
+      let z : columnOf (getD (names t) j []) labels ≡ columnOf (getD (names t) k []) labels = omega arith in
       one-name t j k a b (sym u ∙ ap (λ (i : ℕ). getD labels i []) z ∙ v)
 
   pub places-there : (k : ℕ) → k < wanted t → optionalAt t k ≡ false → getD (placesOf t labels) k 0 < length labels
   unfolding optionalAt columnAt misses
   places-there k h o =
       let n = name-at t k h in
-      rw (place-at k h, n) (misses-at (columnsIn t) labels k (must "" text) (fault-parts .1) h o)
+      rw (place-at k h, n) (misses-at (columnsIn t) labels k (must "" Kinds.Text) (fault-parts .1) h o)
 
 -- ---- the shape
 
@@ -150,8 +150,8 @@ rightShape t labels =
       count = length labels;
       stop = stopPlace labels;
       places = placesOf t labels;
-      found = length (order t labels);
-      order = over 0 (order t labels) (replicate most 0);
+      found = length (readingOrder t labels);
+      order = over 0 (readingOrder t labels) (replicate most 0);
     }
 
 pub shape-fault : (t : Table) (labels : List (List ℕ)) → shapeOf t labels .fault ≡ labelFault t labels

@@ -9,17 +9,15 @@ use native.Mathlib.Omega.{arith}
 use borrow.Author.Tests.{lt-ltb, le-ltb}
 use lib.ListN.{length}
 use lib.Seq.{ext-getD}
+use Rattle.lists.specs.Part.{some}
 use Rattle.lists.specs.Rows.{flat}
-use Rattle.turbo_labels.specs.Columns.{place}
+use Rattle.turbo_labels.specs.Columns.{columnOf}
 use Rattle.turbo_labels.proofs.PlaceLaws.{place-missing}
 use Rattle.columns.specs.declared.Table.{Table}
-use Rattle.columns.specs.Cell.{some}
-use Rattle.columns.specs.Tables.{columnsIn, nameOf, cellsOf, rowOf, wrongColumn}
+use Rattle.columns.specs.Tables.{columnsIn, nameOf, stopField, cellsOf, rowOf, wrongColumn, labelFault}
 use Rattle.columns.specs.Layout.{wanted, columnAt, optionalAt}
-use Rattle.rows.specs.Shape.{labelFault}
-use Rattle.rows.specs.ShapesClaims.{Stands}
 use Rattle.rows.proofs.LabelLaws.{Once, stands-place, faultless, must-stand, place-is}
-use Rattle.rows.specs.Claims.{cellBy, stopField, Outside, Alike}
+use Rattle.rows.specs.Claims.{Stands, cellBy, OutsideType, Alike}
 use Rattle.rows.proofs.RowLaws.{cellFor, of-length, cell-at, all-right, none-wrong, first-wrong}
 
 -- ---- cells by where columns stand
@@ -32,41 +30,41 @@ module _ (t : Table) (labels : List (List ℕ)) (e : labelFault t labels ≡ fal
 
     pub cell-absent : ((p : ℕ) → Stands t labels j p → ⊥) → cellFor t labels line j ≡ columnAt t j .absent
     cell-absent f =
-        let m : place (nameOf (columnAt t j)) labels ≡ length labels = place-missing (nameOf (columnAt t j)) labels .1 (λ p l q. f p (l, q)) in
-        rw (le-ltb (place (nameOf (columnAt t j)) labels) (length labels) (omega arith))
+        let m : columnOf (nameOf (columnAt t j)) labels ≡ length labels = place-missing (nameOf (columnAt t j)) labels .1 (λ p l q. f p (l, q)) in
+        rw (le-ltb (columnOf (nameOf (columnAt t j)) labels) (length labels) (omega arith))
 
     -- a column whose cell is wrong stands in the line
-    wrong-stands : some (cellFor t labels line j) ≡ false → place (nameOf (columnAt t j)) labels < length labels
+    wrong-stands : some (cellFor t labels line j) ≡ false → columnOf (nameOf (columnAt t j)) labels < length labels
     unfolding optionalAt
-    wrong-stands w = go (decLt (place (nameOf (columnAt t j)) labels) (length labels))
+    wrong-stands w = go (decLt (columnOf (nameOf (columnAt t j)) labels) (length labels))
       where
-        go : Dec (place (nameOf (columnAt t j)) labels < length labels) → place (nameOf (columnAt t j)) labels < length labels
+        go : Dec (columnOf (nameOf (columnAt t j)) labels < length labels) → columnOf (nameOf (columnAt t j)) labels < length labels
         go (yes l) = l
         go (no l) =
-            let n : length labels ≤ place (nameOf (columnAt t j)) labels = omega (arith, l) in
-            must-stand t labels e j h (rw (le-ltb (place (nameOf (columnAt t j)) labels) (length labels) n) at w)
+            let n : length labels ≤ columnOf (nameOf (columnAt t j)) labels = omega (arith, l) in
+            must-stand t labels e j h (rw (le-ltb (columnOf (nameOf (columnAt t j)) labels) (length labels) n) at w)
 
-    wrong-outside : some (cellFor t labels line j) ≡ false → Outside t labels line (place (nameOf (columnAt t j)) labels)
+    wrong-outside : some (cellFor t labels line j) ≡ false → OutsideType t labels line (columnOf (nameOf (columnAt t j)) labels)
     wrong-outside w =
         let s = stands-place t labels j (wrong-stands w) in
         (j, h, s, ap some (sym (cell-stands _ s)) ∙ w)
 
   module _ (line : List ℕ) where
-    pub right-none : wrongColumn t labels line ≡ 0 → (p : ℕ) → Outside t labels line p → ⊥
+    pub right-none : wrongColumn t labels line ≡ 0 → (p : ℕ) → OutsideType t labels line p → ⊥
     right-none w p (j, h, s, q) =
         let y = all-right t labels line w j h in
         let x = ap some (cell-stands line j h p s) in
         let z : _≡_ {A = ℕ} 0 1 = cc in
         omega arith
 
-    pub none-right : ((p : ℕ) → Outside t labels line p → ⊥) → wrongColumn t labels line ≡ 0
+    pub none-right : ((p : ℕ) → OutsideType t labels line p → ⊥) → wrongColumn t labels line ≡ 0
     none-right f = none-wrong t labels line (λ k h. go k h (some (cellFor t labels line k)) refl)
       where
         go : (k : ℕ) → k < wanted t → (b : Bool) → some (cellFor t labels line k) ≡ b → b ≡ true
         go k h true q = refl
-        go k h false q = absurd (f (place (nameOf (columnAt t k)) labels) (wrong-outside line k h q))
+        go k h false q = absurd (f (columnOf (nameOf (columnAt t k)) labels) (wrong-outside line k h q))
 
-    pub first-outside : (p : ℕ) → wrongColumn t labels line ≡ p + 1 → Outside t labels line p × ((q : ℕ) → Outside t labels line q → p ≤ q)
+    pub first-outside : (p : ℕ) → wrongColumn t labels line ≡ p + 1 → OutsideType t labels line p × ((q : ℕ) → OutsideType t labels line q → p ≤ q)
     first-outside p w =
         let f = first-wrong t labels line p w in
         let g = f .2 in (
@@ -78,7 +76,7 @@ module _ (t : Table) (labels : List (List ℕ)) (e : labelFault t labels ≡ fal
               omega arith,
         )
 
-    pub outside-first : (p : ℕ) → Outside t labels line p → ((q : ℕ) → Outside t labels line q → p ≤ q) → wrongColumn t labels line ≡ p + 1
+    pub outside-first : (p : ℕ) → OutsideType t labels line p → ((q : ℕ) → OutsideType t labels line q → p ≤ q) → wrongColumn t labels line ≡ p + 1
     outside-first p o f = go (wrongColumn t labels line) refl
       where
         go : (w : ℕ) → wrongColumn t labels line ≡ w → w ≡ p + 1
@@ -95,8 +93,8 @@ module _ (t : Table) (labels : List (List ℕ)) (line : List ℕ) (labels′ : L
   cell-alike : (j : ℕ) → j < wanted t → cellFor t labels line j ≡ cellFor t labels′ line′ j
   cell-alike j h =
       ⊎-elim
-      (λ r. let a = r .0 in let b = r .1 in rw (le-ltb (place (nameOf (columnAt t j)) labels) (length labels) (omega arith), le-ltb (place (nameOf (columnAt t j)) labels′) (length labels′) (omega arith)))
-      (λ r. rw (lt-ltb (place (nameOf (columnAt t j)) labels) (length labels) (r .0), lt-ltb (place (nameOf (columnAt t j)) labels′) (length labels′) (r .1), r .2, s))
+      (λ r. let a = r .0 in let b = r .1 in rw (le-ltb (columnOf (nameOf (columnAt t j)) labels) (length labels) (omega arith), le-ltb (columnOf (nameOf (columnAt t j)) labels′) (length labels′) (omega arith)))
+      (λ r. rw (lt-ltb (columnOf (nameOf (columnAt t j)) labels) (length labels) (r .0), lt-ltb (columnOf (nameOf (columnAt t j)) labels′) (length labels′) (r .1), r .2, s))
       (f j h)
 
   pub row-alike : rowOf t labels line ≡ rowOf t labels′ line′
@@ -115,4 +113,4 @@ module _ (t : Table) (labels : List (List ℕ)) (line : List ℕ) (labels′ : L
   right-alike-back e = none-wrong t labels line (λ k h. ap some (cell-alike k h) ∙ all-right t labels′ line′ e k h)
 
   pub fault-alike : Once t labels′ → labelFault t labels ≡ false → labelFault t labels′ ≡ false
-  fault-alike o e = faultless t labels′ o (λ j h m. (place (nameOf (columnAt t j)) labels′, stands-place t labels′ j (⊎-elim (λ r. absurd (let a = must-stand t labels e j h m in let b = r .0 in omega arith)) (λ r. r .1) (f j h))))
+  fault-alike o e = faultless t labels′ o (λ j h m. (columnOf (nameOf (columnAt t j)) labels′, stands-place t labels′ j (⊎-elim (λ r. absurd (let a = must-stand t labels e j h m in let b = r .0 in omega arith)) (λ r. r .1) (f j h))))

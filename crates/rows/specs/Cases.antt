@@ -1,28 +1,48 @@
--- Small data lines under their labels, by computation. Assumes nothing.
+-- Small label lines, and data lines under them, by computation. Assumes nothing.
 use Prim.Native.Nat.{ℕ}
 use mathlib.Core.Path.{_≡_, refl}
+use mathlib.Core.Bool.{true, false}
 use mathlib.Core.List.{List, [], _∷_, _++_}
-use lib.ListN.{replicate}
+use lib.ListN.{take, drop, replicate}
 use Rattle.lists.specs.Text.{bytes, same}
+use Rattle.lists.specs.Part.{onto, over}
 use Rattle.lists.specs.Rows.{flat}
 use Rattle.lists.specs.BigEndian.{spelled}
 use Rattle.clock.specs.Date.{daysIn, isDate}
 use Rattle.clock.specs.Moment.{monthStart, dayCount}
 use Rattle.turbo.specs.Escape.{escaped, decode}
 use Rattle.turbo.specs.Split.{fields, fieldAt}
-use Rattle.turbo_labels.specs.Columns.{count, place, anyTwice, placesFrom}
-use Rattle.field_types.specs.Digits.{number, triple}
+use Rattle.turbo_labels.specs.Columns.{count, columnOf, fieldUnder, anyTwice, placesFrom}
+use Rattle.field_types.specs.Digits.{numeral, triple}
 use Rattle.field_types.specs.Times.{clock, time}
 use Rattle.field_types.specs.Dates.{date}
-use Rattle.field_types.specs.Stamps.{offset, stampSeconds, stamp}
+use Rattle.field_types.specs.Stamps.{utcOffset, stampSeconds, stamp}
 use Rattle.field_types.specs.Names.{bit, status, stopType, flexible}
 use Rattle.texts.specs.Texts.{text}
 use Rattle.columns.specs.declared.Table.the-variants.{Message, Calendar}
 use Rattle.columns.specs.Cell.{cell}
-use Rattle.columns.specs.Tables.{messageColumns, calendarColumns, columnsIn, names, misses, rowOf, wrongColumn}
-use Rattle.rows.specs.Shape.{labelFault, shapeOf}
-use Rattle.rows.specs.ShapesCases.{labels}
-use Rattle.rows.specs.Reading.{perColumn, firstWrong, readBy}
+use Rattle.columns.specs.Tables.{messageColumns, calendarColumns, columnsIn, names, misses, rowOf, wrongColumn, labelFault}
+use Rattle.rows.specs.inner.Shape.{nextFrom, visits, shapeOf}
+
+-- a calendar's columns out of order, among others: the level is first, the date third, the owner fifth
+unfoldable pub labels : List (List ℕ)
+labels = bytes "LocalServiceLevelCode" ∷ bytes "X" ∷ bytes "OperationDate" ∷ bytes "Y" ∷ bytes "DataOwnerCode" ∷ []
+
+pub calendar-shape :
+    (shapeOf Calendar labels .fault ≡ false)
+    × (shapeOf Calendar labels .count ≡ 5)
+    × (take 3 (shapeOf Calendar labels .places) ≡ 4 ∷ 0 ∷ 2 ∷ [])
+    × (take 3 (shapeOf Calendar labels .order) ≡ 1 ∷ 2 ∷ 0 ∷ [])
+unfolding labels shapeOf labelFault anyTwice count placesFrom columnOf names columnsIn calendarColumns misses same visits nextFrom over onto
+calendar-shape = (refl, refl, refl, refl)
+
+-- a missing column, and a wanted name that stands twice; an unwanted one may
+pub label-faults :
+    (labelFault Calendar (drop 1 labels) ≡ true)
+    × (labelFault Calendar (bytes "OperationDate" ∷ labels) ≡ true)
+    × (labelFault Calendar (bytes "X" ∷ labels) ≡ false)
+unfolding labels labelFault anyTwice count columnOf names columnsIn calendarColumns misses same
+label-faults = (refl, refl, refl)
 
 -- a message's stop type in front, an unwanted column, and two optional columns missing
 unfoldable pub messageLabels : List (List ℕ)
@@ -50,13 +70,13 @@ messageRow =
     ++ 0 ∷ 255 ∷ 255 ∷ 255 ∷ []
 
 pub message-row : (wrongColumn Message messageLabels message ≡ 0) × (rowOf Message messageLabels message ≡ messageRow)
-unfolding messageLabels message messageRow wrongColumn rowOf flat columnsIn messageColumns place same fieldAt fields cell spelled text decode escaped date isDate daysIn triple number stamp stampSeconds monthStart dayCount offset clock time status stopType bit flexible
+unfolding messageLabels message messageRow wrongColumn rowOf flat columnsIn messageColumns columnOf fieldUnder same fieldAt fields cell spelled text decode escaped date isDate daysIn triple numeral stamp stampSeconds monthStart dayCount utcOffset clock time status stopType bit flexible
 message-row = (refl, refl)
 
 -- the date in column 3 and the owner in column 5 are both outside their types: the first in the line's order is told, though the owner is the table's first column
 pub calendar-wrong :
-    (readBy Calendar (shapeOf Calendar labels) (bytes "L|?|2017-13-01|?|") .wrong ≡ 3)
-    × (readBy Calendar (shapeOf Calendar labels) (bytes "L|?|2017-12-01|?|") .wrong ≡ 5)
-    × (readBy Calendar (shapeOf Calendar labels) (bytes "L|?|2017-12-01|?|O") .wrong ≡ 0)
-unfolding readBy perColumn firstWrong labels shapeOf labelFault anyTwice count placesFrom place names columnsIn calendarColumns misses same fieldAt fields cell spelled text decode escaped date isDate daysIn triple number
+    (wrongColumn Calendar labels (bytes "L|?|2017-13-01|?|") ≡ 3)
+    × (wrongColumn Calendar labels (bytes "L|?|2017-12-01|?|") ≡ 5)
+    × (wrongColumn Calendar labels (bytes "L|?|2017-12-01|?|O") ≡ 0)
+unfolding labels wrongColumn columnOf columnsIn calendarColumns fieldUnder same fieldAt fields cell spelled text decode escaped date isDate daysIn triple numeral
 calendar-wrong = (refl, refl, refl)

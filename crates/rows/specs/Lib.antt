@@ -1,6 +1,3 @@
-pub mod Reading
 pub mod Claims
 pub mod Cases
-pub mod Shape
-pub mod ShapesClaims
-pub mod ShapesCases
+pub mod inner

@@ -1,7 +1,8 @@
-use mathlib.Core.Path.{_∙_}
+use mathlib.Core.Path.{_∙_, ap}
 use native.Mathlib.Omega.{arith}
 use borrow.Author.Needs.{needs}
 use Rattle.columns.specs.Tables.{messageColumns, planningColumns, calendarColumns, columnsIn}
+use Rattle.columns.specs.inner.Digit.{kindNamed}
 use Rattle.columns.proofs.LayoutLaws.{told-below}
 use Rattle.columns.proofs.DigitLaws.{message-kind, planning-kind, calendar-kind}
 use Rattle.columns.proofs.kind_of.Statement.{statement}
@@ -14,12 +15,18 @@ digit-requires : tie.Need-digit-requires
 unfolding columnsIn messageColumns
 digit-requires c κs = omega (arith, told-below (c .before .before .args .j) (c .enum-told .given .1) (c .before .before .pre))
 
+kind-named-requires : tie.Need-kind-named-requires
+kind-named-requires c κs = search needs
+
 enum-told-2 : tie.Need-enum-told-2
 enum-told-2 c = search needs
 
 digit-requires-2 : tie.Need-digit-requires-2
 unfolding columnsIn planningColumns
 digit-requires-2 c κs = omega (arith, told-below (c .before .before .args .j) (c .enum-told2 .given .1) (c .before .before .pre))
+
+kind-named-requires-2 : tie.Need-kind-named-requires-2
+kind-named-requires-2 c κs = search needs
 
 enum-told-3 : tie.Need-enum-told-3
 enum-told-3 c = search needs
@@ -28,23 +35,29 @@ digit-requires-3 : tie.Need-digit-requires-3
 unfolding columnsIn calendarColumns
 digit-requires-3 c κs = omega (arith, told-below (c .before .before .args .j) (c .enum-told3 .given .1) (c .before .before .pre))
 
+kind-named-requires-3 : tie.Need-kind-named-requires-3
+kind-named-requires-3 c κs = search needs
+
 returns : tie.Need-returns
 unfolding columnsIn messageColumns
 returns c =
-    let a = c .before .before .before in
-    rw (c .before .enum-told .given .1) (c .digit .ensures .0 ∙ message-kind (a .args .j) (told-below (a .args .j) (c .before .enum-told .given .1) (a .pre)))
+    let a = c .before .before .before .before in
+    let told = c .before .before .enum-told .given .1 in
+    rw told (c .kind-named .ensures ∙ ap kindNamed (c .before .digit .ensures .0) ∙ message-kind (a .args .j) (told-below (a .args .j) told (a .pre)))
 
 returns-2 : tie.Need-returns-2
 unfolding columnsIn planningColumns
 returns-2 c =
-    let a = c .before .before .before in
-    rw (c .before .enum-told2 .given .1) (c .digit2 .ensures .0 ∙ planning-kind (a .args .j) (told-below (a .args .j) (c .before .enum-told2 .given .1) (a .pre)))
+    let a = c .before .before .before .before in
+    let told = c .before .before .enum-told2 .given .1 in
+    rw told (c .kind-named2 .ensures ∙ ap kindNamed (c .before .digit2 .ensures .0) ∙ planning-kind (a .args .j) (told-below (a .args .j) told (a .pre)))
 
 returns-3 : tie.Need-returns-3
 unfolding columnsIn calendarColumns
 returns-3 c =
-    let a = c .before .before .before in
-    rw (c .before .enum-told3 .given .1) (c .digit3 .ensures .0 ∙ calendar-kind (a .args .j) (told-below (a .args .j) (c .before .enum-told3 .given .1) (a .pre)))
+    let a = c .before .before .before .before in
+    let told = c .before .before .enum-told3 .given .1 in
+    rw told (c .kind-named3 .ensures ∙ ap kindNamed (c .before .digit3 .ensures .0) ∙ calendar-kind (a .args .j) (told-below (a .args .j) told (a .pre)))
 
 pub kind-of-spec : {M : Type 1} → statement M
 kind-of-spec =
@@ -52,10 +65,13 @@ kind-of-spec =
     (tie.spec
     enum-told
     digit-requires
+    kind-named-requires
     enum-told-2
     digit-requires-2
+    kind-named-requires-2
     enum-told-3
     digit-requires-3
+    kind-named-requires-3
     returns
     returns-2
     returns-3)

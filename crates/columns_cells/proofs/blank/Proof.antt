@@ -3,7 +3,7 @@ use borrow.Author.Needs.{needs}
 use Rattle.lists.specs.Rows.{flat}
 use Rattle.columns.specs.Cell.{width}
 use Rattle.columns.specs.Tables.{messageColumns, planningColumns, calendarColumns, columnsIn, rowWidth}
-use Rattle.columns.specs.Layout.{blankRow}
+use Rattle.columns.specs.inner.Blank.{blankRow}
 use Rattle.columns_cells.proofs.blank.Statement.{statement}
 use Rattle.columns_cells.proofs.blank.Tie as tie
 

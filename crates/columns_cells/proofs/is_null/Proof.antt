@@ -14,7 +14,7 @@ same-bytes-requires c κs = search needs
 
 returns : tie.Need-returns
 returns c =
-    let told : c .same-bytes .result ≡ same (now (c .before .before .before .args .f)) null = c .same-bytes .ensures in
+    let told : c .same-bytes .result ≡ same (now (c .before .before .before .args .field)) null = c .same-bytes .ensures in
     told
 
 pub is-null-spec : {M : Type 1} → statement M

@@ -3,13 +3,13 @@ use mathlib.Core.Bool.{true}
 use native.Mathlib.Omega.{arith}
 use borrow.Author.Needs.{needs}
 use denote.Ref.{now}
-use Rattle.texts.specs.Texts.{plain}
 use Rattle.texts.proofs.KeptLaws.{padded-length}
 use Rattle.texts.proofs.PlainLaws.{plain-is, plain-text}
 use Rattle.columns.specs.Cell.{textCell}
 use Rattle.columns_cells.proofs.WriteLaws.{kept-long}
 use Rattle.columns_cells.proofs.write_text.Statement.{statement}
 use Rattle.columns_cells.proofs.write_text.Tie as tie
+use Rattle.texts.specs.inner.Steps.{plain}
 
 is-plain-requires : tie.Need-is-plain-requires
 is-plain-requires c κs = search needs
@@ -25,7 +25,7 @@ same-length c = search needs
 returns : tie.Need-returns
 returns c =
     let start = c .before .before .before .before .before .before .before .before in
-    let f = now (start .args .f) in
+    let f = now (start .args .field) in
     let told : plain f ≡ true = sym (c .before .before .before .before .before .is-plain .ensures) ∙ c .before .before .before .before .if1 .taken in
     let ten = padded-length f (plain-is f told .1) in
     kept-long (start .args .at) (now (start .args .row)) (ap textCell (sym (plain-text f told))) (omega arith) (c .before .before .write-plain .ensures)

@@ -3,8 +3,8 @@ use mathlib.Core.Path.{sym, ap, _∙_}
 use mathlib.Core.List.{List}
 use borrow.Author.Needs.{needs}
 use Rattle.turbo.specs.Split.{until, fields}
-use Rattle.rows.specs.Shape.{shapeOf}
-use Rattle.reader_step.specs.Step.{moved, labelStep, placeNamed}
+use Rattle.rows.specs.inner.Shape.{shapeOf}
+use Rattle.reader_step.specs.inner.Step.{moved, labelStep, placeNamed}
 use Rattle.reader_step.proofs.StepLaws.{line-group, line-table, line-labels, line-labels-skipped, line-data, line-data-skipped}
 use Rattle.reader_step.proofs.line_step.Statement.{statement}
 use Rattle.reader_step.proofs.line_step.Tie as tie
@@ -46,7 +46,7 @@ label-step-requires : tie.Need-label-step-requires
 label-step-requires c κs = search needs
 
 returns : tie.Need-returns
-returns c = let s = c .before .before .before .before .before .before .before .before .before .before in let l = line-labels (s .args .t) (s .args .register .now) (s .args .sender) (s .args .s) (s .args .line .now) (s .args .staging .now) (sym (c .before .before .before .before .before .before .mark-of .ensures) ∙ c .before .before .before .before .enum-told3 .given .1) (c .before .before .before .if1 .taken) in (c .label-step .ensures ∙ ap (labelStep (s .args .s)) (c .before .read-labels .ensures ∙ ap (λ (x : List ℕ). shapeOf (s .args .t) (fields x)) (c .before .before .after-mark2 .ensures)) ∙ l .0, l .1)
+returns c = let s = c .before .before .before .before .before .before .before .before .before .before in let l = line-labels (s .args .table) (s .args .register .now) (s .args .sender) (s .args .state) (s .args .line .now) (s .args .staging .now) (sym (c .before .before .before .before .before .before .mark-of .ensures) ∙ c .before .before .before .before .enum-told3 .given .1) (c .before .before .before .if1 .taken) in (c .label-step .ensures ∙ ap (labelStep (s .args .state)) (c .before .read-labels .ensures ∙ ap (λ (x : List ℕ). shapeOf (s .args .table) (fields x)) (c .before .before .after-mark2 .ensures)) ∙ l .0, l .1)
 
 moved-to-requires-3 : tie.Need-moved-to-requires-3
 moved-to-requires-3 c κs = search needs
@@ -61,22 +61,22 @@ same-length : tie.Need-same-length
 same-length c = search needs
 
 returns-2 : tie.Need-returns-2
-returns-2 c = let s = c .before .before .before .before .before .before .before .before .before .before .before in let l = line-data (s .args .t) (s .args .register .now) (s .args .sender) (s .args .s) (s .args .line .now) (s .args .staging .now) (sym (c .before .before .before .before .before .before .before .mark-of .ensures) ∙ c .before .before .before .before .before .enum-told4 .given .1) (c .before .before .before .before .if2 .taken) in let r = c .before .before .data-step in (r .ensures .0 ∙ l .0, r .ensures .1 ∙ l .1)
+returns-2 c = let s = c .before .before .before .before .before .before .before .before .before .before .before in let l = line-data (s .args .table) (s .args .register .now) (s .args .sender) (s .args .state) (s .args .line .now) (s .args .staging .now) (sym (c .before .before .before .before .before .before .before .mark-of .ensures) ∙ c .before .before .before .before .before .enum-told4 .given .1) (c .before .before .before .before .if2 .taken) in let r = c .before .before .data-step in (r .ensures .0 ∙ l .0, r .ensures .1 ∙ l .1)
 
 moved-to-requires-4 : tie.Need-moved-to-requires-4
 moved-to-requires-4 c κs = search needs
 
 returns-3 : tie.Need-returns-3
-returns-3 c = let s = c .before .before .before .before .before .before .before in let l = line-group (s .args .t) (s .args .register .now) (s .args .sender) (s .args .s) (s .args .line .now) (s .args .staging .now) (sym (c .before .before .before .mark-of .ensures) ∙ c .before .enum-told .given .1) in (c .moved-to .ensures ∙ l .0, l .1)
+returns-3 c = let s = c .before .before .before .before .before .before .before in let l = line-group (s .args .table) (s .args .register .now) (s .args .sender) (s .args .state) (s .args .line .now) (s .args .staging .now) (sym (c .before .before .before .mark-of .ensures) ∙ c .before .enum-told .given .1) in (c .moved-to .ensures ∙ l .0, l .1)
 
 returns-4 : tie.Need-returns-4
-returns-4 c = let s = c .before .before .before .before .before .before .before .before .before .before in let l = line-table (s .args .t) (s .args .register .now) (s .args .sender) (s .args .s) (s .args .line .now) (s .args .staging .now) (sym (c .before .before .before .before .before .before .mark-of .ensures) ∙ c .before .before .before .before .enum-told2 .given .1) in (c .moved-to2 .ensures ∙ ap (moved (s .args .s)) (c .before .named-place .ensures ∙ ap (placeNamed (s .args .t)) (c .before .before .first-field .ensures ∙ ap (until 124) (c .before .before .before .after-mark .ensures))) ∙ l .0, l .1)
+returns-4 c = let s = c .before .before .before .before .before .before .before .before .before .before in let l = line-table (s .args .table) (s .args .register .now) (s .args .sender) (s .args .state) (s .args .line .now) (s .args .staging .now) (sym (c .before .before .before .before .before .before .mark-of .ensures) ∙ c .before .before .before .before .enum-told2 .given .1) in (c .moved-to2 .ensures ∙ ap (moved (s .args .state)) (c .before .named-place .ensures ∙ ap (placeNamed (s .args .table)) (c .before .before .first-field .ensures ∙ ap (until 124) (c .before .before .before .after-mark .ensures))) ∙ l .0, l .1)
 
 returns-5 : tie.Need-returns-5
-returns-5 c = let s = c .before .before .before .before .before .before .before .before in let l = line-labels-skipped (s .args .t) (s .args .register .now) (s .args .sender) (s .args .s) (s .args .line .now) (s .args .staging .now) (sym (c .before .before .before .before .mark-of .ensures) ∙ c .before .before .enum-told3 .given .1) (c .before .if1 .left) in (c .moved-to3 .ensures ∙ l .0, l .1)
+returns-5 c = let s = c .before .before .before .before .before .before .before .before in let l = line-labels-skipped (s .args .table) (s .args .register .now) (s .args .sender) (s .args .state) (s .args .line .now) (s .args .staging .now) (sym (c .before .before .before .before .mark-of .ensures) ∙ c .before .before .enum-told3 .given .1) (c .before .if1 .left) in (c .moved-to3 .ensures ∙ l .0, l .1)
 
 returns-6 : tie.Need-returns-6
-returns-6 c = let s = c .before .before .before .before .before .before .before .before in let l = line-data-skipped (s .args .t) (s .args .register .now) (s .args .sender) (s .args .s) (s .args .line .now) (s .args .staging .now) (sym (c .before .before .before .before .mark-of .ensures) ∙ c .before .before .enum-told4 .given .1) (c .before .if2 .left) in (c .moved-to4 .ensures ∙ l .0, l .1)
+returns-6 c = let s = c .before .before .before .before .before .before .before .before in let l = line-data-skipped (s .args .table) (s .args .register .now) (s .args .sender) (s .args .state) (s .args .line .now) (s .args .staging .now) (sym (c .before .before .before .before .mark-of .ensures) ∙ c .before .before .enum-told4 .given .1) (c .before .if2 .left) in (c .moved-to4 .ensures ∙ l .0, l .1)
 
 pub line-step-spec : {M : Type 1} → statement M
 line-step-spec =

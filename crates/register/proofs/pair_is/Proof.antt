@@ -8,7 +8,7 @@ shared-slice-read-if1 : tie.Need-shared-slice-read-if1
 shared-slice-read-if1 c = search needs
 
 returns : tie.Need-returns
-returns c = let a = c .before .before .before .before .args in sym (pair-other (a .register .now) (a .p) (a .sender) _ (search needs) (c .if1 .taken))
+returns c = let a = c .before .before .before .before .args in sym (pair-other (a .register .now) (a .pair) (a .sender) _ (search needs) (c .if1 .taken))
 
 add-same-bytes : tie.Need-add-same-bytes
 add-same-bytes c = search needs
@@ -44,7 +44,7 @@ returns-2 : tie.Need-returns-2
 returns-2 c =
     let i = c .before .before .before in
     let a = i .before .before .before .before .args in
-    c .same-bytes .ensures ∙ sym (pair-lent (a .register .now) (a .p) (a .sender) (a .s .now) (a .at) (search needs) (i .if1 .left))
+    c .same-bytes .ensures ∙ sym (pair-lent (a .register .now) (a .pair) (a .sender) (a .row .now) (a .at) (search needs) (i .if1 .left))
 
 pub pair-is-spec : {M : Type 1} → statement M
 pair-is-spec =

@@ -1,25 +1,23 @@
 -- One line at a time: what the reader keeps of the lines so far, and what a line changes in it. Assumes nothing.
 use Prim.Native.Nat.{ℕ, _+_, _*_}
 use mathlib.Core.Path.{_≡_}
-use mathlib.Core.Bool.{Bool, true, false}
-use mathlib.Core.List.{List, [], _∷_}
+use mathlib.Core.List.{List}
 use lib.Dec.{eqb, leb}
 use lib.ListN.{length, take}
-use Rattle.lists.specs.Logic.{on, both}
+use Rattle.lists.specs.Logic.{on}
 use Rattle.lists.specs.Text.{same}
-use Rattle.lists.specs.Part.{part, over}
+use Rattle.lists.specs.Part.{over}
 use Rattle.turbo_lines.specs.declared.Mark.{Mark}
 use Rattle.turbo_lines.specs.declared.Mark.the-variants as Marks
 use Rattle.turbo.specs.Split.{until, fields}
 use Rattle.turbo_lines.specs.Lines.{markOf, afterMark}
 use Rattle.columns.specs.declared.Table.{Table}
-use Rattle.columns.specs.declared.Table.the-variants as Tables
 use Rattle.columns.specs.Tables.{tableName, rowWidth}
-use Rattle.register.specs.Register.{grants}
+use Rattle.register.specs.Register.{maySend}
 use Rattle.rows.specs.declared.Shape.{Shape}
 use Rattle.rows.specs.declared.Read.{Read}
-use Rattle.rows.specs.Shape.{noShape, shapeOf}
-use Rattle.rows.specs.Reading.{readBy}
+use Rattle.rows.specs.inner.Shape.{noShape, shapeOf}
+use Rattle.rows.specs.inner.Reading.{readBy}
 use Rattle.reader_step.specs.declared.State.{State}
 
 -- the state after a line that changes only the place: 0 outside the table, 1 between its `\T` and `\L` lines, 2 under its labels
@@ -43,20 +41,14 @@ abbrev pub disowned : State → State
 disowned s = record { place = s .place; line = s .line + 1; form = s .form; wrong = s .wrong; column = s .column; owner = s .line; rows = s .rows; shape = s .shape }
 
 -- one row more
-abbrev pub counted : State → State
-counted s = record { place = s .place; line = s .line + 1; form = s .form; wrong = s .wrong; column = s .column; owner = s .owner; rows = s .rows + 1; shape = s .shape }
-
--- whether the row's owner is registered for the sender. Only messages have a sender.
-abbrev pub maySend : Table → List ℕ → ℕ → List ℕ → Bool
-maySend Tables.Message register sender body = grants register sender (part 0 10 body)
-maySend Tables.Planning register sender body = true
-maySend Tables.Calendar register sender body = true
+abbrev pub oneRowMore : State → State
+oneRowMore s = record { place = s .place; line = s .line + 1; form = s .form; wrong = s .wrong; column = s .column; owner = s .owner; rows = s .rows + 1; shape = s .shape }
 
 -- a row that was read
 unfoldable pub rowStep : Table → List ℕ → ℕ → State → Read → State
 rowStep t register sender s r =
     on (eqb (r .wrong) 0)
-    (on (eqb (s .owner) 0) (on (maySend t register sender (r .row)) (counted s) (disowned s)) (moved s (s .place)))
+    (on (eqb (s .owner) 0) (on (maySend t register sender (r .row)) (oneRowMore s) (disowned s)) (moved s (s .place)))
     (mistyped s (r .wrong))
 
 -- a data line under labels: its count of fields first, and no more once a field was wrong

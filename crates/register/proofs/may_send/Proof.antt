@@ -1,8 +1,8 @@
 use Prim.Native.Nat.{_-_}
 use mathlib.Core.Path.{_∙_}
 use borrow.Author.Needs.{needs}
-use Rattle.reader_step.proofs.may_send.Statement.{statement}
-use Rattle.reader_step.proofs.may_send.Tie as tie
+use Rattle.register.proofs.may_send.Statement.{statement}
+use Rattle.register.proofs.may_send.Tie as tie
 
 enum-told : tie.Need-enum-told
 enum-told c = search needs
