@@ -17,7 +17,7 @@ use Rattle.lists.proofs.WideLaws.{length-flat, rowsOf-flat}
 use Rattle.passage.specs.Layout.{body-wide}
 use Rattle.keys.specs.Sorted.{sortedRows}
 use Rattle.book.specs.Entries.{plan-wide, entry-wide, number-wide, planBodyOf, planEntry, entriesOf, planCount, plansIn, updatesIn, planBodies}
-use Rattle.book.specs.Rules.{bookRoom, allPlans, chained, noEntry, lastFrom, nextNumber, bookSound, messageEntries, marked, withdrawn, firstOf, runOf}
+use Rattle.book.specs.Rules.{bookRoom, allPlans, chained, noEntry, lastFrom, nextNumber, bookSound, messageEntries, markedWithdrawn, withdrawn}
 use Rattle.book.specs.Claims.{UpdateBodies, PlanBodies}
 use Rattle.book.proofs.WriteLaws.{wide-entriesOf, length-entriesOf, wide-marked}
 use Rattle.book.proofs.PlanLaws.{bodies}
@@ -26,6 +26,7 @@ use Rattle.book.proofs.NumberLaws.{last-most, next-is, first-within, ru
 use Rattle.book.proofs.SplitLaws.{Plans, Split, split-plans, split-updates, split-sound, updateCount, sound-split, wide-updates, length-updates}
 use Rattle.book.proofs.MessageLaws.{message-run}
 use Rattle.book.proofs.ChangeLaws.{chained-append, chained-new, chained-withdrawn, withdrawn-is}
+use Rattle.book.specs.inner.Steps.{firstEntryOf, runOf}
 
 -- ---- whole rows written over rows
 
@@ -142,20 +143,20 @@ module _ (used : ℕ) (b : List ℕ) (sound : bookSound used b ≡ true) (n : �
 
   -- the byte at which the first entry of message n begins
   abbrev pub messageAt : ℕ
-  messageAt = planCount used b * plan-wide + firstOf n (updatesIn used b) * entry-wide
+  messageAt = planCount used b * plan-wide + firstEntryOf n (updatesIn used b) * entry-wide
 
   abbrev pub messageRun : ℕ
-  messageRun = runOf n (drop (firstOf n (updatesIn used b)) (updatesIn used b))
+  messageRun = runOf n (drop (firstEntryOf n (updatesIn used b)) (updatesIn used b))
 
   chain : chained noEntry (updatesIn used b) ≡ true
   chain = sound-facts used b sound .chain
 
-  pub run-within : firstOf n (updatesIn used b) + messageRun ≤ updateCount used b
+  pub run-within : firstEntryOf n (updatesIn used b) + messageRun ≤ updateCount used b
   run-within =
       let us = updatesIn used b in
       let f = first-within n us in
       let l = length-updates used b sound in
-      let r : messageRun ≤ length us - firstOf n us = rw length-drop at (run-most n (drop (firstOf n us) us)) in
+      let r : messageRun ≤ length us - firstEntryOf n us = rw length-drop at (run-most n (drop (firstEntryOf n us) us)) in
       omega arith
 
   pub message-length : length entries ≡ messageRun
@@ -172,7 +173,7 @@ module _ (used : ℕ) (b : List ℕ) (sound : bookSound used b ≡ true) (n : �
       let s = sound-split used b sound in
       let m = updateCount used b in
       let t = drop (planCount used b * plan-wide) b in
-      let f = firstOf n us in
+      let f = firstEntryOf n us in
       let h = run-within in
       let e : us ≡ rowsOf entry-wide m t = split-updates used b (planCount used b) m s in
       let d : drop f us ≡ rowsOf entry-wide (m - f) (drop messageAt b) =
@@ -180,20 +181,20 @@ module _ (used : ℕ) (b : List ℕ) (sound : bookSound used b ≡ true) (n : �
       sym (message-run n noEntry us chain ∙ ap (take messageRun) d ∙ take-rowsOf entry-wide (m - f) messageRun (drop messageAt b) (omega arith))
 
   abbrev without : List ℕ
-  without = over messageAt (flat (map marked entries)) b
+  without = over messageAt (flat (map markedWithdrawn entries)) b
 
-  marks-wide : Wide entry-wide (map marked entries)
+  marks-wide : Wide entry-wide (map markedWithdrawn entries)
   marks-wide =
       let us = updatesIn used b in
       wide-marked entry-wide entries
       (rw (message-run n noEntry us chain)
-      (each-take IsWide messageRun (drop (firstOf n us) us) (each-drop IsWide (firstOf n us) us (wide-updates used b sound))))
+      (each-take IsWide messageRun (drop (firstEntryOf n us) us) (each-drop IsWide (firstEntryOf n us) us (wide-updates used b sound))))
     where
       IsWide : List ℕ → Type 0
       IsWide e = length e ≡ entry-wide
 
   withdrawal-plans : rowsOf plan-wide (planCount used b) without ≡ rowsOf plan-wide (planCount used b) b
-  withdrawal-plans = rowsOf-behind plan-wide (planCount used b) messageAt (flat (map marked entries)) b (omega arith)
+  withdrawal-plans = rowsOf-behind plan-wide (planCount used b) messageAt (flat (map markedWithdrawn entries)) b (omega arith)
 
   withdrawal-rows : rowsOf entry-wide (updateCount used b) (drop (planCount used b * plan-wide) without) ≡ withdrawn n (updatesIn used b)
   withdrawal-rows =
@@ -202,15 +203,15 @@ module _ (used : ℕ) (b : List ℕ) (sound : bookSound used b ≡ true) (n : �
       let w = s .whole in
       let u = used-within used b (sound-facts used b sound) .0 in
       let m = updateCount used b in
-      let f = firstOf n us in
+      let f = firstEntryOf n us in
       let t = drop (planCount used b * plan-wide) b in
       let e : us ≡ rowsOf entry-wide m t = split-updates used b (planCount used b) m s in
-      let l : length (map marked entries) ≡ length entries = length-map entries marked in
+      let l : length (map markedWithdrawn entries) ≡ length entries = length-map entries markedWithdrawn in
       let k = message-length in
       let h = run-within in
       let fit : m * entry-wide ≤ length t = simp length-drop (omega arith) in
-      ap (rowsOf entry-wide m) (drop-over (planCount used b * plan-wide) (f * entry-wide) (flat (map marked entries)) b)
-      ∙ rows-over entry-wide m f (map marked entries) t marks-wide fit (omega arith)
+      ap (rowsOf entry-wide m) (drop-over (planCount used b * plan-wide) (f * entry-wide) (flat (map markedWithdrawn entries)) b)
+      ∙ rows-over entry-wide m f (map markedWithdrawn entries) t marks-wide fit (omega arith)
       ∙ rw (← e, l) (sym (withdrawn-is n noEntry us chain))
 
   withdrawal-split : Split used without (planCount used b) (updateCount used b)
@@ -218,7 +219,7 @@ module _ (used : ℕ) (b : List ℕ) (sound : bookSound used b ≡ true) (n : �
       let s = sound-split used b sound in
       record {
         whole = s .whole;
-        room = rw (room-over messageAt (flat (map marked entries)) b) (s .room);
+        room = rw (room-over messageAt (flat (map markedWithdrawn entries)) b) (s .room);
         plans = rw withdrawal-plans (s .plans);
         ranges = rw withdrawal-plans (s .ranges);
         rises = rw withdrawal-plans (s .rises);

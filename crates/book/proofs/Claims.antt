@@ -1,22 +1,16 @@
 -- The claims of `specs/Claims.antt` hold. Assumes nothing.
-use mathlib.Core.Path.{_≡_}
-use mathlib.Core.Bool.{true}
-use mathlib.Core.List.{List, [], _∷_}
-use Prim.Native.Nat.{ℕ, _<_}
-use native.Mathlib.Nat.{not-suc-le-zero}
-use lib.ListN.{length, getD}
-use Rattle.book.specs.Claims.{All, MessagesNumbered}
-use Rattle.book.specs.Entries.{numberOf, updatesIn}
-use Rattle.book.specs.Rules.{chained, noEntry}
+use Rattle.book.specs.Claims.{All, EntriesByField, MessagesNumbered}
+use Rattle.book.specs.Entries.{updatesIn}
+use Rattle.book.specs.Rules.{noEntry}
 use Rattle.book.proofs.SoundLaws.{sound-facts}
 use Rattle.book.proofs.SplitLaws.{split-whole, wide-updates}
-use Rattle.book.proofs.MessageLaws.{first-number, numbers-rise, numbers-within, numbers-like}
+use Rattle.book.proofs.MessageLaws.{numbers-rise, numbers-within, numbers-like}
+use Rattle.book.proofs.FactLaws.{begins-at-1, sound-means, means-sound, plans-length, plan-place, updates-length, update-place}
 use Rattle.book.proofs.AfterLaws.{after-message, after-withdrawal, after-open}
-use Rattle.book.proofs.StandingLaws.{standing-withdrawn, next-withdrawn}
-
-begins-at-1 : (us : List (List ℕ)) → chained noEntry us ≡ true → 0 < length us → numberOf (getD us 0 []) ≡ 1
-begins-at-1 [] h k = absurd (not-suc-le-zero k)
-begins-at-1 (e ∷ es) h k = first-number e es h
+use Rattle.book.proofs.StandingLaws.{standing-append, standing-withdrawn, next-withdrawn}
+use Rattle.book.proofs.WriteLaws.{length-entryOf, length-entriesOf}
+use Rattle.book.proofs.ChangeLaws.{entry-number, entry-sender, entry-body}
+use Rattle.book.proofs.EntryLaws.{entry-kind, entries-at, stands, of-message, of-others, message-append, others-append, withdrawn-length, withdrawn-at}
 
 messages-numbered : MessagesNumbered
 messages-numbered used b sound =
@@ -24,12 +18,23 @@ messages-numbered used b sound =
     let c = sound-facts used b sound .chain in
     (begins-at-1 us c, numbers-rise noEntry us c, numbers-within us c, numbers-like noEntry us c)
 
+entries-by-field : EntriesByField
+entries-by-field n s = (
+  λ body small h. (length-entryOf n s body h, entry-kind n s body, entry-number n s small body, entry-sender n s body, entry-body n s body h),
+  λ bodies. (length-entriesOf n s bodies, entries-at n s bodies),
+)
+
 pub claims : All
 claims = (
+  λ used b. (sound-means used b, means-sound used b),
+  λ used b f. (plans-length used b f, plan-place used b f, updates-length used b f, update-place used b f),
   split-whole,
+  entries-by-field,
   λ used b sender bodies sound ranges least fits. after-message used b sound sender bodies ranges least fits,
   λ used b n sound. after-withdrawal used b sound n,
   after-open,
   messages-numbered,
+  λ n us. (withdrawn-length n us, withdrawn-at n us),
+  (standing-append, stands, message-append, λ n e. of-message e n, others-append, λ n e. of-others e n),
   λ used b n sound. (standing-withdrawn n (updatesIn used b) (wide-updates used b sound), next-withdrawn n (updatesIn used b)),
 )

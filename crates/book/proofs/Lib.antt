@@ -1,4 +1,3 @@
-pub mod TestLaws
 pub mod PlaceLaws
 pub mod PlanLaws
 pub mod ChainLaws
@@ -11,5 +10,7 @@ pub mod ChangeLaws
 pub mod AfterLaws
 pub mod MarkLaws
 pub mod StandingLaws
+pub mod EntryLaws
+pub mod FactLaws
 pub mod Claims
 pub mod Determined

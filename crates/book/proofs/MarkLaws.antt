@@ -13,7 +13,7 @@ use Rattle.lists.proofs.OverLaws.{over-over, over-then, over-self}
 use Rattle.lists.proofs.RowLaws.{flat-append, flat-before, flat-from}
 use Rattle.lists.proofs.WideLaws.{length-flat}
 use Rattle.book.specs.Entries.{plan-wide, entry-wide, planCount, planBodies, updatesIn}
-use Rattle.book.specs.Rules.{noEntry, bookSound, messageEntries, marked, withdrawn, firstOf}
+use Rattle.book.specs.Rules.{noEntry, bookSound, messageEntries, markedWithdrawn, withdrawn}
 use Rattle.book.proofs.SoundLaws.{sound-facts}
 use Rattle.book.proofs.WriteLaws.{wide-marked}
 use Rattle.book.proofs.NumberLaws.{first-within}
@@ -21,6 +21,7 @@ use Rattle.book.proofs.SplitLaws.{split-updates, updateCount, sound-spl
 use Rattle.book.proofs.MessageLaws.{message-run}
 use Rattle.book.proofs.ChangeLaws.{withdrawn-is}
 use Rattle.book.proofs.AfterLaws.{messageRun, run-within, message-length, after-withdrawal}
+use Rattle.book.specs.inner.Steps.{firstEntryOf}
 
 -- bytes that stand there already, before and behind others, need not be written
 over-between : (at k p j : ℕ) (xs ys zs d : List ℕ) → xs ≡ part at k d → zs ≡ part p j d → p ≡ at + length xs + length ys → over at (xs ++ (ys ++ zs)) d ≡ over (at + length xs) ys d
@@ -38,10 +39,10 @@ module _ (used : ℕ) (b : List ℕ) (n : ℕ) (sound : bookSound used b ≡ tru
   us = updatesIn used b
 
   abbrev first : ℕ
-  first = firstOf n us
+  first = firstEntryOf n us
 
   abbrev marks : List (List ℕ)
-  marks = map marked (messageEntries n us)
+  marks = map markedWithdrawn (messageEntries n us)
 
   abbrev IsWide : List ℕ → Type 0
   IsWide e = length e ≡ entry-wide
@@ -74,7 +75,7 @@ module _ (used : ℕ) (b : List ℕ) (n : ℕ) (sound : bookSound used b ≡ tru
   length-before = length-flat entry-wide (take first us) (each-take IsWide first us (wide-updates used b sound)) ∙ ap (λ (m : ℕ). m * entry-wide) (length-take-le first us (first-within n us))
 
   length-marks : length (flat marks) ≡ length (messageEntries n us) * entry-wide
-  length-marks = length-flat entry-wide marks marks-wide ∙ ap (λ (m : ℕ). m * entry-wide) (length-map (messageEntries n us) marked)
+  length-marks = length-flat entry-wide marks marks-wide ∙ ap (λ (m : ℕ). m * entry-wide) (length-map (messageEntries n us) markedWithdrawn)
 
   pub marks-alone : over at (flat (withdrawn n us)) b ≡ over (at + first * entry-wide) (flat marks) b
   marks-alone =

@@ -1,6 +1,6 @@
 -- Messages among updates in order: numbers begin at 1 and rise by at most one, a message's entries stand together, and share sender and kind. Assumes nothing.
 use mathlib.Core.Path.{_≡_, refl, sym, ap, _∙_}
-use mathlib.Core.Bool.{Bool, true, false}
+use mathlib.Core.Bool.{Bool, true, false, _&&_}
 use mathlib.Core.List.{List, [], _∷_}
 use mathlib.Core.Logic.{_⊎_, inl, inr, ⊎-elim}
 use Prim.Native.Nat.{ℕ, zero, suc, _+_, _≤_, _<_}
@@ -11,16 +11,17 @@ use lib.Dec.{eqb, leb}
 use lib.ListN.{length, take, drop, getD}
 use Rattle.lists.specs.Each.{Each}
 use Rattle.lists.specs.Logic.{on, within}
-use Rattle.lists.proofs.LogicLaws.{both-true}
+use Rattle.lists.proofs.LogicLaws.{and-pass}
 use Rattle.book.specs.Entries.{kindOf, numberOf, senderOf}
-use Rattle.book.specs.Rules.{entryInRange, chained, noEntry, lastFrom, nextNumber, messageEntries, firstOf, runOf}
+use Rattle.book.specs.Rules.{entryInRange, chained, noEntry, lastFrom, nextNumber, messageEntries}
 use Rattle.book.proofs.NumberLaws.{Begins, GoesOn, follow-cases, Link, link, link-number, no-number, no-sender}
+use Rattle.book.specs.inner.Steps.{firstEntryOf, runOf}
 
 -- ---- numbers
 
 sender-least : (e : List ℕ) → entryInRange e ≡ true → 1 ≤ senderOf e
 unfolding entryInRange
-sender-least e h = leb-true 1 (senderOf e) (both-true (leb 1 (senderOf e)) _ (both-true (within 2 3 (kindOf e)) _ h .1) .0)
+sender-least e h = leb-true 1 (senderOf e) (and-pass (within 2 3 (kindOf e)) _ (and-pass (within 2 3 (kindOf e) && leb 1 (senderOf e)) _ h .0) .1)
 
 -- the first update has number 1
 pub first-number : (e : List ℕ) (es : List (List ℕ)) → chained noEntry (e ∷ es) ≡ true → numberOf e ≡ 1
@@ -137,28 +138,28 @@ module _ (n : ℕ) where
       go l ih (inr g) = rw (entries-none (e ∷ es) g) tt
 
   -- the message's entries stand together, from its first on
-  pub message-run : (before : List ℕ) (es : List (List ℕ)) → chained before es ≡ true → messageEntries n es ≡ take (runOf n (drop (firstOf n es) es)) (drop (firstOf n es) es)
-  unfolding messageEntries runOf firstOf
+  pub message-run : (before : List ℕ) (es : List (List ℕ)) → chained before es ≡ true → messageEntries n es ≡ take (runOf n (drop (firstEntryOf n es) es)) (drop (firstEntryOf n es) es)
+  unfolding messageEntries runOf firstEntryOf
   message-run before [] h = refl
   message-run before (e ∷ es) h =
       let l = link before e es h in
       go (eqb (numberOf e) n) refl (l .chain) (message-run e es (l .chain))
     where
-      go : (t : Bool) → eqb (numberOf e) n ≡ t → chained e es ≡ true → messageEntries n es ≡ take (runOf n (drop (firstOf n es) es)) (drop (firstOf n es) es)
-          → on t (e ∷ messageEntries n es) (messageEntries n es) ≡ take (runOf n (drop (on t 0 (suc (firstOf n es))) (e ∷ es))) (drop (on t 0 (suc (firstOf n es))) (e ∷ es))
+      go : (t : Bool) → eqb (numberOf e) n ≡ t → chained e es ≡ true → messageEntries n es ≡ take (runOf n (drop (firstEntryOf n es) es)) (drop (firstEntryOf n es) es)
+          → on t (e ∷ messageEntries n es) (messageEntries n es) ≡ take (runOf n (drop (on t 0 (suc (firstEntryOf n es))) (e ∷ es))) (drop (on t 0 (suc (firstEntryOf n es))) (e ∷ es))
       go true q c ih = rw q (ap (λ (r : List (List ℕ)). e ∷ r) (run-rest e es (eqb-true _ _ q) c))
       go false q c ih = ih
 
   -- and share the sender and the kind of the first
-  pub message-like : (before : List ℕ) (es : List (List ℕ)) → chained before es ≡ true → Like (getD es (firstOf n es) []) (messageEntries n es)
-  unfolding messageEntries firstOf
+  pub message-like : (before : List ℕ) (es : List (List ℕ)) → chained before es ≡ true → Like (getD es (firstEntryOf n es) []) (messageEntries n es)
+  unfolding messageEntries firstEntryOf
   message-like before [] h = tt
   message-like before (e ∷ es) h =
       let l = link before e es h in
       go (eqb (numberOf e) n) refl (l .chain) (message-like e es (l .chain))
     where
-      go : (t : Bool) → eqb (numberOf e) n ≡ t → chained e es ≡ true → Like (getD es (firstOf n es) []) (messageEntries n es)
-          → Like (getD (e ∷ es) (on t 0 (suc (firstOf n es))) []) (on t (e ∷ messageEntries n es) (messageEntries n es))
+      go : (t : Bool) → eqb (numberOf e) n ≡ t → chained e es ≡ true → Like (getD es (firstEntryOf n es) []) (messageEntries n es)
+          → Like (getD (e ∷ es) (on t 0 (suc (firstEntryOf n es))) []) (on t (e ∷ messageEntries n es) (messageEntries n es))
       go true q c ih = ((refl, refl), like-rest e es (eqb-true _ _ q) c)
       go false q c ih = ih
 
@@ -179,7 +180,7 @@ pub numbers-like : (before : List ℕ) (es : List (List ℕ)) → chained before
 numbers-like before es h i j x y q =
     let n = numberOf (getD es j []) in
     let l = message-like n before es h in
-    let f = getD es (firstOf n es) [] in
+    let f = getD es (firstEntryOf n es) [] in
     let a = entries-at (λ (e : List ℕ). (senderOf e ≡ senderOf f) × (kindOf e ≡ kindOf f)) n es l i x q in
     let c = entries-at (λ (e : List ℕ). (senderOf e ≡ senderOf f) × (kindOf e ≡ kindOf f)) n es l j y refl in
     (a .0 ∙ sym (c .0), a .1 ∙ sym (c .1))

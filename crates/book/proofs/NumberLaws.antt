@@ -1,6 +1,6 @@
 -- Message numbers: the last of the updates, and where a message may stand. Assumes nothing.
 use mathlib.Core.Path.{_≡_, refl, ap, _∙_}
-use mathlib.Core.Bool.{Bool, true, false}
+use mathlib.Core.Bool.{Bool, true, false, _&&_, _||_}
 use mathlib.Core.List.{List, [], _∷_}
 use mathlib.Core.Logic.{_⊎_, inl, inr, ⊎-elim}
 use Prim.Native.Nat.{ℕ, suc, _+_, _*_, _-_, _/_, _≤_}
@@ -8,14 +8,15 @@ use native.Mathlib.Omega.{arith}
 use borrow.Author.Tests.{eqb-true}
 use lib.Dec.{eqb}
 use lib.ListN.{length}
-use Rattle.lists.specs.Logic.{on, both, either}
+use Rattle.lists.specs.Logic.{on}
 use Rattle.lists.specs.Part.{part}
 use Rattle.lists.specs.BigEndian.{number}
-use Rattle.lists.proofs.LogicLaws.{both-true}
+use Rattle.lists.proofs.LogicLaws.{and-pass}
 use Rattle.lists.proofs.RowLaws.{length-rowsOf}
 use Rattle.book.specs.Entries.{plan-wide, entry-wide, kindOf, numberOf, senderOf, planCount, updatesIn}
-use Rattle.book.specs.Rules.{entryInRange, mayFollow, chained, noEntry, lastFrom, nextNumber, firstOf, runOf, bookSound}
+use Rattle.book.specs.Rules.{entryInRange, mayFollow, chained, noEntry, lastFrom, nextNumber, bookSound}
 use Rattle.book.proofs.SoundLaws.{sound-facts, used-within, updates-are}
+use Rattle.book.specs.inner.Steps.{firstEntryOf, runOf}
 
 -- ---- what one link of a chain tells
 
@@ -31,14 +32,14 @@ unfolding mayFollow
 follow-cases before e h = go (eqb (numberOf e) (numberOf before + 1)) refl h
   where
     same : Bool
-    same = both (eqb (numberOf e) (numberOf before)) (both (eqb (senderOf e) (senderOf before)) (eqb (kindOf e) (kindOf before)))
+    same = eqb (numberOf e) (numberOf before) && eqb (senderOf e) (senderOf before) && eqb (kindOf e) (kindOf before)
 
-    go : (t : Bool) → eqb (numberOf e) (numberOf before + 1) ≡ t → either t same ≡ true → Begins before e ⊎ GoesOn before e
+    go : (t : Bool) → eqb (numberOf e) (numberOf before + 1) ≡ t → (t || same) ≡ true → Begins before e ⊎ GoesOn before e
     go true q h = inl (eqb-true _ _ q)
     go false q h =
-        let x = both-true (eqb (numberOf e) (numberOf before)) _ h in
-        let y = both-true (eqb (senderOf e) (senderOf before)) _ (x .1) in
-        inr (eqb-true _ _ (x .0), eqb-true _ _ (y .0), eqb-true _ _ (y .1))
+        let x = and-pass (eqb (numberOf e) (numberOf before) && eqb (senderOf e) (senderOf before)) _ h in
+        let y = and-pass (eqb (numberOf e) (numberOf before)) _ (x .0) in
+        inr (eqb-true _ _ (y .0), eqb-true _ _ (y .1), eqb-true _ _ (x .1))
 
 pub record Link (before e : List ℕ) (es : List (List ℕ)) : Type 0 where
   pub range : entryInRange e ≡ true
@@ -48,9 +49,9 @@ pub record Link (before e : List ℕ) (es : List (List ℕ)) : Type 0 where
 pub link : (before e : List ℕ) (es : List (List ℕ)) → chained before (e ∷ es) ≡ true → Link before e es
 unfolding chained
 link before e es h =
-    let x = both-true (entryInRange e) _ h in
-    let y = both-true (mayFollow before e) _ (x .1) in
-    record { range = x .0; follows = y .0; chain = y .1 }
+    let x = and-pass (entryInRange e && mayFollow before e) _ h in
+    let y = and-pass (entryInRange e) _ (x .0) in
+    record { range = y .0; follows = y .1; chain = x .1 }
 
 -- a link raises the number by at most one
 pub link-number : (before e : List ℕ) → mayFollow before e ≡ true → (numberOf before ≤ numberOf e) × (numberOf e ≤ numberOf before + 1)
@@ -92,12 +93,12 @@ module _ (used : ℕ) (b : List ℕ) (sound : bookSound used b ≡ true) where
 
 -- ---- where a message stands
 
-pub first-within : (n : ℕ) (es : List (List ℕ)) → firstOf n es ≤ length es
-unfolding firstOf
+pub first-within : (n : ℕ) (es : List (List ℕ)) → firstEntryOf n es ≤ length es
+unfolding firstEntryOf
 first-within n [] = omega arith
 first-within n (e ∷ es) = go (eqb (numberOf e) n) (first-within n es)
   where
-    go : (t : Bool) → firstOf n es ≤ length es → on t 0 (suc (firstOf n es)) ≤ suc (length es)
+    go : (t : Bool) → firstEntryOf n es ≤ length es → on t 0 (suc (firstEntryOf n es)) ≤ suc (length es)
     go true h = omega arith
     go false h = omega arith
 

@@ -12,8 +12,8 @@ use Rattle.lists.specs.BigEndian.{number}
 use Rattle.lists.proofs.PartLaws.{part-at, part-part}
 use Rattle.lists.proofs.RowLaws.{rowsOf-step, rowsOf-start}
 use Rattle.passage.specs.Layout.{body-wide}
-use Rattle.book.specs.Entries.{plan-wide, planBodyOf, number-at, number-wide, sender-at, body-at, entry-wide, kindOf, numberOf, senderOf, bodyOf}
-use Rattle.book.specs.Steps.{planBodyAt}
+use Rattle.book.specs.Entries.{plan-wide, planBodyOf, number-at, number-wide, sender-at, body-at, entry-wide, kindOf, numberOf, senderOf, entryBody}
+use Rattle.book.specs.inner.Steps.{planBodyAt}
 
 -- the first byte of a part
 pub first-at : (p n : ℕ) (b : List ℕ) → 0 < n → getD (part p n b) 0 0 ≡ getD b p 0
@@ -36,7 +36,7 @@ module _ (p : ℕ) (b : List ℕ) where
   pub sender-from : senderOf (part p entry-wide b) ≡ getD b (p + sender-at) 0
   sender-from = part-at p entry-wide b sender-at (omega arith)
 
-  pub body-from : bodyOf (part p entry-wide b) ≡ part (p + body-at) body-wide b
+  pub body-from : entryBody (part p entry-wide b) ≡ part (p + body-at) body-wide b
   body-from = part-part body-at body-wide p entry-wide b (omega arith)
 
 -- ---- of m updates from `at` on, those from place i on

@@ -1,27 +1,26 @@
 -- Plan entries, one after another: their bodies, their count, and whether they are in range and rise. Assumes nothing.
 use mathlib.Core.Path.{_≡_, refl, sym, ap, _∙_}
-use mathlib.Core.Bool.{true, false}
+use mathlib.Core.Bool.{true, false, _&&_}
 use mathlib.Core.List.{List, [], _∷_, map}
 use Prim.Native.Nat.{ℕ, suc, _+_, _*_, _-_, _/_, _≤_, _<_}
 use native.Mathlib.Nat.{add-zero, zero-add}
 use native.Mathlib.Omega.{arith}
 use borrow.Author.Tests.{eq-eqb, ne-eqb}
 use lib.ListN.{length, drop, getD, length-map}
-use Rattle.lists.specs.Logic.{both}
 use Rattle.lists.specs.Part.{part}
 use Rattle.lists.specs.Rows.{rowsOf, Wide}
-use Rattle.lists.proofs.LogicLaws.{both-true}
+use Rattle.lists.proofs.LogicLaws.{and-pass, not-then}
 use Rattle.lists.proofs.PartLaws.{length-part, part-part}
 use Rattle.lists.proofs.RowLaws.{rowsOf-step, rowsOf-start, length-rowsOf}
 use Rattle.lists.proofs.WideLaws.{wide-rowsOf}
 use Rattle.passage.specs.Layout.{key-wide, body-wide, keyOf}
-use Rattle.passage.specs.Ranges.{allCommon, planInRange}
-use Rattle.passage.proofs.TestLaws.{not-then}
+use Rattle.passage.specs.Ranges.{planInRange}
 use Rattle.passage.proofs.RangeLaws.{plan-facts, facts-common}
 use Rattle.book.specs.Entries.{plan-wide, planBodyOf, leading, planCount}
 use Rattle.book.specs.Rules.{allPlans}
-use Rattle.book.specs.Steps.{planBodyAt}
+use Rattle.book.specs.inner.Steps.{planBodyAt}
 use Rattle.book.proofs.PlaceLaws.{first-at, plan-body-at}
+use Rattle.passage.specs.inner.Roles.{allCommon}
 
 -- ---- the bodies of n plan entries
 
@@ -69,7 +68,7 @@ module _ (b : List ℕ) (n : ℕ) where
   pub plans-start : allPlans (map planBodyOf (rowsOf plan-wide n b)) ≡ allPlans (bodiesFrom 0)
   plans-start = ap (λ (es : List (List ℕ)). allPlans (map planBodyOf es)) (rowsOf-start plan-wide n b)
 
-  pub plans-step : (i : ℕ) → i < n → allPlans (bodiesFrom i) ≡ both (planInRange (planBodyAt i b)) (allPlans (bodiesFrom (i + 1)))
+  pub plans-step : (i : ℕ) → i < n → allPlans (bodiesFrom i) ≡ (planInRange (planBodyAt i b) && allPlans (bodiesFrom (i + 1)))
   unfolding allPlans
   plans-step i h = rw (rowsOf-step plan-wide n i b h, plan-body-at i b)
 
@@ -82,7 +81,7 @@ plans-common : (bodies : List (List ℕ)) → allPlans bodies ≡ true → allCo
 unfolding allPlans allCommon
 plans-common [] e = refl
 plans-common (x ∷ bodies) e =
-    let p = both-true (planInRange x) (allPlans bodies) e in
+    let p = and-pass (planInRange x) (allPlans bodies) e in
     rw (facts-common x (plan-facts x (p .0) .common)) (plans-common bodies (p .1))
 
 pub plans-none : (bodies : List (List ℕ)) → allCommon bodies ≡ false → allPlans bodies ≡ false

@@ -1,20 +1,19 @@
 -- What a sound book is made of, and what the code's tests tell of it. Assumes nothing.
 use mathlib.Core.Path.{_≡_, refl, sym}
-use mathlib.Core.Bool.{Bool, true, false}
+use mathlib.Core.Bool.{Bool, true, false, _&&_}
 use mathlib.Core.List.{List, [], _∷_}
 use Prim.Native.Nat.{ℕ, suc, _*_, _-_, _/_, _%_, _≤_, _<_}
 use native.Mathlib.Omega.{arith}
 use borrow.Author.Tests.{le-leb, lt-leb, leb-true, leb-false, eq-eqb, ne-eqb, eqb-true}
 use lib.Dec.{eqb, leb}
 use lib.ListN.{length, drop}
-use Rattle.lists.specs.Logic.{on, both}
+use Rattle.lists.specs.Logic.{on}
 use Rattle.lists.specs.Rows.{rowsOf}
-use Rattle.lists.proofs.LogicLaws.{both-true}
+use Rattle.lists.proofs.LogicLaws.{all-pass}
 use Rattle.lists.proofs.RowLaws.{length-rowsOf}
 use Rattle.keys.specs.Sorted.{sortedRows}
 use Rattle.book.specs.Entries.{plan-wide, entry-wide, kindOf, leading, planCount, behindPlans, plansIn, updatesIn, planBodies}
 use Rattle.book.specs.Rules.{most-bytes, bookRoom, allPlans, chained, noEntry, bookSound}
-use Rattle.book.proofs.TestLaws.{both-assoc}
 use Rattle.book.proofs.PlanLaws.{bodies}
 
 -- ---- the room
@@ -68,12 +67,11 @@ module _ (used : ℕ) (b : List ℕ) (n : ℕ) (e : n ≡ planCount used b) wher
   sound-ragged h k = rw (le-leb _ _ h, ne-eqb (behindPlans used b % entry-wide) 0 (rw e at k))
 
   pub sound-is : used ≤ bookRoom b → (used - n * plan-wide) % entry-wide ≡ 0 → bookSound used b
-      ≡ both
-      (both (allPlans (bodies n b)) (sortedRows (bodies n b)))
-      (chained noEntry (rowsOf entry-wide ((used - n * plan-wide) / entry-wide) (drop (n * plan-wide) b)))
+      ≡ ((allPlans (bodies n b) && sortedRows (bodies n b))
+      && chained noEntry (rowsOf entry-wide ((used - n * plan-wide) / entry-wide) (drop (n * plan-wide) b)))
   unfolding bookSound plansIn updatesIn
   sound-is h k =
-      rw (le-leb _ _ h, eq-eqb (behindPlans used b % entry-wide) 0 (rw e at k), e) (sym (both-assoc (allPlans (planBodies used b)) (sortedRows (planBodies used b)) _))
+      rw (le-leb _ _ h, eq-eqb (behindPlans used b % entry-wide) 0 (rw e at k), e)
 
 pub sound-none : (used : ℕ) (b : List ℕ) → bookRoom b < used → bookSound used b ≡ false
 unfolding bookSound
@@ -92,11 +90,12 @@ module _ (used : ℕ) (b : List ℕ) where
   pub sound-facts : bookSound used b ≡ true → Sound used b
   unfolding bookSound
   sound-facts e =
-      let p = both-true (leb used (bookRoom b)) _ e in
-      let q = both-true (eqb (behindPlans used b % entry-wide) 0) _ (p .1) in
-      let r = both-true (allPlans (planBodies used b)) _ (q .1) in
-      let s = both-true (sortedRows (planBodies used b)) _ (r .1) in
-      record { room = leb-true _ _ (p .0); whole = eqb-true _ _ (q .0); ranges = r .0; rises = s .0; chain = s .1 }
+      let room = leb used (bookRoom b) in
+      let whole = eqb (behindPlans used b % entry-wide) 0 in
+      let ranges = allPlans (planBodies used b) in
+      let rises = sortedRows (planBodies used b) in
+      let told = all-pass room (whole ∷ ranges ∷ rises ∷ chained noEntry (updatesIn used b) ∷ []) e in
+      record { room = leb-true _ _ (told 0); whole = eqb-true _ _ (told 1); ranges = told 2; rises = told 3; chain = told 4 }
 
   pub facts-sound : Sound used b → bookSound used b ≡ true
   unfolding bookSound

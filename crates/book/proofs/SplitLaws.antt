@@ -1,22 +1,22 @@
 -- How used bytes split: plan entries first, then updates, nothing between; and which bytes split so. Assumes nothing.
 use mathlib.Core.Path.{_≡_, refl, sym, ap, _∙_}
-use mathlib.Core.Bool.{Bool, true, false}
+use mathlib.Core.Bool.{Bool, true, false, _&&_}
 use mathlib.Core.List.{List, [], _∷_, _++_}
 use Prim.Native.Nat.{ℕ, zero, suc, _+_, _*_, _-_, _/_, _≤_, _<_}
 use native.Mathlib.Nat.{zero-add, suc-add, add-zero}
 use native.Mathlib.Omega.{arith}
 use borrow.Author.Tests.{eq-eqb, ne-eqb, eqb-true}
-use lib.Dec.{eqb}
+use lib.Dec.{eqb, leb}
 use lib.ListN.{length, take, drop, getD, length-drop}
 use lib.Seq.{take-add, getD-take}
 use Rattle.lists.specs.Each.{Each}
 use Rattle.lists.specs.Logic.{on, within}
 use Rattle.lists.specs.Rows.{rowsOf, flat, Wide}
-use Rattle.lists.proofs.LogicLaws.{both-true, within-true}
+use Rattle.lists.proofs.LogicLaws.{and-pass, within-true}
 use Rattle.lists.proofs.RowLaws.{rowsOf-append, length-rowsOf, flat-rowsOf, take-rowsOf}
 use Rattle.lists.proofs.WideLaws.{wide-rowsOf}
 use Rattle.keys.specs.Sorted.{sortedRows}
-use Rattle.book.specs.Entries.{plan-wide, entry-wide, kindOf, leading, planCount, behindPlans, plansIn, updatesIn}
+use Rattle.book.specs.Entries.{plan-wide, entry-wide, kindOf, senderOf, leading, planCount, behindPlans, plansIn, updatesIn}
 use Rattle.book.specs.Rules.{bookRoom, allPlans, entryInRange, chained, noEntry, bookSound}
 use Rattle.book.proofs.PlanLaws.{bodies}
 use Rattle.book.proofs.SoundLaws.{sound-facts, facts-sound, used-within, plans-within}
@@ -53,7 +53,7 @@ leading-other (suc j) t h =
 update-kind : (e : List ℕ) → entryInRange e ≡ true → kindOf e ≡ 1 → ⊥
 unfolding entryInRange
 update-kind e h k =
-    let r = both-true (within 2 3 (kindOf e)) _ h .0 in
+    let r = and-pass (within 2 3 (kindOf e)) _ (and-pass (within 2 3 (kindOf e) && leb 1 (senderOf e)) _ h .0) .0 in
     let w = within-true 2 3 (kindOf e) r .0 in
     absurd (omega arith)
 

@@ -1,6 +1,6 @@
 -- The bodies of standing updates, and what a sound book's bodies hold. Assumes nothing.
 use mathlib.Core.Path.{_≡_, refl, ap, _∙_}
-use mathlib.Core.Bool.{Bool, true, false}
+use mathlib.Core.Bool.{Bool, true, false, _&&_}
 use mathlib.Core.List.{List, [], _∷_, _++_}
 use Prim.Native.Nat.{ℕ, _+_, _<_, _^_}
 use native.Mathlib.Omega.{arith}
@@ -8,12 +8,12 @@ use lib.Dec.{eqb, leb}
 use lib.ListN.{length}
 use Rattle.lists.specs.Logic.{on, within}
 use Rattle.lists.specs.Rows.{Wide}
-use Rattle.lists.proofs.LogicLaws.{both-true}
+use Rattle.lists.proofs.LogicLaws.{and-pass}
 use Rattle.lists.proofs.PartLaws.{length-part}
 use Rattle.passage.specs.Layout.{body-wide}
 use Rattle.passage.specs.Ranges.{planInRange, updateInRange}
-use Rattle.book.specs.Entries.{number-wide, body-at, entry-wide, kindOf, numberOf, senderOf, bodyOf, entryOf, entriesOf, planCount, planBodies}
-use Rattle.book.specs.Rules.{entryInRange, allPlans, chained, noEntry, lastFrom, nextNumber, marked, withdrawn, others, standing, bookSound}
+use Rattle.book.specs.Entries.{number-wide, body-at, entry-wide, kindOf, numberOf, senderOf, entryBody, entryOf, entriesOf, planCount, planBodies}
+use Rattle.book.specs.Rules.{entryInRange, allPlans, chained, noEntry, lastFrom, nextNumber, markedWithdrawn, withdrawn, others, standing, bookSound}
 use Rattle.book.specs.Claims.{UpdateBodies, PlanBodies}
 use Rattle.book.proofs.PlanLaws.{wide-bodies}
 use Rattle.book.proofs.SoundLaws.{sound-facts, used-within, plans-within}
@@ -29,8 +29,8 @@ standing-append [] ys = refl
 standing-append (x ∷ xs) ys = go (eqb (kindOf x) 2) (standing-append xs ys)
   where
     go : (t : Bool) → standing (xs ++ ys) ≡ standing xs ++ standing ys
-        → on t (bodyOf x ∷ standing (xs ++ ys)) (standing (xs ++ ys)) ≡ on t (bodyOf x ∷ standing xs) (standing xs) ++ standing ys
-    go true ih = ap (λ (r : List (List ℕ)). bodyOf x ∷ r) ih
+        → on t (entryBody x ∷ standing (xs ++ ys)) (standing (xs ++ ys)) ≡ on t (entryBody x ∷ standing xs) (standing xs) ++ standing ys
+    go true ih = ap (λ (r : List (List ℕ)). entryBody x ∷ r) ih
     go false ih = ih
 
 -- of a new message, all its bodies
@@ -45,17 +45,17 @@ unfolding standing withdrawn others
 standing-withdrawn n [] h = refl
 standing-withdrawn n (e ∷ es) h = go (eqb (numberOf e) n) (standing-withdrawn n es (h .1))
   where
-    go : (t : Bool) → standing (withdrawn n es) ≡ standing (others n es) → standing (on t (marked e) e ∷ withdrawn n es) ≡ standing (on t (others n es) (e ∷ others n es))
+    go : (t : Bool) → standing (withdrawn n es) ≡ standing (others n es) → standing (on t (markedWithdrawn e) e ∷ withdrawn n es) ≡ standing (on t (others n es) (e ∷ others n es))
     go true ih = rw (marked-kind e (h .0)) ih
     go false ih = rw ih
 
 -- ---- ranges
 
-body-ranges : (e : List ℕ) → length e ≡ entry-wide → entryInRange e ≡ true → (length (bodyOf e) ≡ body-wide) × (updateInRange (bodyOf e) ≡ true)
+body-ranges : (e : List ℕ) → length e ≡ entry-wide → entryInRange e ≡ true → (length (entryBody e) ≡ body-wide) × (updateInRange (entryBody e) ≡ true)
 unfolding entryInRange
 body-ranges e l h = (
   length-part body-at body-wide e (omega arith),
-  both-true (leb 1 (senderOf e)) _ (both-true (within 2 3 (kindOf e)) _ h .1) .1,
+  and-pass (within 2 3 (kindOf e) && leb 1 (senderOf e)) _ h .1,
 )
 
 pub standing-ranges : (before : List ℕ) (es : List (List ℕ)) → Wide entry-wide es → chained before es ≡ true → UpdateBodies (standing es)
@@ -65,14 +65,14 @@ standing-ranges before (e ∷ es) w h =
     let l = link before e es h in
     go (eqb (kindOf e) 2) (body-ranges e (w .0) (l .range)) (standing-ranges e es (w .1) (l .chain))
   where
-    go : (t : Bool) → (length (bodyOf e) ≡ body-wide) × (updateInRange (bodyOf e) ≡ true) → UpdateBodies (standing es) → UpdateBodies (on t (bodyOf e ∷ standing es) (standing es))
+    go : (t : Bool) → (length (entryBody e) ≡ body-wide) × (updateInRange (entryBody e) ≡ true) → UpdateBodies (standing es) → UpdateBodies (on t (entryBody e ∷ standing es) (standing es))
     go true b ih = (b, ih)
     go false b ih = ih
 
 plan-ranges : (bodies : List (List ℕ)) → Wide body-wide bodies → allPlans bodies ≡ true → PlanBodies bodies
 unfolding allPlans
 plan-ranges [] w h = tt
-plan-ranges (b ∷ bs) w h = let p = both-true (planInRange b) (allPlans bs) h in ((w .0, p .0), plan-ranges bs (w .1) (p .1))
+plan-ranges (b ∷ bs) w h = let p = and-pass (planInRange b) (allPlans bs) h in ((w .0, p .0), plan-ranges bs (w .1) (p .1))
 
 pub sound-plan-ranges : (used : ℕ) (b : List ℕ) → bookSound used b ≡ true → PlanBodies (planBodies used b)
 sound-plan-ranges used b sound =
@@ -89,9 +89,9 @@ sound-plan-ranges used b sound =
 last-withdrawn : (n : ℕ) (a b : List ℕ) (es : List (List ℕ)) → numberOf a ≡ numberOf b → numberOf (lastFrom a (withdrawn n es)) ≡ numberOf (lastFrom b es)
 unfolding lastFrom withdrawn
 last-withdrawn n a b [] h = h
-last-withdrawn n a b (e ∷ es) h = last-withdrawn n (on (eqb (numberOf e) n) (marked e) e) e es (go (eqb (numberOf e) n))
+last-withdrawn n a b (e ∷ es) h = last-withdrawn n (on (eqb (numberOf e) n) (markedWithdrawn e) e) e es (go (eqb (numberOf e) n))
   where
-    go : (t : Bool) → numberOf (on t (marked e) e) ≡ numberOf e
+    go : (t : Bool) → numberOf (on t (markedWithdrawn e) e) ≡ numberOf e
     go true = marked-number e
     go false = refl
 

@@ -12,7 +12,7 @@ use Rattle.lists.proofs.OverLaws.{over-nil, over-snoc}
 use Rattle.lists.proofs.RowLaws.{rowsOf-append}
 use Rattle.passage.specs.Layout.{body-wide}
 use Rattle.book.specs.Entries.{entry-wide, entryOf, entriesOf}
-use Rattle.book.specs.Rules.{marked}
+use Rattle.book.specs.Rules.{markedWithdrawn}
 
 -- a part of n bytes, as `&l[a..a + n]` is written out
 pub lent-part : (a n : ℕ) (l : List ℕ) → take (a + n - a) (drop a l) ≡ part a n l
@@ -45,10 +45,10 @@ length-entriesOf n s bodies = length-map bodies (entryOf n s)
 
 -- ---- marks
 
-pub length-marked : (e : List ℕ) → length (marked e) ≡ length e
-unfolding marked
+pub length-marked : (e : List ℕ) → length (markedWithdrawn e) ≡ length e
+unfolding markedWithdrawn
 length-marked e = length-set e 0 3
 
-pub wide-marked : (w : ℕ) (es : List (List ℕ)) → Wide w es → Wide w (map marked es)
+pub wide-marked : (w : ℕ) (es : List (List ℕ)) → Wide w es → Wide w (map markedWithdrawn es)
 wide-marked w [] h = tt
 wide-marked w (e ∷ es) h = (length-marked e ∙ h .0, wide-marked w es (h .1))

@@ -6,9 +6,13 @@ use Prim.Native.Nat.{ℕ}
 use Rattle.lists.specs.Part.{part}
 use Rattle.lists.specs.Rows.{rowsOf}
 use Rattle.lists.specs.BigEndian.{number, spelled}
-use Rattle.book.specs.Entries.{leading, planCount, plansIn, updatesIn, entryOf}
-use Rattle.book.specs.Rules.{bookRoom, bookSound, mayFollow, allPlans, chained, noEntry, lastFrom, nextNumber, messageEntries, marked, withdrawn}
+use Rattle.book.specs.Entries.{plan-wide, number-at, number-wide, sender-at, body-at, entry-wide, leading, planCount, plansIn, updatesIn, entryOf}
+use Rattle.book.specs.Rules.{bookRoom, bookSound, mayFollow, allPlans, chained, noEntry, lastFrom, nextNumber, messageEntries, markedWithdrawn, withdrawn}
 use Rattle.keys.specs.Sorted.{sortedRows}
+
+-- each offset and width of the paper
+layout-case : (plan-wide ≡ 67) × (number-at ≡ 1) × (number-wide ≡ 4) × (sender-at ≡ 5) × (body-at ≡ 6) × (entry-wide ≡ 72)
+layout-case = (refl, refl, refl, refl, refl, refl)
 
 -- kind, message number, sender
 head : ℕ → ℕ → ℕ → List ℕ
@@ -48,7 +52,7 @@ unfolding nextNumber lastFrom noEntry number part updates head
 next-case = (refl, refl)
 
 withdrawn-case : withdrawn 2 updates ≡ head 3 1 7 ∷ head 3 2 9 ∷ head 3 2 9 ∷ []
-unfolding withdrawn marked number part updates head
+unfolding withdrawn markedWithdrawn number part updates head
 withdrawn-case = refl
 
 entries-case : messageEntries 2 updates ≡ head 2 2 9 ∷ head 2 2 9 ∷ []

@@ -9,13 +9,17 @@ use Rattle.lists.specs.Rows.{rowsOf}
 use Rattle.lists.specs.BigEndian.{number, spelled}
 use Rattle.passage.specs.Layout.{body-wide}
 
+-- every entry begins with its kind
+abbrev pub kind-wide : ℕ
+kind-wide = 1
+
 -- ---- plan entries: kind 1, then a body
 
 abbrev pub plan-wide : ℕ
-plan-wide = 1 + body-wide
+plan-wide = kind-wide + body-wide
 
 abbrev pub planBodyOf : List ℕ → List ℕ
-planBodyOf e = part 1 body-wide e
+planBodyOf e = part kind-wide body-wide e
 
 abbrev pub planEntry : List ℕ → List ℕ
 planEntry body = 1 ∷ body
@@ -23,7 +27,7 @@ planEntry body = 1 ∷ body
 -- ---- updates: kind 2 standing or 3 withdrawn, message number, sender, then a body
 
 abbrev pub number-at : ℕ
-number-at = 1
+number-at = kind-wide
 
 abbrev pub number-wide : ℕ
 number-wide = 4
@@ -47,8 +51,8 @@ numberOf e = number (part number-at number-wide e)
 abbrev pub senderOf : List ℕ → ℕ
 senderOf e = getD e sender-at 0
 
-abbrev pub bodyOf : List ℕ → List ℕ
-bodyOf e = part body-at body-wide e
+abbrev pub entryBody : List ℕ → List ℕ
+entryBody e = part body-at body-wide e
 
 -- a standing entry of message n from a sender
 unfoldable pub entryOf : ℕ → ℕ → List ℕ → List ℕ

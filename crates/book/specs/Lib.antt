@@ -1,5 +1,6 @@
 pub mod Entries
 pub mod Rules
-pub mod Steps
+pub mod Facts
 pub mod Claims
 pub mod Cases
+pub mod inner

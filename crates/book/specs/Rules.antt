@@ -1,14 +1,14 @@
 -- A sound book, its next message number, a message's entries, withdrawal, and what the book says of a key. Assumes nothing.
-use Prim.Native.Nat.{ℕ, suc, _+_, _%_}
-use mathlib.Core.Bool.{Bool, true}
+use Prim.Native.Nat.{ℕ, _+_, _%_}
+use mathlib.Core.Bool.{Bool, true, _&&_, _||_}
 use mathlib.Core.List.{List, [], _∷_, _++_, map}
 use lib.Dec.{eqb, leb}
 use lib.ListN.{length, set, replicate}
-use Rattle.lists.specs.Logic.{on, both, either, within}
+use Rattle.lists.specs.Logic.{on, within}
 use Rattle.passage.specs.Ranges.{planInRange, updateInRange}
 use Rattle.keys.specs.Sorted.{sortedRows, get}
 use Rattle.keys.specs.Replay.{Rule, replayed}
-use Rattle.book.specs.Entries.{entry-wide, kindOf, numberOf, senderOf, bodyOf, behindPlans, planBodies, updatesIn}
+use Rattle.book.specs.Entries.{entry-wide, kindOf, numberOf, senderOf, entryBody, behindPlans, planBodies, updatesIn}
 
 -- of a lent book at most these bytes are used
 abbrev pub most-bytes : ℕ
@@ -22,23 +22,22 @@ bookRoom b = on (leb (length b) most-bytes) (length b) most-bytes
 
 unfoldable pub allPlans : List (List ℕ) → Bool
 allPlans [] = true
-allPlans (body ∷ bodies) = both (planInRange body) (allPlans bodies)
+allPlans (body ∷ bodies) = planInRange body && allPlans bodies
 
 -- an update's kind, sender and body
 unfoldable pub entryInRange : List ℕ → Bool
-entryInRange e = both (within 2 3 (kindOf e)) (both (leb 1 (senderOf e)) (updateInRange (bodyOf e)))
+entryInRange e = within 2 3 (kindOf e) && leb 1 (senderOf e) && updateInRange (entryBody e)
 
 -- the entry e may stand behind the entry `before`: it begins the next message, or goes on with the same number, sender and kind
 unfoldable pub mayFollow : List ℕ → List ℕ → Bool
 mayFollow before e =
-    either
-    (eqb (numberOf e) (numberOf before + 1))
-    (both (eqb (numberOf e) (numberOf before)) (both (eqb (senderOf e) (senderOf before)) (eqb (kindOf e) (kindOf before))))
+    eqb (numberOf e) (numberOf before + 1)
+    || (eqb (numberOf e) (numberOf before) && eqb (senderOf e) (senderOf before) && eqb (kindOf e) (kindOf before))
 
 -- each entry in range, and each may follow the one before it
 unfoldable pub chained : List ℕ → List (List ℕ) → Bool
 chained before [] = true
-chained before (e ∷ es) = both (entryInRange e) (both (mayFollow before e) (chained e es))
+chained before (e ∷ es) = entryInRange e && mayFollow before e && chained e es
 
 -- before the first update: number 0, and a kind that no update has
 unfoldable pub noEntry : List ℕ
@@ -47,11 +46,11 @@ noEntry = replicate entry-wide 0
 -- used bytes that split into plan entries by key strictly rising and updates in order, every field in its range
 unfoldable pub bookSound : ℕ → List ℕ → Bool
 bookSound used b =
-    both (leb used (bookRoom b))
-    (both (eqb (behindPlans used b % entry-wide) 0)
-    (both (allPlans (planBodies used b))
-    (both (sortedRows (planBodies used b))
-    (chained noEntry (updatesIn used b)))))
+    leb used (bookRoom b)
+    && eqb (behindPlans used b % entry-wide) 0
+    && allPlans (planBodies used b)
+    && sortedRows (planBodies used b)
+    && chained noEntry (updatesIn used b)
 
 -- ---- messages
 
@@ -75,32 +74,20 @@ others n [] = []
 others n (e ∷ es) = on (eqb (numberOf e) n) (others n es) (e ∷ others n es)
 
 -- an entry becomes kind 3
-unfoldable pub marked : List ℕ → List ℕ
-marked e = set e 0 3
+unfoldable pub markedWithdrawn : List ℕ → List ℕ
+markedWithdrawn e = set e 0 3
 
 -- the entries of message n become kind 3
 unfoldable pub withdrawn : ℕ → List (List ℕ) → List (List ℕ)
 withdrawn n [] = []
-withdrawn n (e ∷ es) = on (eqb (numberOf e) n) (marked e) e ∷ withdrawn n es
-
--- ---- where a message stands
-
--- how many updates stand before the first of message n
-unfoldable pub firstOf : ℕ → List (List ℕ) → ℕ
-firstOf n [] = 0
-firstOf n (e ∷ es) = on (eqb (numberOf e) n) 0 (suc (firstOf n es))
-
--- how many updates of message n these begin with
-unfoldable pub runOf : ℕ → List (List ℕ) → ℕ
-runOf n [] = 0
-runOf n (e ∷ es) = on (eqb (numberOf e) n) (suc (runOf n es)) 0
+withdrawn n (e ∷ es) = on (eqb (numberOf e) n) (markedWithdrawn e) e ∷ withdrawn n es
 
 -- ---- what the book says of a key
 
 -- the bodies of the standing updates, in the order accepted
 unfoldable pub standing : List (List ℕ) → List (List ℕ)
 standing [] = []
-standing (e ∷ es) = on (eqb (kindOf e) 2) (bodyOf e ∷ standing es) (standing es)
+standing (e ∷ es) = on (eqb (kindOf e) 2) (entryBody e ∷ standing es) (standing es)
 
 -- a plan passage as a row: heard 0
 unfoldable pub planRow : List ℕ → List ℕ
@@ -109,6 +96,6 @@ planRow body = body ++ 0 ∷ []
 unfoldable pub planRows : List (List ℕ) → List (List ℕ)
 planRows bodies = map planRow bodies
 
--- the row of key k from the plan's bodies and the standing ones of the updates, [] where there is neither
+-- the row of key k: that of the plan, changed by the standing updates of that key in their order; [], no row, where there is neither
 unfoldable pub rowFor : Rule → List (List ℕ) → List (List ℕ) → List ℕ → List ℕ
 rowFor rule bodies us k = replayed rule k (get k (planRows bodies)) (standing us)

@@ -1,24 +1,27 @@
-// The day book: how entries lie in its bytes, their split, order and ranges, and whether it is sound. `entries` writes entries, `finding` finds them.
+// The day book: how entries lie in its bytes, their split, order and ranges, and whether it is sound. `book_write` writes entries, `book_find` finds them.
 ghost use mathlib.Core.Path.{_≡_};
-ghost use mathlib.Core.Bool.{true};
+ghost use mathlib.Core.Bool.{true, _&&_};
 ghost use mathlib.Core.List.{map};
 ghost use Prim.Native.Nat.{_+_, _*_, _≤_};
 ghost use lib.ListN.{length, drop};
-ghost use Rattle.lists.specs.Logic.{both};
 ghost use Rattle.lists.specs.Part.{part};
 ghost use Rattle.lists.specs.Rows.{rowsOf};
 ghost use Rattle.passage.specs.Layout.{body-wide};
-ghost use Rattle.passage.specs.Ranges.{commonInRange, allCommon};
+ghost use Rattle.passage.specs.Ranges.{commonInRange};
 ghost use Rattle.keys.specs.Sorted.{sortedRows};
-ghost use Rattle.book.specs.Entries.{plan-wide, body-at, entry-wide, planCount, planBodyOf, bodyOf};
+ghost use Rattle.book.specs.Entries.{plan-wide, body-at, entry-wide, planCount, planBodyOf, entryBody};
 ghost use Rattle.book.specs.Rules.{allPlans, bookRoom, bookSound, chained, entryInRange, noEntry};
-ghost use Rattle.book.specs.Steps.{followsAs};
+ghost use Rattle.book.specs.inner.Steps.{followsAs};
+ghost use Rattle.passage.specs.inner.Roles.{allCommon};
+
+// Every entry begins with its kind.
+pub const KIND_WIDE: usize = 1;
 
 // A plan entry: kind 1, then a body.
-pub const PLAN_WIDE: usize = 1 + passage::BODY_WIDE;
+pub const PLAN_WIDE: usize = KIND_WIDE + passage::BODY_WIDE;
 
 // An update: kind, message number, sender, then a body.
-pub const NUMBER_AT: usize = 1;
+pub const NUMBER_AT: usize = KIND_WIDE;
 
 pub const NUMBER_WIDE: usize = 4;
 
@@ -32,14 +35,14 @@ pub const ENTRY_WIDE: usize = BODY_AT + passage::BODY_WIDE;
 pub const MOST_BYTES: usize = 294912;
 
 // How many plan entries the used bytes begin with.
-pub fn count_plans(b: &[u8], used: usize) -> usize
-    requires { ⌜ used ≤ length (now b) ⌝ }
-    ensures { λ r. ⌜ r ≡ planCount used (now (b .entry)) ⌝ }
+pub fn count_plans(book: &[u8], used: usize) -> usize
+    requires { ⌜ used ≤ length (now book) ⌝ }
+    ensures { λ r. ⌜ r ≡ planCount used (now (book .entry)) ⌝ }
 {
     let n = used / PLAN_WIDE;
     let mut i = 0;
     while i < n {
-        let kind = b[i * PLAN_WIDE];
+        let kind = book[i * PLAN_WIDE];
         if kind != 1 {
             return i;
         }
@@ -48,15 +51,15 @@ pub fn count_plans(b: &[u8], used: usize) -> usize
     n
 }
 
-// Whether each of the first n plan entries is in range, where what is common is.
-fn plans_in_range(b: &[u8], n: usize) -> bool
-    requires { ⌜ n * plan-wide ≤ length (now b) ⌝ }
-    requires { ⌜ allCommon (map planBodyOf (rowsOf plan-wide n (now b))) ≡ true ⌝ }
-    ensures { λ r. ⌜ r ≡ allPlans (map planBodyOf (rowsOf plan-wide n (now (b .entry)))) ⌝ }
+// Whether each of the first `plans` plan entries is in range, where what is common is.
+fn plans_in_range(book: &[u8], plans: usize) -> bool
+    requires { ⌜ plans * plan-wide ≤ length (now book) ⌝ }
+    requires { ⌜ allCommon (map planBodyOf (rowsOf plan-wide plans (now book))) ≡ true ⌝ }
+    ensures { λ r. ⌜ r ≡ allPlans (map planBodyOf (rowsOf plan-wide plans (now (book .entry)))) ⌝ }
 {
     let mut i = 0;
-    while i < n {
-        let good = passage::plan_in_range(b, i * PLAN_WIDE + 1);
+    while i < plans {
+        let good = passage::plan_in_range(book, i * PLAN_WIDE + KIND_WIDE);
         if good {
             i += 1;
         } else {
@@ -66,16 +69,16 @@ fn plans_in_range(b: &[u8], n: usize) -> bool
     true
 }
 
-// Whether the first n plan entries are in range, by key strictly rising.
-fn plans_are_sound(b: &[u8], n: usize) -> bool
-    requires { ⌜ n * plan-wide ≤ length (now b) ⌝ }
-    ensures { λ r. ⌜ r ≡ both (allPlans (map planBodyOf (rowsOf plan-wide n (now (b .entry))))) (sortedRows (map planBodyOf (rowsOf plan-wide n (now (b .entry))))) ⌝ }
+// Whether the first `plans` plan entries are in range, by key strictly rising.
+fn plans_are_sound(book: &[u8], plans: usize) -> bool
+    requires { ⌜ plans * plan-wide ≤ length (now book) ⌝ }
+    ensures { λ r. ⌜ r ≡ (allPlans (map planBodyOf (rowsOf plan-wide plans (now (book .entry)))) && sortedRows (map planBodyOf (rowsOf plan-wide plans (now (book .entry))))) ⌝ }
 {
-    let common = passage::all_common(b, 0, PLAN_WIDE, 1, n);
+    let common = passage::all_common(book, 0, PLAN_WIDE, KIND_WIDE, plans);
     if common {
-        let good = plans_in_range(b, n);
+        let good = plans_in_range(book, plans);
         if good {
-            keys::keys_rise(b, PLAN_WIDE, 1, n)
+            keys::keys_rise(book, PLAN_WIDE, KIND_WIDE, plans)
         } else {
             false
         }
@@ -84,35 +87,35 @@ fn plans_are_sound(b: &[u8], n: usize) -> bool
     }
 }
 
-// Whether the update from p on is in range, where what is common is, and may stand behind one with this number, sender and kind.
-fn entry_is_sound(b: &[u8], p: usize, number: u32, sender: u8, kind: u8) -> bool
-    requires { ⌜ p + entry-wide ≤ length (now b) ⌝ }
-    requires { ⌜ commonInRange (part (p + body-at) body-wide (now b)) ≡ true ⌝ }
-    ensures { λ r. ⌜ r ≡ both (entryInRange (part p entry-wide (now (b .entry)))) (followsAs number sender kind (part p entry-wide (now (b .entry)))) ⌝ }
+// Whether the update from `at` on is in range, where what is common is, and may stand behind one with this number, sender and kind.
+fn entry_is_sound(book: &[u8], at: usize, number: u32, sender: u8, kind: u8) -> bool
+    requires { ⌜ at + entry-wide ≤ length (now book) ⌝ }
+    requires { ⌜ commonInRange (part (at + body-at) body-wide (now book)) ≡ true ⌝ }
+    ensures { λ r. ⌜ r ≡ (entryInRange (part at entry-wide (now (book .entry))) && followsAs number sender kind (part at entry-wide (now (book .entry)))) ⌝ }
 {
-    let k = b[p];
-    let n = lists::get_number(b, p + NUMBER_AT, NUMBER_WIDE);
-    let s = b[p + SENDER_AT];
+    let k = book[at];
+    let n = lists::get_number(book, at + NUMBER_AT, NUMBER_WIDE);
+    let s = book[at + SENDER_AT];
     let follows = (n as u64 == number as u64 + 1) | ((n == number) & ((s == sender) & (k == kind)));
-    (((2 <= k) & (k <= 3)) & ((1 <= s) & passage::update_in_range(b, p + BODY_AT))) & follows
+    (((2 <= k) & (k <= 3)) & ((1 <= s) & passage::update_in_range(book, at + BODY_AT))) & follows
 }
 
-// Whether the m updates from `at` on are in range, where what is common is, each where it may follow the one before.
-fn updates_follow(b: &[u8], at: usize, m: usize) -> bool
-    requires { ⌜ at + m * entry-wide ≤ length (now b) ⌝ }
-    requires { ⌜ allCommon (map bodyOf (rowsOf entry-wide m (drop at (now b)))) ≡ true ⌝ }
-    ensures { λ r. ⌜ r ≡ chained noEntry (rowsOf entry-wide m (drop at (now (b .entry)))) ⌝ }
+// Whether the updates from `at` on are in range, where what is common is, each where it may follow the one before.
+fn updates_follow(book: &[u8], at: usize, entries: usize) -> bool
+    requires { ⌜ at + entries * entry-wide ≤ length (now book) ⌝ }
+    requires { ⌜ allCommon (map entryBody (rowsOf entry-wide entries (drop at (now book)))) ≡ true ⌝ }
+    ensures { λ r. ⌜ r ≡ chained noEntry (rowsOf entry-wide entries (drop at (now (book .entry)))) ⌝ }
 {
     let mut number: u32 = 0;
     let mut sender: u8 = 0;
     let mut kind: u8 = 0;
     let mut i = 0;
-    while i < m {
+    while i < entries {
         let p = at + i * ENTRY_WIDE;
-        if entry_is_sound(b, p, number, sender, kind) {
-            number = lists::get_number(b, p + NUMBER_AT, NUMBER_WIDE);
-            sender = b[p + SENDER_AT];
-            kind = b[p];
+        if entry_is_sound(book, p, number, sender, kind) {
+            number = lists::get_number(book, p + NUMBER_AT, NUMBER_WIDE);
+            sender = book[p + SENDER_AT];
+            kind = book[p];
             i += 1;
         } else {
             return false;
@@ -121,43 +124,43 @@ fn updates_follow(b: &[u8], at: usize, m: usize) -> bool
     true
 }
 
-// Whether the m updates from `at` on are in range, each where it may follow the one before.
-fn updates_are_sound(b: &[u8], at: usize, m: usize) -> bool
-    requires { ⌜ at + m * entry-wide ≤ length (now b) ⌝ }
-    ensures { λ r. ⌜ r ≡ chained noEntry (rowsOf entry-wide m (drop at (now (b .entry)))) ⌝ }
+// Whether the updates from `at` on are in range, each where it may follow the one before.
+fn updates_are_sound(book: &[u8], at: usize, entries: usize) -> bool
+    requires { ⌜ at + entries * entry-wide ≤ length (now book) ⌝ }
+    ensures { λ r. ⌜ r ≡ chained noEntry (rowsOf entry-wide entries (drop at (now (book .entry)))) ⌝ }
 {
-    let common = passage::all_common(b, at, ENTRY_WIDE, BODY_AT, m);
+    let common = passage::all_common(book, at, ENTRY_WIDE, BODY_AT, entries);
     if common {
-        updates_follow(b, at, m)
+        updates_follow(book, at, entries)
     } else {
         false
     }
 }
 
 // Of the lent book, what may be used.
-pub fn book_room(b: &[u8]) -> usize
-    ensures { λ r. ⌜ r ≡ bookRoom (now (b .entry)) ⌝ }
+pub fn book_room(book: &[u8]) -> usize
+    ensures { λ r. ⌜ r ≡ bookRoom (now (book .entry)) ⌝ }
 {
-    if b.len() <= MOST_BYTES {
-        return b.len();
+    if book.len() <= MOST_BYTES {
+        return book.len();
     }
     MOST_BYTES
 }
 
 // Whether the used bytes split into entries that are in order and in range.
-pub fn book_is_sound(b: &[u8], used: usize) -> bool
-    ensures { λ r. ⌜ r ≡ bookSound used (now (b .entry)) ⌝ }
+pub fn book_is_sound(book: &[u8], used: usize) -> bool
+    ensures { λ r. ⌜ r ≡ bookSound used (now (book .entry)) ⌝ }
 {
-    if book_room(b) < used {
+    if book_room(book) < used {
         return false;
     }
-    let n = count_plans(b, used);
+    let n = count_plans(book, used);
     let rest = used - n * PLAN_WIDE;
     if rest % ENTRY_WIDE != 0 {
         return false;
     }
-    if plans_are_sound(b, n) {
-        return updates_are_sound(b, n * PLAN_WIDE, rest / ENTRY_WIDE);
+    if plans_are_sound(book, n) {
+        return updates_are_sound(book, n * PLAN_WIDE, rest / ENTRY_WIDE);
     }
     false
 }

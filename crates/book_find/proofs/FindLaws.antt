@@ -1,12 +1,11 @@
--- The search for a key among the plan entries, and the plan's row of a key. Assumes nothing.
+-- The plan's row of a key, and how it is written. Assumes nothing.
 use mathlib.Core.Path.{_≡_, refl, sym, ap, _∙_}
 use mathlib.Core.Bool.{true}
 use mathlib.Core.List.{List, [], _∷_, _++_, map}
-use Prim.Native.Nat.{ℕ, zero, suc, _+_, _*_, _≤_, _<_}
-use native.Mathlib.Nat.{le-of-suc-le-suc, not-suc-le-zero}
+use Prim.Native.Nat.{ℕ, suc, _+_, _*_, _≤_, _<_}
 use native.Mathlib.Omega.{arith}
 use lib.ListN.{length, getD, set}
-use Rattle.lists.specs.Part.{part, over}
+use Rattle.lists.specs.Part.{part, over, some}
 use Rattle.lists.specs.Rows.{rowsOf, Wide}
 use Rattle.lists.proofs.PartLaws.{length-part, part-part}
 use Rattle.lists.proofs.OverLaws.{over-snoc}
@@ -17,29 +16,20 @@ use Rattle.keys.specs.declared.Found.the-variants.{At, Missing}
 use Rattle.keys.specs.Keys.{cmp, byOrder}
 use Rattle.keys.specs.Sorted.{lookupFrom, lookup, get}
 use Rattle.keys.proofs.PutLaws.{get-at, lookup-within}
+use Rattle.keys.proofs.StrideLaws.{getD-map}
 use Rattle.passage.proofs.PlanLaws.{body-made}
 use Rattle.book.specs.Entries.{plan-wide, planBodyOf}
 use Rattle.book.specs.Rules.{planRow, planRows}
-use Rattle.book.specs.Steps.{planBodyAt}
-use Rattle.book_find.specs.Held.{some}
+use Rattle.book.specs.inner.Steps.{planBodyAt}
 use Rattle.book.proofs.PlaceLaws.{plan-body-at}
-use Rattle.book.proofs.PlanLaws.{bodies, length-bodies, wide-bodies, plan-key-at}
+use Rattle.book.proofs.PlanLaws.{bodies, length-bodies, wide-bodies}
 
 -- ---- the body of a plan entry
-
-getD-map : (f : List ℕ → List ℕ) (l : List (List ℕ)) (i : ℕ) → i < length l → getD (map f l) i [] ≡ f (getD l i [])
-getD-map f [] i h = absurd (not-suc-le-zero h)
-getD-map f (x ∷ l) zero h = refl
-getD-map f (x ∷ l) (suc i) h = getD-map f l i (le-of-suc-le-suc h)
 
 pub body-of : (n i : ℕ) (b : List ℕ) → i < n → getD (bodies n b) i [] ≡ planBodyAt i b
 body-of n i b h =
     let k : i < length (rowsOf plan-wide n b) = rw length-rowsOf h in
     getD-map planBodyOf (rowsOf plan-wide n b) i k ∙ ap planBodyOf (row-at plan-wide n i b h) ∙ plan-body-at i b
-
--- a key compared where it stands is the key of that body
-pub key-of : (n i : ℕ) (b : List ℕ) → i < n → keyOf (getD (bodies n b) i []) ≡ part (i * plan-wide + 1) key-wide b
-key-of n i b h = ap keyOf (body-of n i b h) ∙ plan-key-at (i * plan-wide + 1) b
 
 -- ---- a row has the key of its body
 

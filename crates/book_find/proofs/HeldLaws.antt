@@ -16,12 +16,13 @@ use Rattle.lists.proofs.RowLaws.{row-at}
 use Rattle.book_find.specs.declared.Held.{Held}
 use Rattle.book_find.specs.declared.Held.the-variants.{Nowhere, At}
 use Rattle.book.specs.Entries.{plan-wide, entry-wide, kindOf, numberOf, senderOf, planCount, updatesIn}
-use Rattle.book.specs.Rules.{noEntry, bookSound, messageEntries, firstOf, runOf}
-use Rattle.book_find.specs.Held.{heldAs}
+use Rattle.book.specs.Rules.{noEntry, bookSound, messageEntries}
+use Rattle.book_find.specs.inner.Held.{heldAs}
 use Rattle.book.proofs.SoundLaws.{sound-facts}
 use Rattle.book.proofs.SplitLaws.{sound-split, split-updates, updateCount, length-updates}
 use Rattle.book.proofs.MessageLaws.{message-run, message-like}
 use Rattle.book.proofs.AfterLaws.{run-within, message-read}
+use Rattle.book.specs.inner.Steps.{firstEntryOf, runOf}
 
 -- ---- the answer, taken apart
 
@@ -39,32 +40,32 @@ isAt (At i k) = 1
 
 module _ (n : ℕ) (us : List (List ℕ)) where
   abbrev run : ℕ
-  run = runOf n (drop (firstOf n us) us)
+  run = runOf n (drop (firstEntryOf n us) us)
 
-  pub held-is : (i k : ℕ) → heldAs n us ≡ At i k → (i ≡ firstOf n us) × (k ≡ run) × (firstOf n us ≡ length us → ⊥)
+  pub held-is : (i k : ℕ) → heldAs n us ≡ At i k → (i ≡ firstEntryOf n us) × (k ≡ run) × (firstEntryOf n us ≡ length us → ⊥)
   unfolding heldAs place count isAt
-  held-is i k = go (eqb (firstOf n us) (length us)) refl
+  held-is i k = go (eqb (firstEntryOf n us) (length us)) refl
     where
-      go : (t : Bool) → eqb (firstOf n us) (length us) ≡ t → on t Nowhere (At (firstOf n us) run) ≡ At i k → (i ≡ firstOf n us) × (k ≡ run) × (firstOf n us ≡ length us → ⊥)
+      go : (t : Bool) → eqb (firstEntryOf n us) (length us) ≡ t → on t Nowhere (At (firstEntryOf n us) run) ≡ At i k → (i ≡ firstEntryOf n us) × (k ≡ run) × (firstEntryOf n us ≡ length us → ⊥)
       go true q e = absurd (let z : _≡_ {A = ℕ} 0 1 = ap isAt e in omega arith)
-      go false q e = (sym (ap place e), sym (ap count e), eqb-false (firstOf n us) (length us) q)
+      go false q e = (sym (ap place e), sym (ap count e), eqb-false (firstEntryOf n us) (length us) q)
 
-  pub held-not : heldAs n us ≡ Nowhere → firstOf n us ≡ length us
+  pub held-not : heldAs n us ≡ Nowhere → firstEntryOf n us ≡ length us
   unfolding heldAs isAt
-  held-not = go (eqb (firstOf n us) (length us)) refl
+  held-not = go (eqb (firstEntryOf n us) (length us)) refl
     where
-      go : (t : Bool) → eqb (firstOf n us) (length us) ≡ t → on t Nowhere (At (firstOf n us) run) ≡ Nowhere → firstOf n us ≡ length us
-      go true q e = eqb-true (firstOf n us) (length us) q
+      go : (t : Bool) → eqb (firstEntryOf n us) (length us) ≡ t → on t Nowhere (At (firstEntryOf n us) run) ≡ Nowhere → firstEntryOf n us ≡ length us
+      go true q e = eqb-true (firstEntryOf n us) (length us) q
       go false q e = absurd (let z : _≡_ {A = ℕ} 1 0 = ap isAt e in omega arith)
 
 -- a run that begins is not empty
-run-some : (n : ℕ) (us : List (List ℕ)) → (firstOf n us ≡ length us → ⊥) → 0 < runOf n (drop (firstOf n us) us)
-unfolding firstOf runOf
+run-some : (n : ℕ) (us : List (List ℕ)) → (firstEntryOf n us ≡ length us → ⊥) → 0 < runOf n (drop (firstEntryOf n us) us)
+unfolding firstEntryOf runOf
 run-some n [] h = absurd (h refl)
 run-some n (e ∷ es) h = go (eqb (numberOf e) n) refl h (run-some n es)
   where
-    go : (t : Bool) → eqb (numberOf e) n ≡ t → (on t 0 (suc (firstOf n es)) ≡ suc (length es) → ⊥) → ((firstOf n es ≡ length es → ⊥) → 0 < runOf n (drop (firstOf n es) es))
-        → 0 < runOf n (drop (on t 0 (suc (firstOf n es))) (e ∷ es))
+    go : (t : Bool) → eqb (numberOf e) n ≡ t → (on t 0 (suc (firstEntryOf n es)) ≡ suc (length es) → ⊥) → ((firstEntryOf n es ≡ length es → ⊥) → 0 < runOf n (drop (firstEntryOf n es) es))
+        → 0 < runOf n (drop (on t 0 (suc (firstEntryOf n es))) (e ∷ es))
     go true q h ih = rw q (omega arith)
     go false q h ih = ih (λ r. h (ap suc r))
 
@@ -84,7 +85,7 @@ module _ (used : ℕ) (b : List ℕ) (n : ℕ) (sound : bookSound used b ≡ tru
 
   pub missing-message : heldAs n us ≡ Nowhere → messageEntries n us ≡ []
   missing-message e =
-      let h : length us ≤ firstOf n us = let q = held-not n us e in omega arith in
+      let h : length us ≤ firstEntryOf n us = let q = held-not n us e in omega arith in
       message-run n noEntry us (sound-facts used b sound .chain) ∙ rw (drop-of-length-le us h) (take-nil (runOf n []))
 
   -- the first entry of the message is the bytes from there on

@@ -8,7 +8,7 @@ use Rattle.lists.specs.Rows.{rowsOf}
 use Rattle.book.specs.Entries.{plan-wide, entry-wide, planCount, updatesIn}
 use Rattle.book.specs.Rules.{bookSound, messageEntries}
 use Rattle.book_find.specs.declared.Held.the-variants.{Nowhere, At}
-use Rattle.book_find.specs.Held.{heldAs}
+use Rattle.book_find.specs.inner.Held.{heldAs}
 
 -- a message that is found stands there with all its entries, one behind the other; one that is not found has none
 abbrev pub FoundMessage : Type 0

@@ -1,3 +1,3 @@
-pub mod Held
 pub mod Claims
 pub mod Cases
+pub mod inner

@@ -4,6 +4,8 @@ use denote.Ref.{now}
 use Rattle.lists.proofs.Promise.{Determined, OneResult}
 use Rattle.book_write.proofs.next_number.Kinds as next-number
 use Rattle.book_write.proofs.next_number.Reads as next-number-reads
+use Rattle.book_write.proofs.write_plan_entry.Kinds as write-plan-entry
+use Rattle.book_write.proofs.write_plan_entry.Reads as write-plan-entry-reads
 use Rattle.book_write.proofs.write_entry.Kinds as write-entry
 use Rattle.book_write.proofs.write_entry.Reads as write-entry-reads
 use Rattle.book_write.proofs.write_entries.Kinds as write-entries
@@ -15,6 +17,9 @@ pub next-number-determined : OneResult 1 next-number.ps next-number.r next-numbe
 next-number-determined κs a x y s t p q = p ∙ sym q
 
 -- ---- functions that write into their first parameter, and answer nothing
+
+pub write-plan-entry-determined : Determined 2 write-plan-entry.ps write-plan-entry.r write-plan-entry-reads.Post (λ κs x s. now (s .0))
+write-plan-entry-determined κs a x y s t p q = p ∙ sym q
 
 pub write-entry-determined : Determined 2 write-entry.ps write-entry.r write-entry-reads.Post (λ κs x s. now (s .0))
 write-entry-determined κs a x y s t p q = p ∙ sym q

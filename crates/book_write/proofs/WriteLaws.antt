@@ -14,11 +14,15 @@ use Rattle.lists.proofs.OverLaws.{over-nil, over-snoc, over-then, over-over, ov
 use Rattle.lists.proofs.RowLaws.{flat-append, length-rowsOf}
 use Rattle.lists.proofs.WideLaws.{wide-rowsOf, length-flat}
 use Rattle.passage.specs.Layout.{body-wide}
-use Rattle.book.specs.Entries.{number-at, number-wide, sender-at, body-at, entry-wide, entryOf, entriesOf}
-use Rattle.book.specs.Rules.{marked}
+use Rattle.book.specs.Entries.{kind-wide, planEntry, number-at, number-wide, sender-at, body-at, entry-wide, entryOf, entriesOf}
+use Rattle.book.specs.Rules.{markedWithdrawn}
 use Rattle.book.proofs.WriteLaws.{set-over, rowsOf-snoc, wide-entriesOf, length-entriesOf, wide-marked}
 
 -- ---- one entry
+
+-- kind, then the body
+pub plan-entry-written : (at : ℕ) (body t : List ℕ) → over (at + kind-wide) body (set t at 1) ≡ over at (planEntry body) t
+plan-entry-written at body t = rw (set-over at 1 t) (over-then at (1 ∷ []) body t)
 
 -- kind, number, sender and body, one behind the other: u is the tail with kind and number, v with all
 module _ (at n s : ℕ) (t u : List ℕ) (begun : u ≡ over (at + number-at) (spelled number-wide n) (set t at 2)) where
@@ -79,27 +83,27 @@ module _ (n s : ℕ) (src : List ℕ) where
 
 module _ (at : ℕ) (b₀ : List ℕ) where
   abbrev pub marks : ℕ → List ℕ
-  marks i = flat (map marked (rowsOf entry-wide i (drop at b₀)))
+  marks i = flat (map markedWithdrawn (rowsOf entry-wide i (drop at b₀)))
 
   pub marks-start : b₀ ≡ over at (marks 0) b₀
   unfolding rowsOf flat
   marks-start = sym (over-nil at b₀)
 
   pub marks-turn : (i : ℕ) (b : List ℕ) → at + (i + 1) * entry-wide ≤ length b₀ → b ≡ over at (marks i) b₀ → set b (at + i * entry-wide) 3 ≡ over at (marks (i + 1)) b₀
-  unfolding marked
+  unfolding markedWithdrawn
   marks-turn i b h e =
       let us = rowsOf entry-wide i (drop at b₀) in
       let p = at + i * entry-wide in
       let tail = part (suc p) 71 b₀ in
       let w : Wide entry-wide us = wide-rowsOf entry-wide i (drop at b₀) (simp length-drop (omega arith)) in
       let l : length (marks i) ≡ i * entry-wide =
-      length-flat entry-wide (map marked us) (wide-marked entry-wide us w) ∙ ap (λ (m : ℕ). m * entry-wide) (length-map us marked ∙ length-rowsOf entry-wide i (drop at b₀)) in
+      length-flat entry-wide (map markedWithdrawn us) (wide-marked entry-wide us w) ∙ ap (λ (m : ℕ). m * entry-wide) (length-map us markedWithdrawn ∙ length-rowsOf entry-wide i (drop at b₀)) in
       let row : part (i * entry-wide) entry-wide (drop at b₀) ≡ getD b₀ p 0 ∷ tail =
       part-is (i * entry-wide) entry-wide (drop at b₀) ∙ ap (take entry-wide) (drop-drop (i * entry-wide) at b₀) ∙ sym (part-is p entry-wide b₀) ∙ part-cons p 71 b₀ (omega arith) in
       let g : marks (i + 1) ≡ marks i ++ (3 ∷ tail) =
-      ap (λ (r : List (List ℕ)). flat (map marked r)) (rowsOf-snoc entry-wide i (drop at b₀) ∙ ap (λ (r : List ℕ). us ++ r ∷ []) row)
-      ∙ ap flat (map-append marked us ((getD b₀ p 0 ∷ tail) ∷ []))
-      ∙ flat-snoc (map marked us) (3 ∷ tail) in
+      ap (λ (r : List (List ℕ)). flat (map markedWithdrawn r)) (rowsOf-snoc entry-wide i (drop at b₀) ∙ ap (λ (r : List ℕ). us ++ r ∷ []) row)
+      ∙ ap flat (map-append markedWithdrawn us ((getD b₀ p 0 ∷ tail) ∷ []))
+      ∙ flat-snoc (map markedWithdrawn us) (3 ∷ tail) in
       let q : p ≡ at + length (marks i) = omega arith in
       let r : at + length (marks i ++ 3 ∷ []) ≡ suc p = rw length-append (omega arith) in
       let x : set b p 3 ≡ over at (marks i ++ 3 ∷ []) b₀ = rw (e, q) (over-snoc at 3 (marks i) b₀) in

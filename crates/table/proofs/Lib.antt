@@ -1,11 +1,7 @@
 pub mod SoundLaws
-pub mod Claims
-pub mod Determined
 pub mod RowKeyLaws
-pub mod SeekingClaims
-pub mod SeekingDetermined
 pub mod RowMoveLaws
 pub mod StoreTwiceLaws
 pub mod RunLaws
-pub mod ChangingClaims
-pub mod ChangingDetermined
+pub mod Claims
+pub mod Determined

@@ -1,6 +1,6 @@
 -- Soundness of a table: what its loops pass, and what follows from it. Assumes nothing.
 use mathlib.Core.Path.{_≡_, refl, sym, _∙_}
-use mathlib.Core.Bool.{Bool, true, false}
+use mathlib.Core.Bool.{Bool, true, false, _&&_}
 use mathlib.Core.List.{List, [], _∷_, map}
 use Prim.Native.Nat.{ℕ, _+_, _*_, _-_, _/_, _≤_, _<_}
 use native.Mathlib.Nat.{mul-le-mul-right, le-trans}
@@ -8,37 +8,37 @@ use native.Mathlib.Omega.{arith}
 use borrow.Author.Tests.{le-leb, lt-leb, leb-true, leb-false}
 use lib.Dec.{leb}
 use lib.ListN.{length, drop}
-use Rattle.lists.specs.Logic.{on, both}
+use Rattle.lists.specs.Logic.{on}
 use Rattle.lists.specs.Each.{Each}
 use Rattle.lists.specs.Part.{part}
 use Rattle.lists.specs.Rows.{rowsOf, Wide, store}
-use Rattle.lists.proofs.LogicLaws.{both-true}
+use Rattle.lists.proofs.LogicLaws.{and-pass, and-assoc, not-then}
 use Rattle.lists.proofs.PartLaws.{part-part}
 use Rattle.lists.proofs.RowLaws.{rowsOf-step, rowsOf-start}
 use Rattle.lists.proofs.StoreLaws.{rowsOf-store, length-store}
 use Rattle.passage.specs.Layout.{key-wide, row-wide, bodyOf}
-use Rattle.passage.specs.Ranges.{commonInRange, allCommon, rowInRange}
-use Rattle.passage.proofs.TestLaws.{not-then}
+use Rattle.passage.specs.Ranges.{commonInRange, rowInRange}
 use Rattle.passage.proofs.FieldLaws.{common-of}
 use Rattle.passage.proofs.RangeLaws.{row-facts, facts-common}
 use Rattle.keys.specs.Sorted.{sortedRows, put, remove}
 use Rattle.keys.proofs.CountLaws.{each-put, each-remove}
 use Rattle.keys.proofs.RiseLaws.{sorted-keys}
-use Rattle.table.specs.Rules.{most-rows, room, rows, allInRange, tableSound}
+use Rattle.table.specs.Rules.{most-rows, tableRoom, rows, allInRange, tableSound}
+use Rattle.passage.specs.inner.Roles.{allCommon}
 
 -- ---- room
 
 module _ (t : List ℕ) where
-  pub room-all : length t / row-wide ≤ most-rows → room t ≡ length t / row-wide
-  unfolding room
+  pub room-all : length t / row-wide ≤ most-rows → tableRoom t ≡ length t / row-wide
+  unfolding tableRoom
   room-all h = rw (le-leb (length t / row-wide) most-rows h)
 
-  pub room-cut : most-rows < length t / row-wide → room t ≡ most-rows
-  unfolding room
+  pub room-cut : most-rows < length t / row-wide → tableRoom t ≡ most-rows
+  unfolding tableRoom
   room-cut h = rw (lt-leb (length t / row-wide) most-rows h)
 
-  room-both : (room t ≤ most-rows) × (room t * row-wide ≤ length t)
-  unfolding room
+  room-both : (tableRoom t ≤ most-rows) × (tableRoom t * row-wide ≤ length t)
+  unfolding tableRoom
   room-both = go (leb (length t / row-wide) most-rows) refl
     where
       go : (b : Bool) → leb (length t / row-wide) most-rows ≡ b
@@ -46,15 +46,15 @@ module _ (t : List ℕ) where
       go true e = (leb-true (length t / row-wide) most-rows e, omega arith)
       go false e = let h = leb-false (length t / row-wide) most-rows e in (omega arith, omega arith)
 
-  pub room-most : room t ≤ most-rows
+  pub room-most : tableRoom t ≤ most-rows
   room-most = room-both .0
 
-  pub room-fits : room t * row-wide ≤ length t
+  pub room-fits : tableRoom t * row-wide ≤ length t
   room-fits = room-both .1
 
 -- and no fewer than that
-pub room-least : (n : ℕ) (t : List ℕ) → n ≤ most-rows → n * row-wide ≤ length t → n ≤ room t
-unfolding room
+pub room-least : (n : ℕ) (t : List ℕ) → n ≤ most-rows → n * row-wide ≤ length t → n ≤ tableRoom t
+unfolding tableRoom
 room-least n t a b = go (leb (length t / row-wide) most-rows)
   where
     go : (c : Bool) → n ≤ on c (length t / row-wide) most-rows
@@ -62,8 +62,8 @@ room-least n t a b = go (leb (length t / row-wide) most-rows)
     go false = a
 
 -- the room follows from the length
-pub room-same : (t u : List ℕ) → length t ≡ length u → room t ≡ room u
-unfolding room
+pub room-same : (t u : List ℕ) → length t ≡ length u → tableRoom t ≡ tableRoom u
+unfolding tableRoom
 room-same t u e = rw e
 
 -- ---- the loops: what is left from row i on
@@ -75,7 +75,7 @@ module _ (n : ℕ) (t : List ℕ) where
   pub rest-start : rows n t ≡ rest 0
   rest-start = rowsOf-start row-wide n t
 
-  pub range-step : (i : ℕ) → i < n → allInRange (rest i) ≡ both (rowInRange (part (i * row-wide) row-wide t)) (allInRange (rest (i + 1)))
+  pub range-step : (i : ℕ) → i < n → allInRange (rest i) ≡ (rowInRange (part (i * row-wide) row-wide t) && allInRange (rest (i + 1)))
   unfolding allInRange
   range-step i h = rw (rowsOf-step row-wide n i t h)
 
@@ -91,7 +91,7 @@ InRange rs = Each (λ (r : List ℕ). rowInRange r ≡ true) rs
 pub range-each : (rs : List (List ℕ)) → allInRange rs ≡ true → InRange rs
 unfolding allInRange
 range-each [] e = tt
-range-each (r ∷ rs) e = let b = both-true (rowInRange r) (allInRange rs) e in (b .0, range-each rs (b .1))
+range-each (r ∷ rs) e = let b = and-pass (rowInRange r) (allInRange rs) e in (b .0, range-each rs (b .1))
 
 pub each-range : (rs : List (List ℕ)) → InRange rs → allInRange rs ≡ true
 unfolding allInRange
@@ -105,7 +105,7 @@ row-common r e = common-of r ∙ facts-common r (row-facts r e .common)
 range-common : (rs : List (List ℕ)) → allInRange rs ≡ true → allCommon (map bodyOf rs) ≡ true
 unfolding allInRange allCommon
 range-common [] e = refl
-range-common (r ∷ rs) e = let b = both-true (rowInRange r) (allInRange rs) e in rw (row-common r (b .0)) (range-common rs (b .1))
+range-common (r ∷ rs) e = let b = and-pass (rowInRange r) (allInRange rs) e in rw (row-common r (b .0)) (range-common rs (b .1))
 
 pub range-none : (rs : List (List ℕ)) → allCommon (map bodyOf rs) ≡ false → allInRange rs ≡ false
 range-none rs e = not-then (allInRange rs) (allCommon (map bodyOf rs)) (range-common rs) e
@@ -124,28 +124,28 @@ range-remove k rs h = each-range (remove k rs) (each-remove (λ (x : List ℕ). 
 
 module _ (n : ℕ) (t : List ℕ) where
   -- where there is no room
-  pub sound-over : room t < n → false ≡ tableSound n t
+  pub sound-over : tableRoom t < n → false ≡ tableSound n t
   unfolding tableSound
-  sound-over h = rw (lt-leb n (room t) h)
+  sound-over h = rw (lt-leb n (tableRoom t) h)
 
   -- where there is
-  pub sound-room : n ≤ room t → both (allInRange (rows n t)) (sortedRows (rows n t)) ≡ tableSound n t
+  pub sound-room : n ≤ tableRoom t → (allInRange (rows n t) && sortedRows (rows n t)) ≡ tableSound n t
   unfolding tableSound
-  sound-room h = rw (le-leb n (room t) h)
+  sound-room h = rw (le-leb n (tableRoom t) h)
 
-  pub room-holds : n ≤ room t → n * row-wide ≤ length t
+  pub room-holds : n ≤ tableRoom t → n * row-wide ≤ length t
   room-holds h = le-trans (mul-le-mul-right row-wide h) (room-fits t)
 
-  pub sound-is : n ≤ room t → allInRange (rows n t) ≡ true → sortedRows (rows n t) ≡ true → tableSound n t ≡ true
+  pub sound-is : n ≤ tableRoom t → allInRange (rows n t) ≡ true → sortedRows (rows n t) ≡ true → tableSound n t ≡ true
   sound-is h r s = sym (sound-room h) ∙ rw (r, s)
 
   module _ (e : tableSound n t ≡ true) where
-    parts : (leb n (room t) ≡ true) × (both (allInRange (rows n t)) (sortedRows (rows n t)) ≡ true)
+    parts : (leb n (tableRoom t) ≡ true) × ((allInRange (rows n t) && sortedRows (rows n t)) ≡ true)
     unfolding tableSound
-    parts = both-true (leb n (room t)) (both (allInRange (rows n t)) (sortedRows (rows n t))) e
+    parts = and-pass (leb n (tableRoom t)) (allInRange (rows n t) && sortedRows (rows n t)) (sym (and-assoc (leb n (tableRoom t)) _ _) ∙ e)
 
-    pub sound-within : n ≤ room t
-    sound-within = leb-true n (room t) (parts .0)
+    pub sound-within : n ≤ tableRoom t
+    sound-within = leb-true n (tableRoom t) (parts .0)
 
     pub sound-most : n ≤ most-rows
     sound-most = le-trans sound-within (room-most t)
@@ -154,15 +154,15 @@ module _ (n : ℕ) (t : List ℕ) where
     sound-fits = room-holds sound-within
 
     pub sound-range : allInRange (rows n t) ≡ true
-    sound-range = both-true (allInRange (rows n t)) (sortedRows (rows n t)) (parts .1) .0
+    sound-range = and-pass (allInRange (rows n t)) (sortedRows (rows n t)) (parts .1) .0
 
     pub sound-sorted : sortedRows (rows n t) ≡ true
-    sound-sorted = both-true (allInRange (rows n t)) (sortedRows (rows n t)) (parts .1) .1
+    sound-sorted = and-pass (allInRange (rows n t)) (sortedRows (rows n t)) (parts .1) .1
 
 -- rows that are in their range, rise and have room are sound where they are stored
-pub sound-stored : (n : ℕ) (rs : List (List ℕ)) (t : List ℕ) → Wide row-wide rs → length rs ≤ room t → allInRange rs ≡ true → sortedRows rs ≡ true
+pub sound-stored : (n : ℕ) (rs : List (List ℕ)) (t : List ℕ) → Wide row-wide rs → length rs ≤ tableRoom t → allInRange rs ≡ true → sortedRows rs ≡ true
     → tableSound (length rs) (store row-wide n rs t) ≡ true
 sound-stored n rs t w h r s =
     let back : rows (length rs) (store row-wide n rs t) ≡ rs = rowsOf-store row-wide n rs t w (room-holds (length rs) t h) in
-    let same : room (store row-wide n rs t) ≡ room t = room-same (store row-wide n rs t) t (length-store row-wide n rs t) in
+    let same : tableRoom (store row-wide n rs t) ≡ tableRoom t = room-same (store row-wide n rs t) t (length-store row-wide n rs t) in
     sound-is (length rs) (store row-wide n rs t) (rw same h) (rw back r) (rw back s)

@@ -1,10 +1,10 @@
 -- The table: rows of passages, sorted by key, in lent bytes. How many there may be, and when they are sound. Assumes nothing.
 use Prim.Native.Nat.{ℕ, _/_}
-use mathlib.Core.Bool.{Bool, true}
+use mathlib.Core.Bool.{Bool, true, _&&_}
 use mathlib.Core.List.{List, [], _∷_}
 use lib.Dec.{leb}
 use lib.ListN.{length}
-use Rattle.lists.specs.Logic.{on, both}
+use Rattle.lists.specs.Logic.{on}
 use Rattle.lists.specs.Rows.{rowsOf}
 use Rattle.passage.specs.Layout.{row-wide}
 use Rattle.passage.specs.Ranges.{rowInRange}
@@ -15,8 +15,8 @@ abbrev pub most-rows : ℕ
 most-rows = 2048
 
 -- the rows that the bytes t have room for
-unfoldable pub room : List ℕ → ℕ
-room t = on (leb (length t / row-wide) most-rows) (length t / row-wide) most-rows
+unfoldable pub tableRoom : List ℕ → ℕ
+tableRoom t = on (leb (length t / row-wide) most-rows) (length t / row-wide) most-rows
 
 -- the first n rows
 abbrev pub rows : ℕ → List ℕ → List (List ℕ)
@@ -25,8 +25,8 @@ rows n t = rowsOf row-wide n t
 -- each row has every field in its range
 unfoldable pub allInRange : List (List ℕ) → Bool
 allInRange [] = true
-allInRange (r ∷ rs) = both (rowInRange r) (allInRange rs)
+allInRange (r ∷ rs) = rowInRange r && allInRange rs
 
 -- n rows have room, each is in its range, and their keys rise
 unfoldable pub tableSound : ℕ → List ℕ → Bool
-tableSound n t = both (leb n (room t)) (both (allInRange (rows n t)) (sortedRows (rows n t)))
+tableSound n t = leb n (tableRoom t) && allInRange (rows n t) && sortedRows (rows n t)

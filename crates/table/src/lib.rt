@@ -1,36 +1,37 @@
-// The table: rows of passages, sorted by key, in lent bytes. How many there is room for, and whether they are sound.
+// The table: rows of passages, sorted by key, in lent bytes. How many there is room for, whether they are sound, where a key stands, and a row put in, replaced or
+// taken out. It knows rows by their keys, and not what an update does to one.
 ghost use mathlib.Core.Path.{_≡_};
 ghost use mathlib.Core.Bool.{true};
 ghost use mathlib.Core.List.{map};
 ghost use Prim.Native.Nat.{_*_, _≤_, _+_, _<_};
 ghost use lib.ListN.{length, set};
 ghost use Rattle.passage.specs.Layout.{row-wide, bodyOf, key-wide};
-ghost use Rattle.passage.specs.Ranges.{allCommon};
-ghost use Rattle.table.specs.Rules.{rows, room, allInRange, tableSound};
+ghost use Rattle.table.specs.Rules.{rows, tableRoom, allInRange, tableSound};
 ghost use Rattle.lists.specs.Part.{part};
 ghost use Rattle.keys.specs.Sorted.{sortedRows, lookup, remove};
 ghost use Rattle.lists.specs.Rows.{insertAt, removeAt, store};
+ghost use Rattle.passage.specs.inner.Roles.{allCommon};
 
 // The most rows that a table has.
 pub const MOST_ROWS: usize = 2048;
 
 // How many rows the lent bytes have room for.
-pub fn rows_room(t: &[u8]) -> usize
-    ensures { λ r. ⌜ r ≡ room (now (t .entry)) ⌝ }
+pub fn rows_room(table: &[u8]) -> usize
+    ensures { λ r. ⌜ r ≡ tableRoom (now (table .entry)) ⌝ }
 {
-    let fit = t.len() / passage::ROW_WIDE;
+    let fit = table.len() / passage::ROW_WIDE;
     if fit <= MOST_ROWS { fit } else { MOST_ROWS }
 }
 
-// Whether each of the first n rows is in its range, where what is common is.
-fn all_in_range(t: &[u8], n: usize) -> bool
-    requires { ⌜ n * row-wide ≤ length (now t) ⌝ }
-    requires { ⌜ allCommon (map bodyOf (rows n (now t))) ≡ true ⌝ }
-    ensures { λ r. ⌜ r ≡ allInRange (rows n (now (t .entry))) ⌝ }
+// Whether each of the first `count` rows is in its range, where what is common is.
+fn all_in_range(table: &[u8], count: usize) -> bool
+    requires { ⌜ count * row-wide ≤ length (now table) ⌝ }
+    requires { ⌜ allCommon (map bodyOf (rows count (now table))) ≡ true ⌝ }
+    ensures { λ r. ⌜ r ≡ allInRange (rows count (now (table .entry))) ⌝ }
 {
     let mut i = 0;
-    while i < n {
-        let good = passage::row_in_range(t, i * passage::ROW_WIDE);
+    while i < count {
+        let good = passage::row_in_range(table, i * passage::ROW_WIDE);
         if good {
             i += 1;
         } else {
@@ -40,19 +41,19 @@ fn all_in_range(t: &[u8], n: usize) -> bool
     true
 }
 
-// Whether n rows have room, each is in its range, and their keys rise: any t and n.
-pub fn table_is_sound(t: &[u8], n: usize) -> bool
-    ensures { λ r. ⌜ r ≡ tableSound n (now (t .entry)) ⌝ }
+// Whether so many rows have room, each is in its range, and their keys rise: of any bytes and any count.
+pub fn table_is_sound(table: &[u8], count: usize) -> bool
+    ensures { λ r. ⌜ r ≡ tableSound count (now (table .entry)) ⌝ }
 {
-    let most = rows_room(t);
-    if most < n {
+    let most = rows_room(table);
+    if most < count {
         return false;
     }
-    let common = passage::all_common(t, 0, passage::ROW_WIDE, 0, n);
+    let common = passage::all_common(table, 0, passage::ROW_WIDE, 0, count);
     if common {
-        let good = all_in_range(t, n);
+        let good = all_in_range(table, count);
         if good {
-            keys::keys_rise(t, passage::ROW_WIDE, 0, n)
+            keys::keys_rise(table, passage::ROW_WIDE, 0, count)
         } else {
             false
         }
@@ -61,32 +62,15 @@ pub fn table_is_sound(t: &[u8], n: usize) -> bool
     }
 }
 
-// ---- Where a key stands among the rows of a table.
+// ---- where a key stands
 
-// Where the key at q of k stands among the first n rows, or where its row would be put.
-pub fn find(t: &[u8], n: usize, k: &[u8], q: usize) -> keys::Found
-    requires { ⌜ (n * row-wide ≤ length (now t)) × (q + key-wide ≤ length (now k)) ⌝ }
-    requires { ⌜ sortedRows (rows n (now t)) ≡ true ⌝ }
-    ensures { λ r. ⌜ r ≡ lookup (part q key-wide (now (k .entry))) (rows n (now (t .entry))) ⌝ }
+// Where the key from `from` on in `key` stands among the first `count` rows, or where its row would be put.
+pub fn find(table: &[u8], count: usize, key: &[u8], from: usize) -> keys::Found
+    requires { ⌜ (count * row-wide ≤ length (now table)) × (from + key-wide ≤ length (now key)) ⌝ }
+    requires { ⌜ sortedRows (rows count (now table)) ≡ true ⌝ }
+    ensures { λ r. ⌜ r ≡ lookup (part from key-wide (now (key .entry))) (rows count (now (table .entry))) ⌝ }
 {
-    let mut lo = 0;
-    let mut hi = n;
-    while lo < hi {
-        let mid = lo + (hi - lo) / 2;
-        let o = keys::compare_key(t, mid * passage::ROW_WIDE, k, q);
-        match o {
-            keys::Order::Less => {
-                lo = mid + 1;
-            }
-            keys::Order::Same => {
-                return keys::Found::At(mid);
-            }
-            keys::Order::More => {
-                hi = mid;
-            }
-        }
-    }
-    keys::Found::Missing(lo)
+    keys::find_key(table, passage::ROW_WIDE, 0, count, key, from)
 }
 
 // The place to look at next: `wish`, if it is one of those from lo up to hi, or else their middle.
@@ -103,25 +87,25 @@ fn probe(lo: usize, hi: usize, wish: usize) -> usize
 }
 
 // The same as `find`, but it looks first at the place `hint`, then a little behind it: quick where the key stands there or soon after.
-pub fn find_near(t: &[u8], n: usize, k: &[u8], q: usize, hint: usize) -> keys::Found
-    requires { ⌜ (n * row-wide ≤ length (now t)) × (q + key-wide ≤ length (now k)) ⌝ }
-    requires { ⌜ sortedRows (rows n (now t)) ≡ true ⌝ }
-    ensures { λ r. ⌜ r ≡ lookup (part q key-wide (now (k .entry))) (rows n (now (t .entry))) ⌝ }
+pub fn find_near(table: &[u8], count: usize, key: &[u8], from: usize, hint: usize) -> keys::Found
+    requires { ⌜ (count * row-wide ≤ length (now table)) × (from + key-wide ≤ length (now key)) ⌝ }
+    requires { ⌜ sortedRows (rows count (now table)) ≡ true ⌝ }
+    ensures { λ r. ⌜ r ≡ lookup (part from key-wide (now (key .entry))) (rows count (now (table .entry))) ⌝ }
 {
     let mut low = 0;
-    let mut high = n;
+    let mut high = count;
     let mut wish = hint;
     let mut leap = 8;
     let mut next = 64;
     while low < high {
         let look = probe(low, high, wish);
-        let o = keys::compare_key(t, look * passage::ROW_WIDE, k, q);
+        let o = keys::compare_key(table, look * passage::ROW_WIDE, key, from);
         match o {
             keys::Order::Less => {
                 low = look + 1;
                 wish = look + leap;
                 leap = next;
-                next = n;
+                next = count;
             }
             keys::Order::Same => {
                 return keys::Found::At(look);
@@ -134,50 +118,50 @@ pub fn find_near(t: &[u8], n: usize, k: &[u8], q: usize, hint: usize) -> keys::F
     keys::Found::Missing(low)
 }
 
-// ---- One row of a table put in, replaced or taken out.
+// ---- a row put in, replaced or taken out
 
-// The row r is put in at place i of n rows.
-pub fn insert_row(t: &mut [u8], n: usize, i: usize, r: &[u8])
-    requires { ⌜ (i ≤ n) × ((n + 1) * row-wide ≤ length (now t)) × (length (now r) ≡ row-wide) ⌝ }
-    ensures { λ _. ⌜ now (t .exit) ≡ store row-wide n (insertAt i (now (r .entry)) (rows n (now (t .entry)))) (now (t .entry)) ⌝ }
+// A row is put in at a place among `count` rows.
+pub fn insert_row(table: &mut [u8], count: usize, place: usize, row: &[u8])
+    requires { ⌜ (place ≤ count) × ((count + 1) * row-wide ≤ length (now table)) × (length (now row) ≡ row-wide) ⌝ }
+    ensures { λ _. ⌜ now (table .exit) ≡ store row-wide count (insertAt place (now (row .entry)) (rows count (now (table .entry)))) (now (table .entry)) ⌝ }
 {
-    let place = i * passage::ROW_WIDE;
-    lists::shift_up(t, place, n * passage::ROW_WIDE, passage::ROW_WIDE);
-    lists::copy_to(t, place, r);
+    let at = place * passage::ROW_WIDE;
+    lists::shift_up(table, at, count * passage::ROW_WIDE, passage::ROW_WIDE);
+    lists::copy_to(table, at, row);
 }
 
-// The row r takes the place of row i of n rows.
-pub fn replace_row(t: &mut [u8], n: usize, i: usize, r: &[u8])
-    requires { ⌜ (i < n) × (n * row-wide ≤ length (now t)) × (length (now r) ≡ row-wide) ⌝ }
-    ensures { λ _. ⌜ now (t .exit) ≡ store row-wide n (set (rows n (now (t .entry))) i (now (r .entry))) (now (t .entry)) ⌝ }
+// A row takes the place of another, of `count` rows.
+pub fn replace_row(table: &mut [u8], count: usize, place: usize, row: &[u8])
+    requires { ⌜ (place < count) × (count * row-wide ≤ length (now table)) × (length (now row) ≡ row-wide) ⌝ }
+    ensures { λ _. ⌜ now (table .exit) ≡ store row-wide count (set (rows count (now (table .entry))) place (now (row .entry))) (now (table .entry)) ⌝ }
 {
-    lists::copy_to(t, i * passage::ROW_WIDE, r);
+    lists::copy_to(table, place * passage::ROW_WIDE, row);
 }
 
-// Row i of n rows leaves, and the bytes of the last become zero.
-fn remove_row(t: &mut [u8], n: usize, i: usize)
-    requires { ⌜ (i < n) × (n * row-wide ≤ length (now t)) ⌝ }
-    ensures { λ _. ⌜ now (t .exit) ≡ store row-wide n (removeAt i (rows n (now (t .entry)))) (now (t .entry)) ⌝ }
+// The row at a place among `count` rows leaves, and the bytes of the last become zero.
+fn remove_row(table: &mut [u8], count: usize, place: usize)
+    requires { ⌜ (place < count) × (count * row-wide ≤ length (now table)) ⌝ }
+    ensures { λ _. ⌜ now (table .exit) ≡ store row-wide count (removeAt place (rows count (now (table .entry)))) (now (table .entry)) ⌝ }
 {
-    let a = i * passage::ROW_WIDE;
-    let behind = (n - 1 - i) * passage::ROW_WIDE;
-    lists::shift_down(t, a, behind, passage::ROW_WIDE);
-    lists::clear(t, a + behind, passage::ROW_WIDE);
+    let at = place * passage::ROW_WIDE;
+    let behind = (count - 1 - place) * passage::ROW_WIDE;
+    lists::shift_down(table, at, behind, passage::ROW_WIDE);
+    lists::clear(table, at + behind, passage::ROW_WIDE);
 }
 
-// The row of the key at q of k leaves, if there is one; the new count.
-pub fn remove_key(t: &mut [u8], n: usize, k: &[u8], q: usize) -> usize
-    requires { ⌜ (n * row-wide ≤ length (now t)) × (q + key-wide ≤ length (now k)) ⌝ }
-    requires { ⌜ sortedRows (rows n (now t)) ≡ true ⌝ }
-    ensures { λ m. ⌜ m ≡ length (remove (part q key-wide (now (k .entry))) (rows n (now (t .entry)))) ⌝ }
-    ensures { λ _. ⌜ now (t .exit) ≡ store row-wide n (remove (part q key-wide (now (k .entry))) (rows n (now (t .entry)))) (now (t .entry)) ⌝ }
+// The row of the key from `from` on in `key` leaves, if there is one; the new count.
+pub fn remove_key(table: &mut [u8], count: usize, key: &[u8], from: usize) -> usize
+    requires { ⌜ (count * row-wide ≤ length (now table)) × (from + key-wide ≤ length (now key)) ⌝ }
+    requires { ⌜ sortedRows (rows count (now table)) ≡ true ⌝ }
+    ensures { λ m. ⌜ m ≡ length (remove (part from key-wide (now (key .entry))) (rows count (now (table .entry)))) ⌝ }
+    ensures { λ _. ⌜ now (table .exit) ≡ store row-wide count (remove (part from key-wide (now (key .entry))) (rows count (now (table .entry)))) (now (table .entry)) ⌝ }
 {
-    let f = find(t, n, k, q);
+    let f = find(table, count, key, from);
     match f {
         keys::Found::At(i) => {
-            remove_row(t, n, i);
-            n - 1
+            remove_row(table, count, i);
+            count - 1
         }
-        keys::Found::Missing(_) => n,
+        keys::Found::Missing(_) => count,
     }
 }

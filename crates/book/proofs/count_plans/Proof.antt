@@ -26,7 +26,7 @@ returns : tie.Need-returns Inv-loop μ-loop
 returns c =
     let l = c .before .before .before in
     let a = l .before .args in
-    let e = leading-stop (a .b .now) (a .used / plan-wide) (l .loop .i) (search needs) (c .if1 .taken) in
+    let e = leading-stop (a .book .now) (a .used / plan-wide) (l .loop .i) (search needs) (c .if1 .taken) in
     sym (l .loop .inv .1 ∙ omega arith)
 
 add-i : tie.Need-add-i Inv-loop μ-loop
@@ -39,14 +39,14 @@ loop-again : tie.Need-loop-again Inv-loop μ-loop
 loop-again c =
     let l = c .before .before .before in
     let a = l .before .args in
-    let e = leading-next (a .b .now) (a .used / plan-wide) (l .loop .i) (search needs) (c .if1 .left) in
+    let e = leading-next (a .book .now) (a .used / plan-wide) (l .loop .i) (search needs) (c .if1 .left) in
     (search needs, l .loop .inv .1 ∙ omega arith)
 
 returns-2 : tie.Need-returns-2 Inv-loop μ-loop
 returns-2 c =
     let l = c .before in
     let a = l .before .args in
-    let e = leading-end (a .b .now) (a .used / plan-wide) (l .loop .i) (search needs) in
+    let e = leading-end (a .book .now) (a .used / plan-wide) (l .loop .i) (search needs) in
     sym (l .loop .inv .1 ∙ omega arith)
 
 pub count-plans-spec : {M : Type 1} → statement M

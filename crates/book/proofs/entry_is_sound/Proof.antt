@@ -1,5 +1,4 @@
 use mathlib.Core.Path.{sym}
-use Rattle.lists.proofs.LogicLaws.{or-either}
 use Rattle.book.proofs.ChainLaws.{entry-from}
 use borrow.Author.Needs.{needs}
 use Rattle.book.proofs.entry_is_sound.Statement.{statement}
@@ -35,7 +34,7 @@ update-in-range-requires c κs = (search needs, c .before .before .before .befor
 returns : tie.Need-returns
 returns c =
     let a = c .before .before .before .before .before .args in
-    rw (c .update-in-range .ensures, c .before .before .get-number .ensures, or-either) (sym (entry-from (a .p) (a .b .now) (a .number) (a .sender) (a .kind)))
+    rw (c .update-in-range .ensures, c .before .before .get-number .ensures) (sym (entry-from (a .at) (a .book .now) (a .number) (a .sender) (a .kind)))
 
 pub entry-is-sound-spec : {M : Type 1} → statement M
 entry-is-sound-spec =

@@ -22,7 +22,7 @@ returns-2 c = sym (rw (sym (c .before .plans-in-range .ensures) ∙ c .if2 .left
 returns-3 : tie.Need-returns-3
 returns-3 c =
     let a = c .before .before .before .args in
-    sym (rw (plans-none (bodies (a .n) (a .b .now)) (sym (c .before .all-common .ensures) ∙ c .if1 .left)))
+    sym (rw (plans-none (bodies (a .plans) (a .book .now)) (sym (c .before .all-common .ensures) ∙ c .if1 .left)))
 
 pub plans-are-sound-spec : {M : Type 1} → statement M
 plans-are-sound-spec =

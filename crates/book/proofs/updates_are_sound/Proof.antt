@@ -19,7 +19,7 @@ returns c = c .updates-follow .ensures
 returns-2 : tie.Need-returns-2
 returns-2 c =
     let a = c .before .before .before .args in
-    sym (chain-none (rowsOf entry-wide (a .m) (drop (a .at) (a .b .now))) (sym (c .before .all-common .ensures) ∙ c .if1 .left))
+    sym (chain-none (rowsOf entry-wide (a .entries) (drop (a .at) (a .book .now))) (sym (c .before .all-common .ensures) ∙ c .if1 .left))
 
 pub updates-are-sound-spec : {M : Type 1} → statement M
 updates-are-sound-spec =

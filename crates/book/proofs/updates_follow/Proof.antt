@@ -6,16 +6,17 @@ use lib.ListN.{drop}
 use Rattle.lists.specs.Part.{part}
 use Rattle.lists.specs.Rows.{rowsOf}
 use Rattle.passage.specs.Layout.{body-wide}
-use Rattle.passage.specs.Ranges.{commonInRange, allCommon}
+use Rattle.passage.specs.Ranges.{commonInRange}
 use Rattle.passage.proofs.CommonLaws.{left, common-start, common-now}
 use Rattle.book.specs.Entries.{body-at, entry-wide}
 use Rattle.book.specs.Rules.{chained, noEntry}
-use Rattle.book.specs.Steps.{chainedAs}
+use Rattle.book.specs.inner.Steps.{chainedAs}
 use Rattle.book.proofs.PlaceLaws.{rest}
 use Rattle.book.proofs.ChainLaws.{chain-start, chain-turn, chain-broken, chain-end}
 use borrow.Author.Needs.{needs}
 use Rattle.book.proofs.updates_follow.Statement.{statement}
 use Rattle.book.proofs.updates_follow.Tie as tie
+use Rattle.passage.specs.inner.Roles.{allCommon}
 
 abbrev Inv-loop : tie.InvT-loop
 Inv-loop b at m number₀ sender₀ kind₀ i₀ number sender kind i =
@@ -27,7 +28,7 @@ abbrev μ-loop : tie.MeasureT-loop
 μ-loop b at m number₀ sender₀ kind₀ i₀ number sender kind i = m - i
 
 loop-holds : tie.Need-loop-holds Inv-loop μ-loop
-loop-holds c = let a = c .before .args in (search needs, chain-start (a .b .now) (a .at) (a .m), sym (common-start entry-wide body-at (a .m) (a .at) (a .b .now)) ∙ c .before .pre .1)
+loop-holds c = let a = c .before .args in (search needs, chain-start (a .book .now) (a .at) (a .entries), sym (common-start entry-wide body-at (a .entries) (a .at) (a .book .now)) ∙ c .before .pre .1)
 
 mul-p : tie.Need-mul-p Inv-loop μ-loop
 mul-p c = search needs
@@ -39,10 +40,10 @@ add-p c = search needs
 common : (c : tie.In-loop Inv-loop μ-loop) →
     let a = c .before .before .before .args in
     let i = c .before .loop .i in
-    (commonInRange (part (a .at + i * entry-wide + body-at) body-wide (a .b .now)) ≡ true) × (allCommon (left entry-wide body-at (a .m) (a .at) (a .b .now) (i + 1)) ≡ true)
+    (commonInRange (part (a .at + i * entry-wide + body-at) body-wide (a .book .now)) ≡ true) × (allCommon (left entry-wide body-at (a .entries) (a .at) (a .book .now) (i + 1)) ≡ true)
 common c =
     let a = c .before .before .before .args in
-    common-now entry-wide body-at (a .m) (a .at) (a .b .now) (c .before .loop .i) (c .loop-test .taken) (omega arith) (c .before .loop .inv .2)
+    common-now entry-wide body-at (a .entries) (a .at) (a .book .now) (c .before .loop .i) (c .loop-test .taken) (omega arith) (c .before .loop .inv .2)
 
 entry-is-sound-requires : tie.Need-entry-is-sound-requires Inv-loop μ-loop
 entry-is-sound-requires c κs = (search needs, common c .0)
@@ -73,21 +74,21 @@ loop-again c =
     let d = c .before .before .before in
     let l = d .before .before .before in
     let a = l .before .before .args in
-    let t = chain-turn (a .b .now) (a .at) (a .m) (l .loop .i) (search needs) (l .loop .number) (l .loop .sender) (l .loop .kind) _ (d .before .entry-is-sound .ensures) (d .if1 .taken) in
+    let t = chain-turn (a .book .now) (a .at) (a .entries) (l .loop .i) (search needs) (l .loop .number) (l .loop .sender) (l .loop .kind) _ (d .before .entry-is-sound .ensures) (d .if1 .taken) in
     (search needs, rw (c .before .before .get-number .ensures) (sym t ∙ l .loop .inv .1), common (d .before .before) .1)
 
 returns : tie.Need-returns Inv-loop μ-loop
 returns c =
     let l = c .before .before .before in
     let a = l .before .before .args in
-    sym (chain-broken (a .b .now) (a .at) (a .m) (l .loop .i) (search needs) (l .loop .number) (l .loop .sender) (l .loop .kind) _ (c .before .entry-is-sound .ensures) (c .if1 .left))
+    sym (chain-broken (a .book .now) (a .at) (a .entries) (l .loop .i) (search needs) (l .loop .number) (l .loop .sender) (l .loop .kind) _ (c .before .entry-is-sound .ensures) (c .if1 .left))
     ∙ l .loop .inv .1
 
 returns-2 : tie.Need-returns-2 Inv-loop μ-loop
 returns-2 c =
     let l = c .before in
     let a = l .before .before .args in
-    sym (chain-end (a .b .now) (a .at) (a .m) (l .loop .i) (l .loop .number) (l .loop .sender) (l .loop .kind) (search needs)) ∙ l .loop .inv .1
+    sym (chain-end (a .book .now) (a .at) (a .entries) (l .loop .i) (l .loop .number) (l .loop .sender) (l .loop .kind) (search needs)) ∙ l .loop .inv .1
 
 pub updates-follow-spec : {M : Type 1} → statement M
 updates-follow-spec =

@@ -9,7 +9,7 @@ use Rattle.passage.specs.Layout.{key-wide, body-wide}
 use Rattle.keys.specs.declared.Found.the-variants.{At}
 use Rattle.keys.specs.Sorted.{lookup}
 use Rattle.book.specs.Entries.{plan-wide}
-use Rattle.book.specs.Steps.{planBodyAt}
+use Rattle.book.specs.inner.Steps.{planBodyAt}
 use Rattle.book.proofs.WriteLaws.{lent-part}
 use Rattle.book.proofs.PlanLaws.{bodies}
 use Rattle.book_find.proofs.FindLaws.{found-below, row-found, row-missing, some-row, row-written}
@@ -26,11 +26,11 @@ enum-known-f c = search needs
 abbrev start : tie.After-known-told → tie.Start
 start c = c .before .before .before .before .before .before .before
 
-found : (c : tie.After-known-told) → At (c .before .f .given .0 .0) ≡ lookup (part (start c .args .q) key-wide (start c .args .k .now)) (bodies (start c .args .n) (start c .args .b .now))
+found : (c : tie.After-known-told) → At (c .before .f .given .0 .0) ≡ lookup (part (start c .args .from) key-wide (start c .args .key .now)) (bodies (start c .args .plans) (start c .args .book .now))
 found c = sym (c .before .f .given .1) ∙ c .before .before .before .find-plan .ensures
 
-below : (c : tie.After-known-told) → c .before .f .given .0 .0 < start c .args .n
-below c = found-below (start c .args .n) (start c .args .b .now) _ (start c .pre .0 .0) _ (found c)
+below : (c : tie.After-known-told) → c .before .f .given .0 .0 < start c .args .plans
+below c = found-below (start c .args .plans) (start c .args .book .now) _ (start c .pre .0 .0) _ (found c)
 
 mul-p : tie.Need-mul-p
 mul-p c = let h = below c in search needs
@@ -73,10 +73,10 @@ returns c =
     let k = d .before .before .before in
     let s = start k in
     let i = k .before .f .given .0 .0 in
-    let g = row-found (s .args .n) (s .args .b .now) (part (s .args .q) key-wide (s .args .k .now)) (s .pre .0 .0) i (found k) in
+    let g = row-found (s .args .plans) (s .args .book .now) (part (s .args .from) key-wide (s .args .key .now)) (s .pre .0 .0) i (found k) in
     let h = below k in
-    let e = d .copy-to .ensures ∙ ap (λ (r : List ℕ). over (s .args .at) r (s .args .out .now)) (lent-part (i * plan-wide + 1) body-wide (s .args .b .now)) in
-    (rw g (some-row (planBodyAt i (s .args .b .now))), rw g (row-written (s .args .at) (i * plan-wide + 1) (s .args .b .now) (s .args .out .now) (d .copy-to .last .0) (omega arith) e))
+    let e = d .copy-to .ensures ∙ ap (λ (r : List ℕ). over (s .args .at) r (s .args .out .now)) (lent-part (i * plan-wide + 1) body-wide (s .args .book .now)) in
+    (rw g (some-row (planBodyAt i (s .args .book .now))), rw g (row-written (s .args .at) (i * plan-wide + 1) (s .args .book .now) (s .args .out .now) (d .copy-to .last .0) (omega arith) e))
 
 enum-told : tie.Need-enum-told
 enum-told c = search needs
@@ -84,7 +84,7 @@ enum-told c = search needs
 returns-2 : tie.Need-returns-2
 returns-2 c =
     let s = c .before .before .before .before .before .before in
-    let g = row-missing (s .args .n) (s .args .b .now) (part (s .args .q) key-wide (s .args .k .now)) (s .pre .0 .0) (c .enum-told .given .0 .0) (sym (c .enum-told .given .1) ∙ c .before .before .find-plan .ensures) in
+    let g = row-missing (s .args .plans) (s .args .book .now) (part (s .args .from) key-wide (s .args .key .now)) (s .pre .0 .0) (c .enum-told .given .0 .0) (sym (c .enum-told .given .1) ∙ c .before .before .find-plan .ensures) in
     (rw g, rw (g, over-nil))
 
 pub plan-row-spec : {M : Type 1} → statement M

@@ -17,14 +17,14 @@ abbrev μ-loop : tie.MeasureT-loop
 loop-holds : tie.Need-loop-holds Inv-loop μ-loop
 loop-holds c = (search needs, refl, marks-start _ _)
 
-mul-b : tie.Need-mul-b Inv-loop μ-loop
-mul-b c = search needs
+mul-book : tie.Need-mul-book Inv-loop μ-loop
+mul-book c = search needs
 
-add-b : tie.Need-add-b Inv-loop μ-loop
-add-b c = search needs
+add-book : tie.Need-add-book Inv-loop μ-loop
+add-book c = search needs
 
-slice-write-b : tie.Need-slice-write-b Inv-loop μ-loop
-slice-write-b c = search needs
+slice-write-book : tie.Need-slice-write-book Inv-loop μ-loop
+slice-write-book c = search needs
 
 add-i : tie.Need-add-i Inv-loop μ-loop
 add-i c = search needs
@@ -36,7 +36,7 @@ loop-again : tie.Need-loop-again Inv-loop μ-loop
 loop-again c =
     let l = c .before .loop in
     let a = c .before .before .args in
-    (omega arith, simp length-set (l .inv .1), marks-turn (a .at) (a .b .now) (l .i) (l .b) (omega arith) (l .inv .2))
+    (omega arith, simp length-set (l .inv .1), marks-turn (a .at) (a .book .now) (l .i) (l .book) (omega arith) (l .inv .2))
 
 same-length : tie.Need-same-length Inv-loop μ-loop
 same-length c = search needs
@@ -44,7 +44,7 @@ same-length c = search needs
 returns : tie.Need-returns Inv-loop μ-loop
 returns c =
     let a = c .before .before .args in
-    c .before .loop .inv .2 ∙ ap (λ (i : ℕ). over (a .at) (marks (a .at) (a .b .now) i) (a .b .now)) (omega arith)
+    c .before .loop .inv .2 ∙ ap (λ (i : ℕ). over (a .at) (marks (a .at) (a .book .now) i) (a .book .now)) (omega arith)
 
 pub mark-withdrawn-spec : {M : Type 1} → statement M
 mark-withdrawn-spec =
@@ -53,9 +53,9 @@ mark-withdrawn-spec =
     Inv-loop
     μ-loop
     loop-holds
-    mul-b
-    add-b
-    slice-write-b
+    mul-book
+    add-book
+    slice-write-book
     add-i
     loop-less
     loop-again

@@ -38,7 +38,7 @@ loop-again c =
     let w = c .before .before in
     let l = w .before .before .before .loop in
     let a = w .before .before .before .before .before .before .args in
-    let t = written-turn (a .number) (a .sender) (a .s .now) (l .i) (a .tail .now) (l .tail) (w .write-entry .last .0) (omega arith) (w .write-entry .ensures) (l .inv .2) in
+    let t = written-turn (a .number) (a .sender) (a .bodies .now) (l .i) (a .tail .now) (l .tail) (w .write-entry .last .0) (omega arith) (w .write-entry .ensures) (l .inv .2) in
     (search needs, ap length t ∙ length-over _ _ _, t)
 
 same-length : tie.Need-same-length Inv-loop μ-loop
@@ -47,7 +47,7 @@ same-length c = search needs
 returns : tie.Need-returns Inv-loop μ-loop
 returns c =
     let a = c .before .before .before .before .args in
-    c .before .loop .inv .2 ∙ ap (λ (i : ℕ). over 0 (written (a .number) (a .sender) (a .s .now) i) (a .tail .now)) (omega arith)
+    c .before .loop .inv .2 ∙ ap (λ (i : ℕ). over 0 (written (a .number) (a .sender) (a .bodies .now) i) (a .tail .now)) (omega arith)
 
 pub write-entries-spec : {M : Type 1} → statement M
 write-entries-spec =

@@ -62,15 +62,15 @@ same-length c =
     let e = c .before .before in
     let d = e .before .before .before .before .before in
     let a = d .before .before .before .before .args in
-    done-length (a .at) (a .number) (a .sender) (a .tail .now) (d .put-number .last .0) (d .put-number .ensures) (lent (a .p) (a .s .now)) (e .copy-to .last .0) (e .copy-to .ensures)
+    done-length (a .at) (a .number) (a .sender) (a .tail .now) (d .put-number .last .0) (d .put-number .ensures) (lent (a .from) (a .bodies .now)) (e .copy-to .last .0) (e .copy-to .ensures)
 
 returns : tie.Need-returns
 returns c =
     let e = c .before .before in
     let d = e .before .before .before .before .before in
     let a = d .before .before .before .before .args in
-    entry-written (a .at) (a .number) (a .sender) (a .tail .now) (d .put-number .last .0) (d .put-number .ensures) (lent (a .p) (a .s .now)) (e .copy-to .last .0) (e .copy-to .ensures)
-    ∙ ap (λ (r : List ℕ). over (a .at) (entryOf (a .number) (a .sender) r) (a .tail .now)) (lent-part (a .p) body-wide (a .s .now))
+    entry-written (a .at) (a .number) (a .sender) (a .tail .now) (d .put-number .last .0) (d .put-number .ensures) (lent (a .from) (a .bodies .now)) (e .copy-to .last .0) (e .copy-to .ensures)
+    ∙ ap (λ (r : List ℕ). over (a .at) (entryOf (a .number) (a .sender) r) (a .tail .now)) (lent-part (a .from) body-wide (a .bodies .now))
 
 pub write-entry-spec : {M : Type 1} → statement M
 write-entry-spec =

@@ -1,17 +1,17 @@
-use Rattle.lists.specs.Logic.{both}
 use mathlib.Core.Path.{_≡_, sym, ap, _∙_}
-use mathlib.Core.Bool.{true}
+use mathlib.Core.Bool.{true, _&&_}
 use Prim.Native.Nat.{_+_, _*_, _-_, _≤_}
 use native.Mathlib.Omega.{arith}
 use borrow.Author.Needs.{needs}
 use Rattle.lists.specs.Part.{part}
 use Rattle.passage.specs.Layout.{body-wide, row-wide}
-use Rattle.passage.specs.Ranges.{commonInRange, allCommon}
+use Rattle.passage.specs.Ranges.{commonInRange}
 use Rattle.passage.proofs.CommonLaws.{left, common-start, common-now}
 use Rattle.table.specs.Rules.{rows, allInRange}
 use Rattle.table.proofs.SoundLaws.{rest, rest-start, range-step, range-end}
 use Rattle.table.proofs.all_in_range.Statement.{statement}
 use Rattle.table.proofs.all_in_range.Tie as tie
+use Rattle.passage.specs.inner.Roles.{allCommon}
 
 abbrev Inv-loop : tie.InvT-loop
 Inv-loop t n i₀ i = (i ≤ n) × (allInRange (rows n t) ≡ allInRange (rest n t i)) × (allCommon (left row-wide 0 n 0 t i) ≡ true)
@@ -22,7 +22,7 @@ abbrev μ-loop : tie.MeasureT-loop
 loop-holds : tie.Need-loop-holds Inv-loop μ-loop
 loop-holds c =
     let s = c .before .args in
-    (search needs, ap allInRange (rest-start (s .n) (s .t .now)), sym (common-start row-wide 0 (s .n) 0 (s .t .now)) ∙ c .before .pre .1)
+    (search needs, ap allInRange (rest-start (s .count) (s .table .now)), sym (common-start row-wide 0 (s .count) 0 (s .table .now)) ∙ c .before .pre .1)
 
 mul-row-in-range : tie.Need-mul-row-in-range Inv-loop μ-loop
 mul-row-in-range c = search needs
@@ -31,10 +31,10 @@ mul-row-in-range c = search needs
 common : (c : tie.In-loop Inv-loop μ-loop) →
     let s = c .before .before .before .args in
     let i = c .before .loop .i in
-    (commonInRange (part (0 + i * row-wide + 0) body-wide (s .t .now)) ≡ true) × (allCommon (left row-wide 0 (s .n) 0 (s .t .now) (i + 1)) ≡ true)
+    (commonInRange (part (0 + i * row-wide + 0) body-wide (s .table .now)) ≡ true) × (allCommon (left row-wide 0 (s .count) 0 (s .table .now) (i + 1)) ≡ true)
 common c =
     let s = c .before .before .before .args in
-    common-now row-wide 0 (s .n) 0 (s .t .now) (c .before .loop .i) (c .loop-test .taken) (omega arith) (c .before .loop .inv .2)
+    common-now row-wide 0 (s .count) 0 (s .table .now) (c .before .loop .i) (c .loop-test .taken) (omega arith) (c .before .loop .inv .2)
 
 row-in-range-requires : tie.Need-row-in-range-requires Inv-loop μ-loop
 row-in-range-requires c κs =
@@ -51,11 +51,11 @@ loop-less c = search needs
 -- in a turn: the row decides, or else the rest
 step : (c : tie.After-row-in-range Inv-loop μ-loop) →
     let s = c .before .before .before .before .args in
-    allInRange (rows (s .n) (s .t .now)) ≡ both (c .row-in-range .result) (allInRange (rest (s .n) (s .t .now) (c .before .before .loop .i + 1)))
+    allInRange (rows (s .count) (s .table .now)) ≡ (c .row-in-range .result && allInRange (rest (s .count) (s .table .now) (c .before .before .loop .i + 1)))
 step c =
     let s = c .before .before .before .before .args in
     let i = c .before .before .loop .i in
-    c .before .before .loop .inv .1 ∙ range-step (s .n) (s .t .now) i (c .before .loop-test .taken) ∙ rw (← (c .row-in-range .ensures))
+    c .before .before .loop .inv .1 ∙ range-step (s .count) (s .table .now) i (c .before .loop-test .taken) ∙ rw (← (c .row-in-range .ensures))
 
 loop-again : tie.Need-loop-again Inv-loop μ-loop
 loop-again c = (omega arith, step (c .before) ∙ rw (c .if1 .taken), common (c .before .before) .1)
@@ -66,7 +66,7 @@ returns c = rw (step (c .before), c .if1 .left)
 returns-2 : tie.Need-returns-2 Inv-loop μ-loop
 returns-2 c =
     let s = c .before .before .before .args in
-    sym (c .before .loop .inv .1 ∙ range-end (s .n) (s .t .now) (c .before .loop .i) (c .loop-test .left))
+    sym (c .before .loop .inv .1 ∙ range-end (s .count) (s .table .now) (c .before .loop .i) (c .loop-test .left))
 
 pub all-in-range-spec : {M : Type 1} → statement M
 all-in-range-spec =

@@ -22,7 +22,7 @@ abbrev μ-loop : tie.MeasureT-loop
 loop-holds : tie.Need-loop-holds Inv-loop μ-loop
 loop-holds c =
     let s = c .before .before in
-    (omega arith, omega arith, omega arith, seek-rows (s .args .n) (s .args .t .now) (part (s .args .q) key-wide (s .args .k .now)) (s .pre .1))
+    (omega arith, omega arith, omega arith, seek-rows (s .args .count) (s .args .table .now) (part (s .args .from) key-wide (s .args .key .now)) (s .pre .1))
 
 probe-requires : tie.Need-probe-requires Inv-loop μ-loop
 probe-requires c κs = search needs
@@ -55,15 +55,15 @@ abbrev look : tie.After-compare-key Inv-loop μ-loop → ℕ
 look c = c .before .probe .result
 
 abbrev key : tie.After-compare-key Inv-loop μ-loop → List ℕ
-key c = part (st c .args .q) key-wide (st c .args .k .now)
+key c = part (st c .args .from) key-wide (st c .args .key .now)
 
 -- the comparison was with the key of the row looked at
-compared : (c : tie.After-compare-key Inv-loop μ-loop) → cmp (keyOf (getD (rows (st c .args .n) (st c .args .t .now)) (look c) [])) (key c) ≡ c .compare-key .result
+compared : (c : tie.After-compare-key Inv-loop μ-loop) → cmp (keyOf (getD (rows (st c .args .count) (st c .args .table .now)) (look c) [])) (key c) ≡ c .compare-key .result
 compared c =
     let s = st c .args in
     let h = c .before .before .before .loop .inv .0 in
     let e = c .before .probe .ensures in
-    rw (key-at (s .n) (look c) (s .t .now) (omega arith)) (sym (c .compare-key .ensures))
+    rw (key-at (s .count) (look c) (s .table .now) (omega arith)) (sym (c .compare-key .ensures))
 
 loop-less : tie.Need-loop-less Inv-loop μ-loop
 loop-less c = search needs
@@ -74,7 +74,7 @@ loop-again c =
     let s = st d .args in
     let i = d .before .before .before .loop .inv in
     let e = d .before .probe .ensures in
-    (i .0, i .2, omega arith, seek-up (rows (s .n) (s .t .now)) (key d) (low d) (look d) (high d) (i .3) (e .0) (e .1) (compared d ∙ c .enum-told .given .1))
+    (i .0, i .2, omega arith, seek-up (rows (s .count) (s .table .now)) (key d) (low d) (look d) (high d) (i .3) (e .0) (e .1) (compared d ∙ c .enum-told .given .1))
 
 enum-told-2 : tie.Need-enum-told-2 Inv-loop μ-loop
 enum-told-2 c = search needs
@@ -84,7 +84,7 @@ returns c =
     let d = c .before .before in
     let s = st d .args in
     let e = d .before .probe .ensures in
-    seek-here (rows (s .n) (s .t .now)) (key d) (low d) (look d) (high d) (d .before .before .before .loop .inv .3) (e .0) (e .1) (compared d ∙ c .enum-told2 .given .1)
+    seek-here (rows (s .count) (s .table .now)) (key d) (low d) (look d) (high d) (d .before .before .before .loop .inv .3) (e .0) (e .1) (compared d ∙ c .enum-told2 .given .1)
 
 enum-told-3 : tie.Need-enum-told-3 Inv-loop μ-loop
 enum-told-3 c = search needs
@@ -98,13 +98,13 @@ loop-again-2 c =
     let s = st d .args in
     let i = d .before .before .before .loop .inv in
     let e = d .before .probe .ensures in
-    (omega arith, i .1, i .2, seek-down (rows (s .n) (s .t .now)) (key d) (low d) (look d) (high d) (i .3) (e .0) (e .1) (compared d ∙ c .enum-told3 .given .1))
+    (omega arith, i .1, i .2, seek-down (rows (s .count) (s .table .now)) (key d) (low d) (look d) (high d) (i .3) (e .0) (e .1) (compared d ∙ c .enum-told3 .given .1))
 
 returns-2 : tie.Need-returns-2 Inv-loop μ-loop
 returns-2 c =
     let s = c .before .before .before .before .args in
     let l = c .before .loop in
-    seek-end (rows (s .n) (s .t .now)) (part (s .q) key-wide (s .k .now)) (l .low) (l .high) (l .inv .3) (c .loop-test .left)
+    seek-end (rows (s .count) (s .table .now)) (part (s .from) key-wide (s .key .now)) (l .low) (l .high) (l .inv .3) (c .loop-test .left)
 
 pub find-near-spec : {M : Type 1} → statement M
 find-near-spec =

@@ -5,8 +5,8 @@ use borrow.Author.Needs.{needs}
 use Rattle.table.proofs.insert_row.Statement.{statement}
 use Rattle.table.proofs.insert_row.Tie as tie
 
-mul-place : tie.Need-mul-place
-mul-place c = search needs
+mul-at : tie.Need-mul-at
+mul-at c = search needs
 
 mul-shift-up : tie.Need-mul-shift-up
 mul-shift-up c = search needs
@@ -25,8 +25,8 @@ returns c =
     let moved = c .before .before .before .before .before .before .shift-up in
     let s = c .before .before .before .before .before .before .before .before .before .before in
     c .before .before .copy-to .ensures
-    ∙ move-in (s .args .n) (s .args .i) (s .args .t .now) (moved .last .0) (omega arith) (s .args .r .now) (s .pre .2) (s .pre .0) (moved .ensures)
+    ∙ move-in (s .args .count) (s .args .place) (s .args .table .now) (moved .last .0) (omega arith) (s .args .row .now) (s .pre .2) (s .pre .0) (moved .ensures)
 
 pub insert-row-spec : {M : Type 1} → statement M
 insert-row-spec =
-    tie.close (tie.spec mul-place mul-shift-up shift-up-requires copy-to-requires same-length returns)
+    tie.close (tie.spec mul-at mul-shift-up shift-up-requires copy-to-requires same-length returns)

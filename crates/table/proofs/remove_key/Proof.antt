@@ -22,18 +22,18 @@ enum-known-f : tie.Need-enum-known-f
 enum-known-f c = search needs
 
 abbrev key : tie.Start → List ℕ
-key s = part (s .args .q) key-wide (s .args .k .now)
+key s = part (s .args .from) key-wide (s .args .key .now)
 
 -- what find gave
 found : (c : tie.After-f) →
     let s = c .before .before .before .before .before .before in
-    lookup (key s) (rows (s .args .n) (s .args .t .now)) ≡ At (c .f .given .0 .0)
+    lookup (key s) (rows (s .args .count) (s .args .table .now)) ≡ At (c .f .given .0 .0)
 found c = sym (c .before .before .find .ensures) ∙ c .f .given .1
 
-below : (c : tie.After-f) → c .f .given .0 .0 < c .before .before .before .before .before .before .args .n
+below : (c : tie.After-f) → c .f .given .0 .0 < c .before .before .before .before .before .before .args .count
 below c =
     let s = c .before .before .before .before .before .before in
-    found-below row-wide (s .args .n) _ (key s) (s .args .t .now) (found c)
+    found-below row-wide (s .args .count) _ (key s) (s .args .table .now) (found c)
 
 remove-row-requires : tie.Need-remove-row-requires
 remove-row-requires c κs = let s = c .before .before .before .before .before .before .before .before in (below (c .before .before), s .pre .0 .0)
@@ -51,8 +51,8 @@ returns : tie.Need-returns
 returns c =
     let d = c .before .before .before .before .before in
     let s = d .before .before .before .before .before .before in
-    let e = remove-at (key s) (rows (s .args .n) (s .args .t .now)) _ (found d) in
-    (rw e (sym (length-removeAt row-wide (s .args .n) _ (s .args .t .now) (s .pre .0 .0) (below d))), rw e (c .before .before .remove-row .ensures))
+    let e = remove-at (key s) (rows (s .args .count) (s .args .table .now)) _ (found d) in
+    (rw e (sym (length-removeAt row-wide (s .args .count) _ (s .args .table .now) (s .pre .0 .0) (below d))), rw e (c .before .before .remove-row .ensures))
 
 same-length-2 : tie.Need-same-length-2
 same-length-2 c = search needs
@@ -60,7 +60,7 @@ same-length-2 c = search needs
 returns-2 : tie.Need-returns-2
 returns-2 c =
     let s = c .before .before .before .before .before .before in
-    let e = remove-at (key s) (rows (s .args .n) (s .args .t .now)) _ (sym (c .before .before .find .ensures) ∙ c .enum-told .given .1) in
+    let e = remove-at (key s) (rows (s .args .count) (s .args .table .now)) _ (sym (c .before .before .find .ensures) ∙ c .enum-told .given .1) in
     (rw (e, length-rowsOf), rw (e, store-same))
 
 pub remove-key-spec : {M : Type 1} → statement M

@@ -4,8 +4,8 @@ use borrow.Author.Needs.{needs}
 use Rattle.table.proofs.remove_row.Statement.{statement}
 use Rattle.table.proofs.remove_row.Tie as tie
 
-mul-a : tie.Need-mul-a
-mul-a c = search needs
+mul-at : tie.Need-mul-at
+mul-at c = search needs
 
 sub-behind : tie.Need-sub-behind
 sub-behind c = search needs
@@ -32,13 +32,13 @@ returns : tie.Need-returns
 returns c =
     let moved = c .before .before .before .before .before .before .shift-down in
     let s = c .before .before .before .before .before .before .before .before .before in
-    c .before .before .clear .ensures ∙ move-out (s .args .n) (s .args .i) (s .args .t .now) (moved .last .0) (s .pre .1) (s .pre .0) (moved .ensures)
+    c .before .before .clear .ensures ∙ move-out (s .args .count) (s .args .place) (s .args .table .now) (moved .last .0) (s .pre .1) (s .pre .0) (moved .ensures)
 
 pub remove-row-spec : {M : Type 1} → statement M
 remove-row-spec =
     tie.close
     (tie.spec
-    mul-a
+    mul-at
     sub-behind
     sub-behind-2
     mul-behind

@@ -17,7 +17,7 @@ same-length c = search needs
 returns : tie.Need-returns
 returns c =
     let s = c .before .before .before .before .before .before in
-    c .before .before .copy-to .ensures ∙ store-replace row-wide (s .args .n) (s .args .i) (s .args .t .now) (s .pre .1) (s .args .r .now) (s .pre .2) (s .pre .0)
+    c .before .before .copy-to .ensures ∙ store-replace row-wide (s .args .count) (s .args .place) (s .args .table .now) (s .pre .1) (s .args .row .now) (s .pre .2) (s .pre .0)
 
 pub replace-row-spec : {M : Type 1} → statement M
 replace-row-spec = tie.close (tie.spec mul-copy-to copy-to-requires same-length returns)

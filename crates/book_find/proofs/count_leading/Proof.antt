@@ -1,24 +1,20 @@
 use mathlib.Core.Path.{_≡_, sym, _∙_}
-use Prim.Native.Nat.{_+_, _-_, _≤_}
+use Prim.Native.Nat.{_-_, _≤_}
 use native.Mathlib.Omega.{arith}
-use lib.ListN.{drop}
-use Rattle.lists.specs.Rows.{rowsOf}
-use Rattle.book.specs.Entries.{entry-wide}
-use Rattle.book.specs.Rules.{runOf}
-use Rattle.book.proofs.PlaceLaws.{rest, rest-start}
-use Rattle.book_find.proofs.CountLaws.{run-stop, run-next, run-end}
+use lib.Dec.{eqb}
+use Rattle.book_find.proofs.CountLaws.{as-wanted, not-as-wanted, Leads, leads-start, leads-turn, leads-until, leads-end}
 use borrow.Author.Needs.{needs}
-use Rattle.book_find.proofs.count_run.Statement.{statement}
-use Rattle.book_find.proofs.count_run.Tie as tie
+use Rattle.book_find.proofs.count_leading.Statement.{statement}
+use Rattle.book_find.proofs.count_leading.Tie as tie
 
 abbrev Inv-loop : tie.InvT-loop
-Inv-loop b at m number i₀ i = (i ≤ m) × (runOf number (rowsOf entry-wide m (drop at b)) ≡ i + runOf number (rest b at m i))
+Inv-loop book at entries number own i₀ i = (i ≤ entries) × Leads book at entries number own i
 
 abbrev μ-loop : tie.MeasureT-loop
-μ-loop b at m number i₀ i = m - i
+μ-loop book at entries number own i₀ i = entries - i
 
 loop-holds : tie.Need-loop-holds Inv-loop μ-loop
-loop-holds c = let a = c .before .args in (search needs, rw (rest-start (a .b .now) (a .at) (a .m)) (omega arith))
+loop-holds c = let a = c .before .args in (search needs, leads-start (a .book .now) (a .at) (a .entries) (a .number) (a .own))
 
 mul-get-number : tie.Need-mul-get-number Inv-loop μ-loop
 mul-get-number c = search needs
@@ -37,8 +33,7 @@ returns c =
     let l = c .before .before .before in
     let a = l .before .before .args in
     let n = c .before .get-number .ensures in
-    let e = run-stop (a .b .now) (a .at) (a .m) (a .number) (l .loop .i) (search needs) (rw (← n) (c .if1 .taken)) in
-    sym (l .loop .inv .1 ∙ omega arith)
+    leads-until (a .book .now) (a .at) (a .entries) (a .number) (a .own) (l .loop .i) (search needs) (l .loop .inv .1) (rw (← n) (not-as-wanted (eqb (c .before .get-number .result) (a .number)) (a .own) (c .if1 .taken)))
 
 add-i : tie.Need-add-i Inv-loop μ-loop
 add-i c = search needs
@@ -51,18 +46,16 @@ loop-again c =
     let l = c .before .before .before in
     let a = l .before .before .args in
     let n = c .before .get-number .ensures in
-    let e = run-next (a .b .now) (a .at) (a .m) (a .number) (l .loop .i) (search needs) (rw (← n) (c .if1 .left)) in
-    (search needs, l .loop .inv .1 ∙ omega arith)
+    (search needs, leads-turn (a .book .now) (a .at) (a .entries) (a .number) (a .own) (l .loop .i) (search needs) (l .loop .inv .1) (rw (← n) (as-wanted (eqb (c .before .get-number .result) (a .number)) (a .own) (c .if1 .left))))
 
 returns-2 : tie.Need-returns-2 Inv-loop μ-loop
 returns-2 c =
     let l = c .before in
     let a = l .before .before .args in
-    let e = run-end (a .b .now) (a .at) (a .m) (a .number) (l .loop .i) (search needs) in
-    sym (l .loop .inv .1 ∙ omega arith)
+    leads-end (a .book .now) (a .at) (a .entries) (a .number) (a .own) (l .loop .i) (omega arith) (l .loop .inv .1)
 
-pub count-run-spec : {M : Type 1} → statement M
-count-run-spec =
+pub count-leading-spec : {M : Type 1} → statement M
+count-leading-spec =
     tie.close
     (tie.spec
     Inv-loop
