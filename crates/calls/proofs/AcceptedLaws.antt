@@ -2,28 +2,28 @@
 use Prim.Native.Nat.{ℕ, _+_, _*_, _≤_}
 use native.Mathlib.Omega.{arith}
 use mathlib.Core.Path.{_≡_, refl, ap}
-use mathlib.Core.Bool.{Bool, true, false}
+use mathlib.Core.Bool.{Bool, true, false, _&&_, _||_}
 use mathlib.Core.List.{List, [], _∷_}
 use borrow.Author.Tests.{leb-true, le-leb}
 use lib.Dec.{eqb, leb}
 use lib.ListN.{length}
-use Rattle.lists.specs.Logic.{on, both, either}
-use Rattle.lists.proofs.LogicLaws.{both-true}
+use Rattle.lists.specs.Logic.{on}
+use Rattle.lists.proofs.LogicLaws.{and-pass}
 use Rattle.register.specs.Register.{registerSound}
 use Rattle.columns.specs.declared.Table.the-variants as Tables
-use Rattle.reader.specs.declared.Answer.{Answer as Reading}
-use Rattle.reader.specs.declared.Answer.the-variants as Readings
+use Rattle.reader.specs.declared.Reading.{Reading}
+use Rattle.reader.specs.declared.Reading.the-variants as Readings
 use Rattle.reader.specs.Rules.{readingOf}
 use Rattle.reader.proofs.AnswerLaws.{accepted}
-use Rattle.table.specs.Rules.{tableSound, room}
+use Rattle.table.specs.Rules.{tableSound, tableRoom}
 use Rattle.book.specs.Entries.{entry-wide, senderOf, kindOf, updatesIn}
 use Rattle.book.specs.Rules.{bookSound, bookRoom, messageEntries}
 use Rattle.calls.specs.declared.Answer.{Answer}
 use Rattle.calls.specs.declared.Answer.the-variants.{Accepted, Unsound, BookShort, TableShort, AlreadyWithdrawn, OtherSender}
 use Rattle.calls.specs.declared.Counts.{Counts}
 use Rattle.calls.specs.Answers.{isAccepted, unlessRefused}
-use Rattle.calls.specs.Message.{messageSound, messageBodies, numberFor, rowsTaken, roomFor, messageAnswer}
-use Rattle.calls.specs.Withdraw.{withdrawSound, rowsWithout, unlessBarred, withdrawAnswer}
+use Rattle.calls.specs.Message.{messageSound, messageRows, numberFor, rowsTaken, roomFor, messageAnswer}
+use Rattle.calls.specs.Withdraw.{withdrawSound, rowsWithout, unlessBarred, roomWithout, withdrawAnswer}
 use Rattle.calls.specs.Claims.{MessageAcceptedExactly, WithdrawAcceptedExactly}
 
 -- ---- a choice between what may be accepted and a refusal
@@ -45,20 +45,20 @@ read-on w (Readings.Rows n) next e = ((n, refl), e)
 
 module _ (d register book table : List ℕ) (sender : ℕ) (c : Counts) where
   abbrev bodies : List (List ℕ)
-  bodies = messageBodies register sender d
+  bodies = messageRows d
 
   abbrev fits : Bool
   fits = leb (c .used + length bodies * entry-wide) (bookRoom book)
 
   abbrev holds : Bool
-  holds = leb (length (rowsTaken bodies table (c .rows))) (room table)
+  holds = leb (length (rowsTaken bodies table (c .rows))) (tableRoom table)
 
   -- what an accepted message passed
   pub record Passed : Type 0 where
     pub sound : messageSound register book table c ≡ true
     pub rows : (n : ℕ) × (readingOf Tables.Message register sender d ≡ Readings.Rows n)
     pub in-book : c .used + length bodies * entry-wide ≤ bookRoom book
-    pub in-table : length (rowsTaken bodies table (c .rows)) ≤ room table
+    pub in-table : length (rowsTaken bodies table (c .rows)) ≤ tableRoom table
 
   pub passed : isAccepted (messageAnswer d sender register book table c) ≡ true → Passed
   unfolding messageAnswer roomFor
@@ -77,8 +77,8 @@ module _ (d register book table : List ℕ) (sender : ℕ) (c : Counts) where
   pub sound-parts : messageSound register book table c ≡ true → (registerSound register ≡ true) × (bookSound (c .used) book ≡ true) × (tableSound (c .rows) table ≡ true)
   unfolding messageSound
   sound-parts e =
-      let p = both-true (registerSound register) (both (bookSound (c .used) book) (tableSound (c .rows) table)) e in
-      let q = both-true (bookSound (c .used) book) (tableSound (c .rows) table) (p .1) in
+      let p = and-pass (registerSound register) (bookSound (c .used) book && tableSound (c .rows) table) e in
+      let q = and-pass (bookSound (c .used) book) (tableSound (c .rows) table) (p .1) in
       (p .0, q .0, q .1)
 
   parts-sound : registerSound register ≡ true → bookSound (c .used) book ≡ true → tableSound (c .rows) table ≡ true → messageSound register book table c ≡ true
@@ -105,19 +105,19 @@ module _ (book table : List ℕ) (number sender : ℕ) (c : Counts) where
   us = updatesIn (c .used) book
 
   abbrev remains : Bool
-  remains = leb (length (rowsWithout number book (c .used) table (c .rows))) (room table)
+  remains = leb (length (rowsWithout number book (c .used) table (c .rows))) (tableRoom table)
 
   -- a message that the sender may withdraw and that stands
   abbrev pub Standing : List (List ℕ) → Type 0
-  Standing ms = (e : List ℕ) × (es : List (List ℕ)) × (ms ≡ e ∷ es) × (either (eqb sender 0) (eqb sender (senderOf e)) ≡ true) × (eqb (kindOf e) 3 ≡ false)
+  Standing ms = (e : List ℕ) × (es : List (List ℕ)) × (ms ≡ e ∷ es) × ((eqb sender 0 || eqb sender (senderOf e)) ≡ true) × (eqb (kindOf e) 3 ≡ false)
 
   unbarred : (ms : List (List ℕ)) (next : Answer) → isAccepted (unlessBarred ms sender next) ≡ true → Standing ms × (isAccepted next ≡ true)
   unbarred [] next e = absurd (let z : _≡_ {A = ℕ} 0 1 = cc in omega arith)
   unbarred (m ∷ ms) next e =
-      let p = first-of (either (eqb sender 0) (eqb sender (senderOf m))) (on (eqb (kindOf m) 3) AlreadyWithdrawn next) OtherSender refl e in
+      let p = first-of (eqb sender 0 || eqb sender (senderOf m)) (on (eqb (kindOf m) 3) AlreadyWithdrawn next) OtherSender refl e in
       go (eqb (kindOf m) 3) refl (p .0) (p .1)
     where
-      go : (b : Bool) → eqb (kindOf m) 3 ≡ b → either (eqb sender 0) (eqb sender (senderOf m)) ≡ true → isAccepted (on b AlreadyWithdrawn next) ≡ true → Standing (m ∷ ms) × (isAccepted next ≡ true)
+      go : (b : Bool) → eqb (kindOf m) 3 ≡ b → (eqb sender 0 || eqb sender (senderOf m)) ≡ true → isAccepted (on b AlreadyWithdrawn next) ≡ true → Standing (m ∷ ms) × (isAccepted next ≡ true)
       go true q h k = absurd (let z : _≡_ {A = ℕ} 0 1 = cc in omega arith)
       go false q h k = ((m, ms, refl, h, q), k)
 
@@ -126,23 +126,23 @@ module _ (book table : List ℕ) (number sender : ℕ) (c : Counts) where
     pub book-sound : bookSound (c .used) book ≡ true
     pub table-sound : tableSound (c .rows) table ≡ true
     pub stands : Standing (messageEntries number us)
-    pub in-table : length (rowsWithout number book (c .used) table (c .rows)) ≤ room table
+    pub in-table : length (rowsWithout number book (c .used) table (c .rows)) ≤ tableRoom table
 
   pub left : isAccepted (withdrawAnswer number sender book table c) ≡ true → Left
-  unfolding withdrawAnswer withdrawSound
+  unfolding withdrawAnswer withdrawSound roomWithout
   left e =
       let s = first-of (withdrawSound book table c) (unlessBarred (messageEntries number us) sender (on remains (Accepted 0) TableShort)) Unsound refl e in
-      let q = both-true (bookSound (c .used) book) (tableSound (c .rows) table) (s .0) in
+      let q = and-pass (bookSound (c .used) book) (tableSound (c .rows) table) (s .0) in
       let u = unbarred (messageEntries number us) (on remains (Accepted 0) TableShort) (s .1) in
       let t = first-of remains (Accepted 0) TableShort refl (u .1) in
       record { book-sound = q .0; table-sound = q .1; stands = u .0; in-table = leb-true _ _ (t .0) }
 
-  leaves : Left → withdrawAnswer number sender book table c ≡ Accepted 0
-  unfolding withdrawAnswer withdrawSound
-  leaves p = rw (p .book-sound, p .table-sound, p .stands .2, p .stands .3, p .stands .4, le-leb _ _ (p .in-table))
+  without : Left → withdrawAnswer number sender book table c ≡ Accepted 0
+  unfolding withdrawAnswer withdrawSound roomWithout
+  without p = rw (p .book-sound, p .table-sound, p .stands .2, p .stands .3, p .stands .4, le-leb _ _ (p .in-table))
 
 pub withdraw-exactly : WithdrawAcceptedExactly
 withdraw-exactly book table number sender c = (
   λ e. let p = left book table number sender c e in (p .book-sound, p .table-sound, p .stands, p .in-table),
-  λ f. ap isAccepted (leaves book table number sender c (record { book-sound = f .0; table-sound = f .1; stands = f .2; in-table = f .3 })),
+  λ f. ap isAccepted (without book table number sender c (record { book-sound = f .0; table-sound = f .1; stands = f .2; in-table = f .3 })),
 )

@@ -2,8 +2,30 @@
 use Rattle.calls.specs.Claims.{All}
 use Rattle.calls.proofs.RefusalLaws.{acceptance-is-zero, refusals-give-back, numbers-listed}
 use Rattle.calls.proofs.AcceptedLaws.{message-exactly, withdraw-exactly}
+use Rattle.calls.proofs.KeyFieldLaws.{key-fields}
 use Rattle.calls.proofs.TakenLaws.{rows-change}
-use Rattle.calls.proofs.OrderLaws.{message-order, withdraw-order, open-order}
+use Rattle.calls.proofs.BytesLaws.{rows-are-lines, message-numbered, rows-to-book, freed-and-kept}
+use Rattle.calls.proofs.AgainLaws.{marks-entries, works-again}
+use Rattle.calls.proofs.OpenedLaws.{leaves-plan, plan-exactly, reads-lengths}
+use Rattle.calls.proofs.NumbersLaws.{numbers-are-tables}
 
 pub claims : All
-claims = (acceptance-is-zero, refusals-give-back, numbers-listed, message-order, withdraw-order, open-order, message-exactly, rows-change, withdraw-exactly)
+claims = (
+  acceptance-is-zero,
+  refusals-give-back,
+  numbers-listed,
+  numbers-are-tables,
+  message-exactly,
+  key-fields,
+  rows-change,
+  rows-are-lines,
+  message-numbered,
+  rows-to-book,
+  freed-and-kept,
+  leaves-plan,
+  plan-exactly,
+  reads-lengths,
+  withdraw-exactly,
+  marks-entries,
+  works-again,
+)

@@ -1,6 +1,11 @@
+pub mod LeavesLaws
 pub mod RefusalLaws
 pub mod AcceptedLaws
+pub mod KeyFieldLaws
 pub mod TakenLaws
-pub mod OrderLaws
+pub mod AgainLaws
+pub mod BytesLaws
+pub mod OpenedLaws
+pub mod NumbersLaws
 pub mod Claims
 pub mod Determined

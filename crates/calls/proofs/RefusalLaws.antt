@@ -2,34 +2,34 @@
 use Prim.Native.Nat.{ℕ, _*_}
 use native.Mathlib.Omega.{arith}
 use mathlib.Core.Path.{_≡_, refl}
-use mathlib.Core.Bool.{Bool, true, false}
+use mathlib.Core.Bool.{Bool, true, false, _||_}
 use mathlib.Core.List.{List, [], _∷_}
 use lib.Dec.{eqb, leb, ltb}
 use lib.ListN.{length}
-use Rattle.lists.specs.Logic.{on, either}
+use Rattle.lists.specs.Logic.{on}
 use Rattle.syntax.specs.declared.Verdict.{Verdict}
 use Rattle.syntax.specs.declared.Verdict.the-variants as Verdicts
 use Rattle.syntax.specs.Machine.{fault}
 use Rattle.columns.specs.declared.Table.{Table}
 use Rattle.columns.specs.declared.Table.the-variants as Tables
 use Rattle.columns.specs.Tables.{rowOf}
-use Rattle.reader_step.specs.Step.{maySend}
-use Rattle.reader.specs.declared.Answer.{Answer as Reading}
-use Rattle.reader.specs.declared.Answer.the-variants as Readings
+use Rattle.reader.specs.declared.Reading.{Reading}
+use Rattle.reader.specs.declared.Reading.the-variants as Readings
 use Rattle.reader.specs.Items.{Item, head, row}
-use Rattle.reader.specs.Rules.{largest, formBad, isWrong, ownerBad, firstLine, bySyntax, answerTo, itemsOf, readingOf}
+use Rattle.reader.specs.Rules.{largest, formBad, isWrong, ownerBad, firstLine, isLine, faults, faultPlace, answerTo, itemsOf, readingOf}
 use Rattle.keys.specs.Sorted.{putAll}
-use Rattle.table.specs.Rules.{room}
+use Rattle.table.specs.Rules.{tableRoom}
 use Rattle.book.specs.Entries.{plan-wide, senderOf, kindOf, updatesIn}
 use Rattle.book.specs.Rules.{bookRoom, messageEntries}
 use Rattle.calls.specs.declared.Answer.{Answer}
 use Rattle.calls.specs.declared.Answer.the-variants.{Accepted, Unsound, TooLong, Syntax, Form, Field, Owner, BookShort, TableShort, KeyTwice, NoMessage, AlreadyWithdrawn, OtherSender}
 use Rattle.calls.specs.declared.Counts.{Counts}
 use Rattle.calls.specs.Answers.{numbers, unlessRefused}
-use Rattle.calls.specs.Message.{messageSound, messageBodies, numberFor, roomFor, messageAnswer, messageOutcome, messageBook, messageTable}
-use Rattle.calls.specs.Withdraw.{withdrawSound, unlessBarred, withdrawAnswer, withdrawOutcome, withdrawBook, withdrawTable}
-use Rattle.calls.specs.Open.{passagesOf, roomToOpen, openAnswer, openOutcome, openBook, openTable}
-use Rattle.calls.specs.Claims.{AcceptanceIsZero, RefusalsGiveBack, among, NumbersListed}
+use Rattle.calls.specs.Message.{messageSound, messageRows, numberFor, roomFor, messageAnswer, takenBy, messageLeaves}
+use Rattle.calls.specs.Withdraw.{withdrawSound, unlessBarred, roomWithout, withdrawAnswer, withoutBy, withdrawLeaves}
+use Rattle.calls.specs.Open.{passagesOf, roomToOpen, openAnswer, openedBy, openLeaves}
+use Rattle.calls.specs.Claims.{AcceptanceIsZero, RefusalsGiveBack, isOneOf, NumbersListed}
+use Rattle.register.specs.Register.{maySend}
 
 pub acceptance-is-zero : AcceptanceIsZero
 acceptance-is-zero (Accepted n) = (λ e. refl, λ e. refl)
@@ -47,15 +47,15 @@ acceptance-is-zero AlreadyWithdrawn = (λ e. absurd (let z : _≡_ {A = ℕ} 0 1
 acceptance-is-zero OtherSender = (λ e. absurd (let z : _≡_ {A = ℕ} 0 1 = cc in omega arith), λ e. absurd (omega arith))
 
 pub refusals-give-back : RefusalsGiveBack
-unfolding openOutcome openBook openTable messageOutcome messageBook messageTable withdrawOutcome withdrawBook withdrawTable
-refusals-give-back planning calendar d register book table number sender c =
+unfolding openLeaves messageLeaves withdrawLeaves openedBy takenBy withoutBy
+refusals-give-back planning calendar dossier register book table number sender c =
     (λ e. (rw e, rw e, rw e), λ e. (rw e, rw e, rw e), λ e. (rw e, rw e, rw e))
 
 -- ---- numbers
 
 -- a list that has the dossier's numbers passes for a reading, if it does for what comes next
 abbrev Passes : List ℕ → Answer → Type 0
-Passes ns a = among ns (numbers a .0) ≡ true
+Passes ns a = isOneOf ns (numbers a .0) ≡ true
 
 abbrev opens : List ℕ
 opens = 0 ∷ 2 ∷ 3 ∷ 4 ∷ 5 ∷ 7 ∷ 9 ∷ 8 ∷ []
@@ -83,13 +83,13 @@ message-sound false a h = refl
 message-numbers : (d register book table : List ℕ) (sender : ℕ) (c : Counts) → Passes sends (messageAnswer d sender register book table c)
 unfolding messageAnswer roomFor
 message-numbers d register book table sender c =
-    let bodies = messageBodies register sender d in
+    let bodies = messageRows d in
     message-sound (messageSound register book table c) _
     (message-reading (readingOf Tables.Message register sender d) _
-    (message-room (leb _ (bookRoom book)) (leb _ (room table)) (numberFor bodies (c .used) book)))
+    (message-room (leb _ (bookRoom book)) (leb _ (tableRoom table)) (numberFor bodies (c .used) book)))
 
 -- a planning and a calendar have no owner to refuse
-abbrev ownerFree : Reading → Bool
+abbrev pub ownerFree : Reading → Bool
 ownerFree Readings.TooLong = true
 ownerFree (Readings.Syntax i) = true
 ownerFree (Readings.Form l) = true
@@ -107,12 +107,12 @@ module _ (t : Table) (free : (body : List ℕ) → maySend t [] 0 body ≡ true)
   no-owner-line [] = refl
   no-owner-line (x ∷ xs) = rw (no-owner-bad x, no-owner-line xs)
 
-  settled-free : (p q : Bool) (form line column rows : ℕ) → ownerFree (on p (on q (on (eqb 0 0) (Readings.Rows rows) (Readings.Owner 0)) (Readings.Field line column)) (Readings.Form form)) ≡ true
-  settled-free true true form line column rows = refl
-  settled-free true false form line column rows = refl
-  settled-free false q form line column rows = refl
+  settled-free : (p q : Bool) (form line column rows : ℕ) → ownerFree (on p (Readings.Form form) (on q (Readings.Field line column) (on (isLine 0) (Readings.Owner 0) (Readings.Rows rows)))) ≡ true
+  settled-free true q form line column rows = refl
+  settled-free false true form line column rows = refl
+  settled-free false false form line column rows = refl
 
-  by-syntax-free : (v : Verdict) (a : Reading) → ownerFree a ≡ true → ownerFree (bySyntax v a) ≡ true
+  by-syntax-free : (v : Verdict) (a : Reading) → ownerFree a ≡ true → ownerFree (on (faults v) (Readings.Syntax (faultPlace v)) a) ≡ true
   by-syntax-free Verdicts.Fine a h = h
   by-syntax-free (Verdicts.FaultAt i) a h = refl
 
@@ -120,12 +120,12 @@ module _ (t : Table) (free : (body : List ℕ) → maySend t [] 0 body ≡ true)
   size-free true a h = refl
   size-free false a h = h
 
-  reading-free : (d : List ℕ) → ownerFree (readingOf t [] 0 d) ≡ true
+  pub reading-free : (d : List ℕ) → ownerFree (readingOf t [] 0 d) ≡ true
   unfolding readingOf answerTo
   reading-free d =
       size-free (ltb largest (length d)) _
       (by-syntax-free (fault d) _
-      (rw (no-owner-line (itemsOf t d)) (settled-free (eqb (firstLine (formBad t) (itemsOf t d)) 0) (eqb (firstLine (isWrong t) (itemsOf t d)) 0) _ _ _ _)))
+      (rw (no-owner-line (itemsOf t d)) (settled-free (isLine (firstLine (formBad t) (itemsOf t d))) (isLine (firstLine (isWrong t) (itemsOf t d))) _ _ _ _)))
 
 open-reading : (w : ℕ) (r : Reading) (next : Answer) → ownerFree r ≡ true → Passes opens next → Passes opens (unlessRefused w r next)
 open-reading w Readings.TooLong next f h = refl
@@ -147,14 +147,14 @@ open-numbers planning calendar book table =
     let bodies = passagesOf planning calendar in
     open-reading 1 (readingOf Tables.Planning [] 0 planning) _ (reading-free Tables.Planning (λ body. refl) planning)
     (open-reading 2 (readingOf Tables.Calendar [] 0 calendar) _ (reading-free Tables.Calendar (λ body. refl) calendar)
-    (open-room (leb (length bodies * plan-wide) (bookRoom book)) (eqb (length (putAll bodies [])) (length bodies)) (leb (length bodies) (room table))))
+    (open-room (leb (length bodies * plan-wide) (bookRoom book)) (eqb (length (putAll bodies [])) (length bodies)) (leb (length bodies) (tableRoom table))))
 
 abbrev withdraws : List ℕ
 withdraws = 0 ∷ 1 ∷ 10 ∷ 12 ∷ 11 ∷ 8 ∷ []
 
 barred : (es : List (List ℕ)) (sender : ℕ) (next : Answer) → Passes withdraws next → Passes withdraws (unlessBarred es sender next)
 barred [] sender next h = refl
-barred (e ∷ es) sender next h = go (either (eqb sender 0) (eqb sender (senderOf e))) (eqb (kindOf e) 3)
+barred (e ∷ es) sender next h = go (eqb sender 0 || eqb sender (senderOf e)) (eqb (kindOf e) 3)
   where
     go : (p q : Bool) → Passes withdraws (on p (on q AlreadyWithdrawn next) OtherSender)
     go true true = refl
@@ -170,10 +170,10 @@ withdraw-sound true a h = h
 withdraw-sound false a h = refl
 
 withdraw-numbers : (book table : List ℕ) (number sender : ℕ) (c : Counts) → Passes withdraws (withdrawAnswer number sender book table c)
-unfolding withdrawAnswer
+unfolding withdrawAnswer roomWithout
 withdraw-numbers book table number sender c =
     withdraw-sound (withdrawSound book table c) _
-    (barred (messageEntries number (updatesIn (c .used) book)) sender _ (withdraw-room (leb _ (room table))))
+    (barred (messageEntries number (updatesIn (c .used) book)) sender _ (withdraw-room (leb _ (tableRoom table))))
 
 pub numbers-listed : NumbersListed
 numbers-listed planning calendar d register book table number sender c =

@@ -12,18 +12,20 @@ use Rattle.passage.specs.Layout.{body-wide, row-wide, keyOf}
 use Rattle.columns.specs.declared.Table.the-variants as Tables
 use Rattle.columns.specs.Cell.{width}
 use Rattle.columns.specs.Tables.{columnsIn, messageColumns, rowWidth}
-use Rattle.reader.specs.Rules.{itemsOf}
+use Rattle.reader.specs.declared.Reading.the-variants.{Rows}
+use Rattle.reader.specs.Rules.{itemsOf, readingOf}
+use Rattle.reader.proofs.AnswerLaws.{accepted-each}
 use Rattle.reader.proofs.EachRowLaws.{rows-wide}
 use Rattle.keys.specs.Sorted.{get}
 use Rattle.keys.specs.Replay.{takenAll, replayed}
 use Rattle.keys.proofs.ReplayLaws.{RowOf, each-takenAll, get-takenAll, replayed-skip}
 use Rattle.update.specs.Rule.{rowRule}
 use Rattle.update.proofs.RuleLaws.{rule-wide, rule-key}
-use Rattle.table.specs.Rules.{room}
+use Rattle.table.specs.Rules.{tableRoom}
 use Rattle.table.proofs.SoundLaws.{room-holds, sound-fits}
 use Rattle.calls.specs.declared.Counts.{Counts}
 use Rattle.calls.specs.Answers.{isAccepted}
-use Rattle.calls.specs.Message.{messageBodies, rowsTaken, tableTaking, messageAnswer, messageOutcome, messageTable}
+use Rattle.calls.specs.Message.{messageRows, rowsTaken, tableTaking, messageAnswer, takenBy, messageLeaves}
 use Rattle.calls.specs.Claims.{RowsChangeTheirPassage}
 use Rattle.calls.proofs.AcceptedLaws.{passed, sound-parts}
 
@@ -32,7 +34,7 @@ use Rattle.calls.proofs.AcceptedLaws.{passed, sound-parts}
 abbrev pub IsBody : List ℕ → Type 0
 IsBody u = length u ≡ body-wide
 
-abbrev IsRow : List ℕ → Type 0
+abbrev pub IsRow : List ℕ → Type 0
 IsRow r = length r ≡ row-wide
 
 -- of none, or of a row with the update's key, a row with that key
@@ -40,7 +42,7 @@ pub keeps : (held u : List ℕ) → IsBody u → RowOf (keyOf u) held → keyOf 
 keeps held u w h = rule-key held u w
 
 -- of none, or of a whole row, a whole row
-whole : (held u : List ℕ) → IsBody u → (held ≡ []) ⊎ IsRow held → IsRow (rowRule held u)
+pub whole : (held u : List ℕ) → IsBody u → (held ≡ []) ⊎ IsRow held → IsRow (rowRule held u)
 whole held u w h = rule-wide held u w
 
 -- bodies taken into whole rows give whole rows
@@ -53,13 +55,13 @@ taken-get = get-takenAll rowRule IsBody keeps
 
 -- ---- an accepted message
 
--- the rows of a message are bodies
-pub bodies-wide : (register : List ℕ) (sender : ℕ) (d : List ℕ) → Wide body-wide (messageBodies register sender d)
-unfolding messageBodies rowWidth columnsIn messageColumns width
-bodies-wide register sender d = rows-wide Tables.Message register sender (itemsOf Tables.Message d)
+-- the rows of a message that is read are bodies
+pub message-wide : (register : List ℕ) (sender : ℕ) (dossier : List ℕ) (n : ℕ) → readingOf Tables.Message register sender dossier ≡ Rows n → Wide body-wide (messageRows dossier)
+unfolding messageRows rowWidth columnsIn messageColumns width
+message-wide register sender dossier n e = accepted-each Tables.Message register sender dossier IsBody (rows-wide Tables.Message register sender (itemsOf Tables.Message dossier)) n e
 
 -- the rows that are read back once they are stored
-pub taken-rows : (bodies : List (List ℕ)) (table : List ℕ) (n : ℕ) → Wide body-wide bodies → n * row-wide ≤ length table → length (rowsTaken bodies table n) ≤ room table
+pub taken-rows : (bodies : List (List ℕ)) (table : List ℕ) (n : ℕ) → Wide body-wide bodies → n * row-wide ≤ length table → length (rowsTaken bodies table n) ≤ tableRoom table
     → rowsOf row-wide (length (rowsTaken bodies table n)) (tableTaking bodies table n) ≡ rowsTaken bodies table n
 unfolding tableTaking
 taken-rows bodies table n w fits h =
@@ -67,18 +69,21 @@ taken-rows bodies table n w fits h =
 
 module _ (d register book table : List ℕ) (sender : ℕ) (c : Counts) (e : isAccepted (messageAnswer d sender register book table c) ≡ true) where
   abbrev bodies : List (List ℕ)
-  bodies = messageBodies register sender d
+  bodies = messageRows d
+
+  are-bodies : Wide body-wide bodies
+  are-bodies = let p = passed d register book table sender c e in message-wide register sender d (p .rows .0) (p .rows .1)
 
   -- what the table holds afterwards
-  pub rows-after : rowsOf row-wide (messageOutcome d sender register book table c .counts .rows) (messageTable d sender register book table c) ≡ rowsTaken bodies table (c .rows)
-  unfolding messageOutcome messageTable
+  pub rows-after : rowsOf row-wide (messageLeaves d sender register book table c .outcome .counts .rows) (messageLeaves d sender register book table c .table) ≡ rowsTaken bodies table (c .rows)
+  unfolding messageLeaves takenBy
   rows-after =
       let p = passed d register book table sender c e in
       let s = sound-parts d register book table sender c (p .sound) in
-      rw e (taken-rows bodies table (c .rows) (bodies-wide register sender d) (sound-fits (c .rows) table (s .2)) (p .in-table))
+      rw e (taken-rows bodies table (c .rows) are-bodies (sound-fits (c .rows) table (s .2)) (p .in-table))
 
   changed : (k : List ℕ) → get k (rowsTaken bodies table (c .rows)) ≡ replayed rowRule k (get k (rowsOf row-wide (c .rows) table)) bodies
-  changed k = taken-get k bodies (rowsOf row-wide (c .rows) table) (bodies-wide register sender d)
+  changed k = taken-get k bodies (rowsOf row-wide (c .rows) table) are-bodies
 
 pub rows-change : RowsChangeTheirPassage
 rows-change d register book table sender c e = (
@@ -86,5 +91,5 @@ rows-change d register book table sender c e = (
   λ k h.
       ap (get k) (rows-after d register book table sender c e)
       ∙ changed d register book table sender c e k
-      ∙ replayed-skip rowRule k (get k (rowsOf row-wide (c .rows) table)) (messageBodies register sender d) h,
+      ∙ replayed-skip rowRule k (get k (rowsOf row-wide (c .rows) table)) (messageRows d) h,
 )

@@ -1,8 +1,8 @@
 -- Document 01's numbers for each answer. Assumes nothing.
 use Prim.Native.Nat.{ℕ}
 use mathlib.Core.Bool.{Bool, true, false}
-use Rattle.reader.specs.declared.Answer.{Answer as Reading}
-use Rattle.reader.specs.declared.Answer.the-variants as Readings
+use Rattle.reader.specs.declared.Reading.{Reading}
+use Rattle.reader.specs.declared.Reading.the-variants as Readings
 use Rattle.calls.specs.declared.Answer.{Answer}
 use Rattle.calls.specs.declared.Answer.the-variants.{Accepted, Unsound, TooLong, Syntax, Form, Field, Owner, BookShort, TableShort, KeyTwice, NoMessage, AlreadyWithdrawn, OtherSender}
 

@@ -1,34 +1,40 @@
 -- Demands 1 and 2: what is certain of the calls' rules, in plain form. Demand 3 is claimed in `runs`. Assumes nothing.
-use Prim.Native.Nat.{ℕ, _+_, _*_, _≤_}
+use Prim.Native.Nat.{ℕ, _+_, _-_, _*_, _≤_, _<_}
 use mathlib.Core.Path.{_≡_}
-use mathlib.Core.Bool.{Bool, true, false}
-use mathlib.Core.List.{List, [], _∷_}
+use mathlib.Core.Bool.{Bool, true, false, _||_}
+use mathlib.Core.List.{List, [], _∷_, _++_, map}
 use mathlib.Core.Logic.{_↔_}
 use lib.Dec.{eqb}
-use lib.ListN.{length}
-use Rattle.lists.specs.Logic.{either}
-use Rattle.lists.specs.Each.{Each}
+use lib.ListN.{length, take, drop, getD, replicate}
+use Rattle.lists.specs.Logic.{on}
+use Rattle.lists.specs.Each.{Each, Bytes}
+use Rattle.lists.specs.Part.{part}
 use Rattle.lists.specs.Text.{same}
-use Rattle.lists.specs.Rows.{rowsOf}
-use Rattle.passage.specs.Layout.{row-wide, keyOf}
+use Rattle.lists.specs.BigEndian.{spelled}
+use Rattle.lists.specs.Rows.{rowsOf, flat}
+use Rattle.passage.specs.Layout.{key-wide, row-wide, keyOf, ownerOf, dateOf, lineOf, journeyOf, fortifyOf, stopOf, orderOf}
 use Rattle.register.specs.Register.{registerSound}
 use Rattle.grammar.specs.Grammar.{WellFormed}
 use Rattle.columns.specs.declared.Table.the-variants as Tables
 use Rattle.reader.specs.Items.{Item}
-use Rattle.reader.specs.Rules.{largest, formBad, wrongAt, ownerBad, itemsOf}
-use Rattle.keys.specs.Sorted.{get}
+use Rattle.reader.specs.Rules.{largest, formBad, wrongAt, ownerBad, dataRows, itemsOf}
+use Rattle.plan.specs.Passes.{planBody}
+use Rattle.plan.specs.Rules.{matches}
+use Rattle.plan.specs.Claims.{Some}
+use Rattle.keys.specs.Sorted.{sortedRows, get}
 use Rattle.keys.specs.Replay.{replayed}
 use Rattle.update.specs.Rule.{rowRule}
-use Rattle.table.specs.Rules.{tableSound, room}
-use Rattle.book.specs.Entries.{entry-wide, senderOf, kindOf, updatesIn}
-use Rattle.book.specs.Rules.{bookSound, bookRoom, messageEntries}
+use Rattle.table.specs.Rules.{tableSound, tableRoom}
+use Rattle.book.specs.Entries.{plan-wide, entry-wide, numberOf, senderOf, kindOf, entryBody, planCount, planBodies, updatesIn}
+use Rattle.book.specs.Rules.{bookSound, bookRoom, nextNumber, messageEntries, others, standing, planRows}
 use Rattle.calls.specs.declared.Answer.{Answer}
 use Rattle.calls.specs.declared.Counts.{Counts}
 use Rattle.calls.specs.Answers.{numbers, isAccepted}
-use Rattle.calls.specs.Message.{messageBodies, rowsTaken, messageAnswer, messageOutcome, messageBook, messageTable}
-use Rattle.calls.specs.Withdraw.{rowsWithout, withdrawAnswer, withdrawOutcome, withdrawBook, withdrawTable}
-use Rattle.calls.specs.Open.{openAnswer, openOutcome, openBook, openTable}
-use Rattle.calls.specs.Order.{MessageOrder, WithdrawOrder, OpenOrder}
+use Rattle.calls.specs.Leaves.{Leaves}
+use Rattle.calls.specs.Message.{messageRows, rowsTaken, messageAnswer, messageLeaves}
+use Rattle.calls.specs.Withdraw.{rowsWithout, withdrawAnswer, withdrawLeaves}
+use Rattle.calls.specs.Open.{planOf, openAnswer, openLeaves}
+use Rattle.calls.specs.Numbers.{openNumbers, messageNumbers, withdrawNumbers}
 
 -- ---- demand 1
 
@@ -36,30 +42,38 @@ use Rattle.calls.specs.Order.{MessageOrder, WithdrawOrder, OpenOrder}
 abbrev pub AcceptanceIsZero : Type 0
 AcceptanceIsZero = (a : Answer) → (isAccepted a ≡ true) ↔ (numbers a .0 ≡ 0)
 
--- what a refused call gives back: the counts, the book and the table as they were
-abbrev pub GivesBack : Answer → Counts → Counts → List ℕ → List ℕ → List ℕ → List ℕ → Type 0
-GivesBack answer c c′ book book′ table table′ = isAccepted answer ≡ false → (c′ ≡ c) × (book′ ≡ book) × (table′ ≡ table)
+-- a call that is refused gives back the counts, the book and the table as they were
+abbrev pub GivesBack : Leaves → Counts → List ℕ → List ℕ → Type 0
+GivesBack left c book table = isAccepted (left .outcome .answer) ≡ false → (left .outcome .counts ≡ c) × (left .book ≡ book) × (left .table ≡ table)
 
 -- every refusal, of any bytes whatever, gives back the counts and every lent byte
 abbrev pub RefusalsGiveBack : Type 0
 RefusalsGiveBack =
-    (planning calendar d register book table : List ℕ) (number sender : ℕ) (c : Counts)
-    → GivesBack (openAnswer planning calendar book table) c (openOutcome planning calendar book table c .counts) book (openBook planning calendar book table) table (openTable planning calendar book table)
-    × GivesBack (messageAnswer d sender register book table c) c (messageOutcome d sender register book table c .counts) book (messageBook d sender register book table c) table (messageTable d sender register book table c)
-    × GivesBack (withdrawAnswer number sender book table c) c (withdrawOutcome number sender book table c .counts) book (withdrawBook number sender book table c) table (withdrawTable number sender book table c)
+    (planning calendar dossier register book table : List ℕ) (number sender : ℕ) (c : Counts)
+    → GivesBack (openLeaves planning calendar book table c) c book table
+    × GivesBack (messageLeaves dossier sender register book table c) c book table
+    × GivesBack (withdrawLeaves number sender book table c) c book table
 
 -- one of these numbers
-abbrev pub among : List ℕ → ℕ → Bool
-among [] n = false
-among (x ∷ xs) n = either (eqb n x) (among xs n)
+abbrev pub isOneOf : List ℕ → ℕ → Bool
+isOneOf [] n = false
+isOneOf (x ∷ xs) n = eqb n x || isOneOf xs n
 
 -- the number is one of document 01's list for the call
 abbrev pub NumbersListed : Type 0
 NumbersListed =
-    (planning calendar d register book table : List ℕ) (number sender : ℕ) (c : Counts)
-    → (among (0 ∷ 2 ∷ 3 ∷ 4 ∷ 5 ∷ 7 ∷ 9 ∷ 8 ∷ []) (numbers (openAnswer planning calendar book table) .0) ≡ true)
-    × (among (0 ∷ 1 ∷ 2 ∷ 3 ∷ 4 ∷ 5 ∷ 6 ∷ 7 ∷ 8 ∷ []) (numbers (messageAnswer d sender register book table c) .0) ≡ true)
-    × (among (0 ∷ 1 ∷ 10 ∷ 12 ∷ 11 ∷ 8 ∷ []) (numbers (withdrawAnswer number sender book table c) .0) ≡ true)
+    (planning calendar dossier register book table : List ℕ) (number sender : ℕ) (c : Counts)
+    → (isOneOf (0 ∷ 2 ∷ 3 ∷ 4 ∷ 5 ∷ 7 ∷ 9 ∷ 8 ∷ []) (numbers (openAnswer planning calendar book table) .0) ≡ true)
+    × (isOneOf (0 ∷ 1 ∷ 2 ∷ 3 ∷ 4 ∷ 5 ∷ 6 ∷ 7 ∷ 8 ∷ []) (numbers (messageAnswer dossier sender register book table c) .0) ≡ true)
+    × (isOneOf (0 ∷ 1 ∷ 10 ∷ 12 ∷ 11 ∷ 8 ∷ []) (numbers (withdrawAnswer number sender book table c) .0) ≡ true)
+
+-- the four numbers are the first line of document 01's table that holds, for each call
+abbrev pub NumbersAreTables : Type 0
+NumbersAreTables =
+    (planning calendar dossier register book table : List ℕ) (number sender : ℕ) (c : Counts)
+    → (numbers (openAnswer planning calendar book table) ≡ openNumbers planning calendar book table)
+    × (numbers (messageAnswer dossier sender register book table c) ≡ messageNumbers dossier sender register book table c)
+    × (numbers (withdrawAnswer number sender book table c) ≡ withdrawNumbers number sender book table c)
 
 -- ---- demand 2
 
@@ -67,26 +81,104 @@ NumbersListed =
 -- field count and wanted field is right, each row's owner is registered for the sender, and there is room in the book and in the table
 abbrev pub MessageAcceptedExactly : Type 0
 MessageAcceptedExactly =
-    (d register book table : List ℕ) (sender : ℕ) (c : Counts)
-    → (isAccepted (messageAnswer d sender register book table c) ≡ true)
+    (dossier register book table : List ℕ) (sender : ℕ) (c : Counts)
+    → (isAccepted (messageAnswer dossier sender register book table c) ≡ true)
     ↔ ((registerSound register ≡ true) × (bookSound (c .used) book ≡ true) × (tableSound (c .rows) table ≡ true)
-    × (length d ≤ largest) × WellFormed d
-    × Each (λ (x : Item). formBad Tables.Message x ≡ false) (itemsOf Tables.Message d)
-    × Each (λ (x : Item). wrongAt Tables.Message x ≡ 0) (itemsOf Tables.Message d)
-    × Each (λ (x : Item). ownerBad Tables.Message register sender x ≡ false) (itemsOf Tables.Message d)
-    × (c .used + length (messageBodies register sender d) * entry-wide ≤ bookRoom book)
-    × (length (rowsTaken (messageBodies register sender d) table (c .rows)) ≤ room table))
+    × (length dossier ≤ largest) × WellFormed dossier
+    × Each (λ (x : Item). formBad Tables.Message x ≡ false) (itemsOf Tables.Message dossier)
+    × Each (λ (x : Item). wrongAt Tables.Message x ≡ 0) (itemsOf Tables.Message dossier)
+    × Each (λ (x : Item). ownerBad Tables.Message register sender x ≡ false) (itemsOf Tables.Message dossier)
+    × (c .used + length (messageRows dossier) * entry-wide ≤ bookRoom book)
+    × (length (rowsTaken (messageRows dossier) table (c .rows)) ≤ tableRoom table))
+
+-- two rows have one key exactly where owner, date, line, journey, fortify, stop and order number are equal
+abbrev pub KeyIsSevenFields : Type 0
+KeyIsSevenFields =
+    (a b : List ℕ) → Bytes a → Bytes b → key-wide ≤ length a → key-wide ≤ length b
+    → (keyOf a ≡ keyOf b)
+    ↔ ((ownerOf a ≡ ownerOf b) × (dateOf a ≡ dateOf b) × (lineOf a ≡ lineOf b) × (journeyOf a ≡ journeyOf b)
+    × (fortifyOf a ≡ fortifyOf b) × (stopOf a ≡ stopOf b) × (orderOf a ≡ orderOf b))
 
 -- each row of an accepted message changes the passage with its key, by the row rule, in the dossier's order, and no other passage
 abbrev pub RowsChangeTheirPassage : Type 0
 RowsChangeTheirPassage =
-    (d register book table : List ℕ) (sender : ℕ) (c : Counts) → isAccepted (messageAnswer d sender register book table c) ≡ true
-    → ((k : List ℕ)
-    → get k (rowsOf row-wide (messageOutcome d sender register book table c .counts .rows) (messageTable d sender register book table c))
-    ≡ replayed rowRule k (get k (rowsOf row-wide (c .rows) table)) (messageBodies register sender d))
-    × ((k : List ℕ) → Each (λ (u : List ℕ). same (keyOf u) k ≡ false) (messageBodies register sender d)
-    → get k (rowsOf row-wide (messageOutcome d sender register book table c .counts .rows) (messageTable d sender register book table c))
+    (dossier register book table : List ℕ) (sender : ℕ) (c : Counts) → isAccepted (messageAnswer dossier sender register book table c) ≡ true
+    → let left = messageLeaves dossier sender register book table c in
+    ((k : List ℕ)
+    → get k (rowsOf row-wide (left .outcome .counts .rows) (left .table))
+    ≡ replayed rowRule k (get k (rowsOf row-wide (c .rows) table)) (messageRows dossier))
+    × ((k : List ℕ) → Each (λ (u : List ℕ). same (keyOf u) k ≡ false) (messageRows dossier)
+    → get k (rowsOf row-wide (left .outcome .counts .rows) (left .table))
     ≡ get k (rowsOf row-wide (c .rows) table))
+
+-- the rows of a message are those of all its data lines, in their order
+abbrev pub RowsAreDataLines : Type 0
+RowsAreDataLines = (dossier : List ℕ) → messageRows dossier ≡ dataRows Tables.Message (itemsOf Tables.Message dossier)
+
+-- an accepted message without rows has number 0 and changes nothing; one with rows has the next number
+abbrev pub MessageNumbered : Type 0
+MessageNumbered =
+    (dossier register book table : List ℕ) (sender : ℕ) (c : Counts) → isAccepted (messageAnswer dossier sender register book table c) ≡ true
+    → let left = messageLeaves dossier sender register book table c in
+    (length (messageRows dossier) ≡ 0
+    → (numbers (messageAnswer dossier sender register book table c) .1 ≡ 0) × (left .outcome .counts ≡ c) × (left .book ≡ book) × (left .table ≡ table))
+    × (0 < length (messageRows dossier) → numbers (messageAnswer dossier sender register book table c) .1 ≡ nextNumber (updatesIn (c .used) book))
+
+-- behind the used bytes the book has for each row of an accepted message an entry: kind 2, the next number, the sender, the row; every other byte is as it was
+abbrev pub RowsGoToBook : Type 0
+RowsGoToBook =
+    (dossier register book table : List ℕ) (sender : ℕ) (c : Counts) → isAccepted (messageAnswer dossier sender register book table c) ≡ true
+    → let left = messageLeaves dossier sender register book table c in
+    let next = nextNumber (updatesIn (c .used) book) in
+    let more = c .used + length (messageRows dossier) * entry-wide in
+    (left .outcome .counts .used ≡ more)
+    × (left .book
+    ≡ take (c .used) book ++ (flat (map (λ (row : List ℕ). 2 ∷ spelled 4 next ++ sender ∷ row) (messageRows dossier)) ++ drop more book))
+
+-- of the bytes t that held n rows and now, as `new`, hold m: what is freed is zero, and what stands behind the rows is as it was
+abbrev pub FreedAndKept : ℕ → ℕ → List ℕ → List ℕ → Type 0
+FreedAndKept n m t new =
+    (length new ≡ length t)
+    × (m ≤ n → part (m * row-wide) ((n - m) * row-wide) new ≡ replicate ((n - m) * row-wide) 0)
+    × ((i : ℕ) → n ≤ i → m ≤ i → drop (i * row-wide) new ≡ drop (i * row-wide) t)
+
+-- so it is with the table after an accepted message or withdrawal; a message frees no row
+abbrev pub TableFreedAndKept : Type 0
+TableFreedAndKept =
+    (dossier register book table : List ℕ) (number sender : ℕ) (c : Counts)
+    → (isAccepted (messageAnswer dossier sender register book table c) ≡ true
+    → let left = messageLeaves dossier sender register book table c in
+    (c .rows ≤ left .outcome .counts .rows) × FreedAndKept (c .rows) (left .outcome .counts .rows) table (left .table))
+    × (isAccepted (withdrawAnswer number sender book table c) ≡ true
+    → let left = withdrawLeaves number sender book table c in
+    FreedAndKept (c .rows) (left .outcome .counts .rows) table (left .table))
+
+-- an accepted open writes the plan: from the start of the book an entry of kind 1 for each passage, from the start of the table a row with
+-- heard 0; the bytes behind them are as they were
+abbrev pub OpenLeavesPlan : Type 0
+OpenLeavesPlan =
+    (planning calendar book table : List ℕ) (c : Counts) → isAccepted (openAnswer planning calendar book table) ≡ true
+    → let left = openLeaves planning calendar book table c in
+    let plan = planOf planning calendar in
+    (left .outcome .counts .used ≡ length plan * plan-wide)
+    × (left .outcome .counts .rows ≡ length plan)
+    × (left .book ≡ flat (map (λ (b : List ℕ). 1 ∷ b) plan) ++ drop (length plan * plan-wide) book)
+    × (left .table ≡ flat (map (λ (b : List ℕ). b ++ 0 ∷ []) plan) ++ drop (length plan * row-wide) table)
+
+-- the plan goes by key strictly rising, and a passage stands in it exactly where a pass time and a validity of the dossiers match and give it
+abbrev pub PlanExactly : Type 0
+PlanExactly =
+    (planning calendar book table : List ℕ) → isAccepted (openAnswer planning calendar book table) ≡ true
+    → (sortedRows (planOf planning calendar) ≡ true)
+    × ((b : List ℕ) → Some (λ (x : List ℕ). x ≡ b) (planOf planning calendar)
+    ↔ Some (λ (p : List ℕ). Some (λ (v : List ℕ). (matches p v ≡ true) × (planBody p v ≡ b)) (dataRows Tables.Calendar (itemsOf Tables.Calendar calendar)))
+    (dataRows Tables.Planning (itemsOf Tables.Planning planning)))
+
+-- open's answer hangs on what it is lent by the lengths alone: old contents are not read
+abbrev pub OpenReadsLengths : Type 0
+OpenReadsLengths =
+    (planning calendar book book′ table table′ : List ℕ) → length book ≡ length book′ → length table ≡ length table′
+    → openAnswer planning calendar book table ≡ openAnswer planning calendar book′ table′
 
 -- a withdrawal is accepted exactly when book and table are sound, there is such a message, the sender is its own or the desk, it stands, and
 -- the table has room for its rows afterwards
@@ -96,18 +188,48 @@ WithdrawAcceptedExactly =
     → (isAccepted (withdrawAnswer number sender book table c) ≡ true)
     ↔ ((bookSound (c .used) book ≡ true) × (tableSound (c .rows) table ≡ true)
     × ((e : List ℕ) × (es : List (List ℕ)) × (messageEntries number (updatesIn (c .used) book) ≡ e ∷ es)
-    × (either (eqb sender 0) (eqb sender (senderOf e)) ≡ true) × (eqb (kindOf e) 3 ≡ false))
-    × (length (rowsWithout number book (c .used) table (c .rows)) ≤ room table))
+    × ((eqb sender 0 || eqb sender (senderOf e)) ≡ true) × (eqb (kindOf e) 3 ≡ false))
+    × (length (rowsWithout number book (c .used) table (c .rows)) ≤ tableRoom table))
 
--- all of these, and the order in which numbers are given (`Order.antt`)
+-- in the book an accepted withdrawal changes the kind of the message's entries, to 3, and no other byte
+abbrev pub WithdrawMarksEntries : Type 0
+WithdrawMarksEntries =
+    (book table : List ℕ) (number sender : ℕ) (c : Counts) → isAccepted (withdrawAnswer number sender book table c) ≡ true
+    → let left = withdrawLeaves number sender book table c in
+    (left .outcome .counts .used ≡ c .used)
+    × (left .book ≡ take (planCount (c .used) book * plan-wide) book ++ (flat (map (λ (e : List ℕ). on (eqb (numberOf e) number) (3 ∷ drop 1 e) e) (updatesIn (c .used) book)) ++ drop (c .used) book))
+
+-- each passage that an entry of the withdrawn message names becomes what the plan and the standing rows of all other messages make of its key,
+-- whether book and table agreed or not; every other passage is as it was
+abbrev pub WithdrawWorksOutAgain : Type 0
+WithdrawWorksOutAgain =
+    (book table : List ℕ) (number sender : ℕ) (c : Counts) → isAccepted (withdrawAnswer number sender book table c) ≡ true
+    → let left = withdrawLeaves number sender book table c in
+    let us = updatesIn (c .used) book in
+    let afterwards = rowsOf row-wide (left .outcome .counts .rows) (left .table) in
+    ((i : ℕ) → i < length us → numberOf (getD us i []) ≡ number
+    → let k = keyOf (entryBody (getD us i [])) in
+    get k afterwards ≡ replayed rowRule k (get k (planRows (planBodies (c .used) book))) (standing (others number us)))
+    × ((k : List ℕ) → Each (λ (e : List ℕ). numberOf e ≡ number → keyOf (entryBody e) ≡ k → ⊥) us
+    → get k afterwards ≡ get k (rowsOf row-wide (c .rows) table))
+
+-- all of these
 abbrev pub All : Type 0
 All =
     AcceptanceIsZero
     × RefusalsGiveBack
     × NumbersListed
-    × MessageOrder
-    × WithdrawOrder
-    × OpenOrder
+    × NumbersAreTables
     × MessageAcceptedExactly
+    × KeyIsSevenFields
     × RowsChangeTheirPassage
+    × RowsAreDataLines
+    × MessageNumbered
+    × RowsGoToBook
+    × TableFreedAndKept
+    × OpenLeavesPlan
+    × PlanExactly
+    × OpenReadsLengths
     × WithdrawAcceptedExactly
+    × WithdrawMarksEntries
+    × WithdrawWorksOutAgain

@@ -1,6 +1,8 @@
 pub mod Answers
+pub mod Leaves
 pub mod Message
 pub mod Withdraw
 pub mod Open
-pub mod Order
+pub mod Numbers
 pub mod Claims
+pub mod inner

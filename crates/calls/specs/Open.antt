@@ -7,21 +7,21 @@ use Rattle.lists.specs.Logic.{on}
 use Rattle.lists.specs.Part.{over}
 use Rattle.lists.specs.Rows.{flat}
 use Rattle.columns.specs.declared.Table.the-variants as Tables
-use Rattle.reader.specs.Rules.{readingOf, rowsUpTo, itemsOf}
+use Rattle.reader.specs.Rules.{readingOf, itemsOf, dataRows}
 use Rattle.plan.specs.Rules.{joined}
 use Rattle.keys.specs.Sorted.{putAll}
-use Rattle.table.specs.Rules.{room}
+use Rattle.table.specs.Rules.{tableRoom}
 use Rattle.book.specs.Entries.{plan-wide, planEntry}
 use Rattle.book.specs.Rules.{bookRoom, planRows}
 use Rattle.calls.specs.declared.Answer.{Answer}
 use Rattle.calls.specs.declared.Answer.the-variants.{Accepted, BookShort, TableShort, KeyTwice}
 use Rattle.calls.specs.declared.Counts.{Counts}
-use Rattle.calls.specs.declared.Outcome.{Outcome}
-use Rattle.calls.specs.Answers.{isAccepted, unlessRefused}
+use Rattle.calls.specs.Answers.{unlessRefused}
+use Rattle.calls.specs.Leaves.{Leaves, countsOf, dayOf, leavesBy}
 
 -- each pass time joined with each validity of the same owner and service level
 unfoldable pub passagesOf : List ℕ → List ℕ → List (List ℕ)
-passagesOf planning calendar = joined (rowsUpTo Tables.Planning [] 0 (itemsOf Tables.Planning planning)) (rowsUpTo Tables.Calendar [] 0 (itemsOf Tables.Calendar calendar))
+passagesOf planning calendar = joined (dataRows Tables.Planning (itemsOf Tables.Planning planning)) (dataRows Tables.Calendar (itemsOf Tables.Calendar calendar))
 
 -- the plan: they by key
 unfoldable pub planOf : List ℕ → List ℕ → List (List ℕ)
@@ -31,7 +31,7 @@ planOf planning calendar = putAll (passagesOf planning calendar) []
 unfoldable pub roomToOpen : List (List ℕ) → List ℕ → List ℕ → Answer
 roomToOpen bodies book table =
     on (leb (length bodies * plan-wide) (bookRoom book))
-    (on (eqb (length (putAll bodies [])) (length bodies)) (on (leb (length bodies) (room table)) (Accepted 0) TableShort) KeyTwice)
+    (on (eqb (length (putAll bodies [])) (length bodies)) (on (leb (length bodies) (tableRoom table)) (Accepted 0) TableShort) KeyTwice)
     BookShort
 
 -- the planning goes through 2 to 5 before the calendar
@@ -40,23 +40,17 @@ openAnswer planning calendar book table =
     unlessRefused 1 (readingOf Tables.Planning [] 0 planning)
     (unlessRefused 2 (readingOf Tables.Calendar [] 0 calendar) (roomToOpen (passagesOf planning calendar) book table))
 
--- ---- afterwards: a refusal gives back everything as it was
+-- ---- afterwards
 
-unfoldable pub openOutcome : List ℕ → List ℕ → List ℕ → List ℕ → Counts → Outcome
-openOutcome planning calendar book table c =
-    record {
-      answer = openAnswer planning calendar book table;
-      counts =
-          on (isAccepted (openAnswer planning calendar book table))
-          (record { used = length (planOf planning calendar) * plan-wide; rows = length (planOf planning calendar) })
-          c;
-    }
+-- what an answer leaves: the plan as entries and rows from the start on, bytes behind them kept, or the day as it was
+unfoldable pub openedBy : Answer → List (List ℕ) → List ℕ → List ℕ → Counts → Leaves
+openedBy answer plan book table c =
+    leavesBy answer
+    (dayOf
+    (over 0 (flat (map planEntry plan)) book)
+    (over 0 (flat (planRows plan)) table)
+    (countsOf (length plan * plan-wide) (length plan)))
+    (dayOf book table c)
 
--- plan entries from the book's start on; bytes behind them keep theirs
-unfoldable pub openBook : List ℕ → List ℕ → List ℕ → List ℕ → List ℕ
-openBook planning calendar book table =
-    on (isAccepted (openAnswer planning calendar book table)) (over 0 (flat (map planEntry (planOf planning calendar))) book) book
-
-unfoldable pub openTable : List ℕ → List ℕ → List ℕ → List ℕ → List ℕ
-openTable planning calendar book table =
-    on (isAccepted (openAnswer planning calendar book table)) (over 0 (flat (planRows (planOf planning calendar))) table) table
+unfoldable pub openLeaves : List ℕ → List ℕ → List ℕ → List ℕ → Counts → Leaves
+openLeaves planning calendar book table c = openedBy (openAnswer planning calendar book table) (planOf planning calendar) book table c

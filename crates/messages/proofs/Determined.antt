@@ -1,15 +1,15 @@
--- The promise of `message` allows one outcome: its answer with the counts, and every byte of book and table afterwards. Assumes nothing.
+-- Each promise allows one outcome: the answer with the counts, and every byte of book and table afterwards. Assumes nothing.
 use mathlib.Core.Path.{sym, _∙_}
 use denote.Ref.{now}
-use Rattle.lists.proofs.Promise.{Determined, OneResult}
+use Rattle.lists.proofs.Promise.{Determined}
+use Rattle.calls.specs.Leaves.{leaves}
 use Rattle.messages.proofs.message.Kinds as message
 use Rattle.messages.proofs.message.Reads as message-reads
+use Rattle.messages.proofs.take_rows.Kinds as take-rows
+use Rattle.messages.proofs.take_rows.Reads as take-rows-reads
 
-pub message-determined : OneResult 4 message.ps message.r message-reads.Post
+pub message-determined : Determined 4 message.ps message.r message-reads.Post (λ κs x s. leaves x (now (s .1 .1 .1 .0)) (now (s .1 .1 .1 .1 .0)))
 message-determined κs a x y s t p q = p .0 ∙ sym (q .0)
 
-pub message-book-determined : Determined 4 message.ps message.r message-reads.Post (λ κs x s. now (s .1 .1 .1 .0))
-message-book-determined κs a x y s t p q = p .1 .0 ∙ sym (q .1 .0)
-
-pub message-table-determined : Determined 4 message.ps message.r message-reads.Post (λ κs x s. now (s .1 .1 .1 .1 .0))
-message-table-determined κs a x y s t p q = p .1 .1 ∙ sym (q .1 .1)
+pub take-rows-determined : Determined 3 take-rows.ps take-rows.r take-rows-reads.Post (λ κs x s. leaves x (now (s .1 .1 .1 .0)) (now (s .1 .1 .1 .1 .0)))
+take-rows-determined κs a x y s t p q = p ∙ sym q

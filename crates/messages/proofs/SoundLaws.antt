@@ -1,11 +1,13 @@
--- Soundness of what a message is lent, by its three tests. Assumes nothing.
+-- Soundness of what a message is lent, by its three tests, and what it gives. Assumes nothing.
 use mathlib.Core.Path.{_≡_}
 use mathlib.Core.Bool.{true, false}
-use Prim.Native.Nat.{ℕ}
+use Prim.Native.Nat.{ℕ, _≤_}
 use mathlib.Core.List.{List}
+use lib.ListN.{length}
 use Rattle.register.specs.Register.{registerSound}
 use Rattle.table.specs.Rules.{tableSound}
-use Rattle.book.specs.Rules.{bookSound}
+use Rattle.book.specs.Rules.{bookSound, most-bytes}
+use Rattle.book.proofs.SoundLaws.{sound-facts, used-within}
 use Rattle.calls.specs.declared.Counts.{Counts}
 use Rattle.calls.specs.Message.{messageSound}
 
@@ -21,3 +23,7 @@ module _ (register book table : List ℕ) (c : Counts) where
   pub register-unsound : registerSound register ≡ false → messageSound register book table c ≡ false
   unfolding messageSound
   register-unsound a = rw a
+
+-- the used bytes lie within the book
+pub used-fits : (used : ℕ) (book : List ℕ) → bookSound used book ≡ true → (used ≤ length book) × (used ≤ most-bytes)
+used-fits used book e = used-within used book (sound-facts used book e)

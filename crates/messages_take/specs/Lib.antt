@@ -1,3 +1,3 @@
 pub mod Claims
 pub mod Cases
-pub mod Fitting
+pub mod inner

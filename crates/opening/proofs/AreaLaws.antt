@@ -13,10 +13,10 @@ use Rattle.lists.specs.Logic.{on}
 use Rattle.lists.specs.Rows.{rowsOf}
 use Rattle.lists.proofs.RowLaws.{length-rowsOf}
 use Rattle.passage.specs.Layout.{body-wide}
-use Rattle.plan.specs.BodiesRules.{planBody}
+use Rattle.plan.specs.Passes.{planBody}
 use Rattle.plan.specs.Rules.{matches, joinedWith, joined}
 use Rattle.book.specs.Entries.{plan-wide}
-use Rattle.opening.specs.JoiningSteps.{fewer, pairs}
+use Rattle.opening.specs.inner.Joining.{fewer, stagedPairs}
 
 -- ---- the smaller number
 
@@ -89,10 +89,10 @@ joined-few (p ∷ ps) vs =
     let m = suc-mul (length ps) (length vs) in
     omega arith
 
-pub pairs-few : (np : ℕ) (passes : List ℕ) (nv : ℕ) (validities : List ℕ) → length (pairs np passes nv validities) ≤ np * nv
+pub pairs-few : (np : ℕ) (passes : List ℕ) (nv : ℕ) (validities : List ℕ) → length (stagedPairs np passes nv validities) ≤ np * nv
 pairs-few np passes nv validities =
-    subst (λ (x : ℕ). length (pairs np passes nv validities) ≤ x * nv) (length-rowsOf 65 np passes)
-    (subst (λ (x : ℕ). length (pairs np passes nv validities) ≤ length (rowsOf 65 np passes) * x) (length-rowsOf 24 nv validities)
+    subst (λ (x : ℕ). length (stagedPairs np passes nv validities) ≤ x * nv) (length-rowsOf 65 np passes)
+    (subst (λ (x : ℕ). length (stagedPairs np passes nv validities) ≤ length (rowsOf 65 np passes) * x) (length-rowsOf 24 nv validities)
     (joined-few (rowsOf 65 np passes) (rowsOf 24 nv validities)))
 
 -- their number is far below what a number holds

@@ -1,5 +1,4 @@
-pub mod StageLaws
-pub mod Determined
 pub mod AreaLaws
 pub mod PairLaws
-pub mod JoiningDetermined
+pub mod StageLaws
+pub mod Determined

@@ -15,7 +15,7 @@ use Rattle.plan.proofs.PlanLaws.{wide-all}
 use Rattle.book.specs.Entries.{plan-wide}
 use Rattle.book.specs.Rules.{bookRoom}
 use Rattle.book.proofs.SoundLaws.{room-within}
-use Rattle.opening.specs.JoiningSteps.{fewer, pairs}
+use Rattle.opening.specs.inner.Joining.{fewer, stagedPairs}
 use Rattle.opening.proofs.AreaLaws.{enough-room}
 
 -- ---- the joined pairs, at most so many as the book has room for
@@ -46,5 +46,5 @@ module _ (J : List (List ℕ)) (most n : ℕ) (e : n ≡ length (take (most + 1)
 -- ---- each as wide as a body
 
 module _ (np : ℕ) (passes : List ℕ) (nv : ℕ) (validities : List ℕ) where
-  pub wide-pairs : np * 65 ≤ length passes → nv * 24 ≤ length validities → Wide body-wide (pairs np passes nv validities)
+  pub wide-pairs : np * 65 ≤ length passes → nv * 24 ≤ length validities → Wide body-wide (stagedPairs np passes nv validities)
   wide-pairs f g = wide-all (rowsOf 65 np passes) (rowsOf 24 nv validities) (wide-rowsOf 65 np passes f) (wide-rowsOf 24 nv validities g)

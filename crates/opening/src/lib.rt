@@ -1,60 +1,56 @@
 // Open: a planning and a calendar dossier become the plan, in book and table.
 use calls::Answer;
 use calls::Counts;
+use calls::Next;
 use calls::Outcome;
 ghost use mathlib.Core.Path.{_≡_};
 ghost use Prim.Native.Nat.{_*_, _≤_};
 ghost use lib.ListN.{length};
 ghost use Rattle.lists.specs.Rows.{rowsOf};
-ghost use Rattle.plan.specs.BodiesRules.{pass-wide, validity-wide};
-ghost use Rattle.calls.specs.Open.{openOutcome, openBook, openTable};
-ghost use Rattle.opening.specs.Steps.{HoldsPasses, HoldsValidities, calendarOutcome, calendarBook, calendarTable};
-ghost use Rattle.opening_write.specs.Steps.{openedOutcome, openedBook, openedTable};
-ghost use Rattle.opening.specs.JoiningSteps.{fewer, pairs, Enough};
+ghost use Rattle.plan.specs.Passes.{pass-wide, validity-wide};
+ghost use Rattle.calls.specs.Answers.{numbers};
+ghost use Rattle.calls.specs.Leaves.{leaves};
+ghost use Rattle.calls.specs.Open.{openLeaves};
+ghost use Rattle.calls.specs.Numbers.{openNumbers};
+ghost use Rattle.opening_write.specs.inner.Steps.{openedLeaves};
+ghost use Rattle.opening.specs.inner.Steps.{HoldsPasses, HoldsValidities, calendarLeaves};
+ghost use Rattle.opening.specs.inner.Joining.{fewer, stagedPairs, Enough};
 
-// Room for the pass times of any planning: 6,553.
-const PASSES: usize = 425945;
+// Room for the pass times of any planning.
+const PASSES: usize = 6553 * plan::PASS_WIDE;
 
-// Room for the validities of any calendar: 5,461.
-const VALIDITIES: usize = 131064;
+// Room for the validities of any calendar.
+const VALIDITIES: usize = 5461 * plan::VALIDITY_WIDE;
 
-// Clearing those takes much of the time of a small opening, which so has smaller ones. Room for the pass times of a planning of 8,192 bytes: 819.
-const SMALL_PASSES: usize = 53235;
+// Clearing those takes much of the time of a small opening, which so has smaller ones. A small planning has at most 819 pass times.
+const SMALL_PLANNING: usize = 8192;
 
-// Room for the validities of a calendar of 4,096 bytes: 341.
-const SMALL_VALIDITIES: usize = 8184;
+const SMALL_PASSES: usize = 819 * plan::PASS_WIDE;
 
-// With the planning read: the calendar.
+// A small calendar has at most 341 validities.
+const SMALL_CALENDAR: usize = 4096;
+
+const SMALL_VALIDITIES: usize = 341 * plan::VALIDITY_WIDE;
+
+// With the planning read, so many pass times: the calendar.
 fn read_and_join(
     passes: &[u8],
-    np: usize,
+    times: usize,
     calendar: &[u8],
     validities: &mut [u8],
     book: &mut [u8],
     table: &mut [u8],
-    c: Counts,
+    counts: Counts,
 ) -> Outcome
-    requires { ⌜ (np * pass-wide ≤ length (now passes)) × (np ≤ 6553) ⌝ }
+    requires { ⌜ (times * pass-wide ≤ length (now passes)) × (times ≤ 6553) ⌝ }
     requires { ⌜ HoldsValidities (now calendar) (length (now validities)) ⌝ }
-    ensures outcome { λ r. ⌜ r ≡ calendarOutcome (now (calendar .entry)) (rowsOf pass-wide np (now (passes .entry))) (now (book .entry)) (now (table .entry)) c ⌝ }
-    ensures entries { λ _. ⌜ now (book .exit) ≡ calendarBook (now (calendar .entry)) (rowsOf pass-wide np (now (passes .entry))) (now (book .entry)) (now (table .entry)) ⌝ }
-    ensures rows { λ _. ⌜ now (table .exit) ≡ calendarTable (now (calendar .entry)) (rowsOf pass-wide np (now (passes .entry))) (now (book .entry)) (now (table .entry)) ⌝ }
+    ensures { λ r. ⌜ leaves r (now (book .exit)) (now (table .exit))
+        ≡ calendarLeaves (now (calendar .entry)) (rowsOf pass-wide times (now (passes .entry))) (now (book .entry)) (now (table .entry)) counts ⌝ }
 {
-    match reader::read_calendar(calendar, validities) {
-        reader::Answer::TooLong => calls::refused(Answer::TooLong(2), c),
-        reader::Answer::Syntax(i) => calls::refused(Answer::Syntax(i, 2), c),
-        reader::Answer::Form(l) => calls::refused(Answer::Form(l, 2), c),
-        reader::Answer::Field(l, k) => calls::refused(Answer::Field(l, k, 2), c),
-        reader::Answer::Owner(l) => calls::refused(Answer::Owner(l), c),
-        reader::Answer::Rows(nv) => join_fitting(
-            passes,
-            np,
-            validities,
-            nv,
-            book,
-            table,
-            c,
-        ),
+    let reading = reader::read_calendar(calendar, validities);
+    match calls::passed(reading, 2) {
+        Next::On(days) => join_fitting(passes, times, validities, days, book, table, counts),
+        Next::Off(answer) => calls::unchanged(answer, counts),
     }
 }
 
@@ -66,21 +62,17 @@ fn open_by(
     validities: &mut [u8],
     book: &mut [u8],
     table: &mut [u8],
-    c: Counts,
+    counts: Counts,
 ) -> Outcome
     requires { ⌜ HoldsPasses (now planning) (length (now passes)) ⌝ }
     requires { ⌜ HoldsValidities (now calendar) (length (now validities)) ⌝ }
-    ensures outcome { λ r. ⌜ r ≡ openOutcome (now (planning .entry)) (now (calendar .entry)) (now (book .entry)) (now (table .entry)) c ⌝ }
-    ensures entries { λ _. ⌜ now (book .exit) ≡ openBook (now (planning .entry)) (now (calendar .entry)) (now (book .entry)) (now (table .entry)) ⌝ }
-    ensures rows { λ _. ⌜ now (table .exit) ≡ openTable (now (planning .entry)) (now (calendar .entry)) (now (book .entry)) (now (table .entry)) ⌝ }
+    ensures { λ r. ⌜ leaves r (now (book .exit)) (now (table .exit))
+        ≡ openLeaves (now (planning .entry)) (now (calendar .entry)) (now (book .entry)) (now (table .entry)) counts ⌝ }
 {
-    match reader::read_planning(planning, passes) {
-        reader::Answer::TooLong => calls::refused(Answer::TooLong(1), c),
-        reader::Answer::Syntax(i) => calls::refused(Answer::Syntax(i, 1), c),
-        reader::Answer::Form(l) => calls::refused(Answer::Form(l, 1), c),
-        reader::Answer::Field(l, k) => calls::refused(Answer::Field(l, k, 1), c),
-        reader::Answer::Owner(l) => calls::refused(Answer::Owner(l), c),
-        reader::Answer::Rows(np) => read_and_join(passes, np, calendar, validities, book, table, c),
+    let reading = reader::read_planning(planning, passes);
+    match calls::passed(reading, 1) {
+        Next::On(times) => read_and_join(passes, times, calendar, validities, book, table, counts),
+        Next::Off(answer) => calls::unchanged(answer, counts),
     }
 }
 
@@ -92,13 +84,14 @@ pub fn open(
     calendar: &[u8],
     book: &mut [u8],
     table: &mut [u8],
-    c: Counts,
+    counts: Counts,
 ) -> Outcome
-    ensures outcome { λ r. ⌜ r ≡ openOutcome (now (planning .entry)) (now (calendar .entry)) (now (book .entry)) (now (table .entry)) c ⌝ }
-    ensures entries { λ _. ⌜ now (book .exit) ≡ openBook (now (planning .entry)) (now (calendar .entry)) (now (book .entry)) (now (table .entry)) ⌝ }
-    ensures rows { λ _. ⌜ now (table .exit) ≡ openTable (now (planning .entry)) (now (calendar .entry)) (now (book .entry)) (now (table .entry)) ⌝ }
+    ensures lent { λ r. ⌜ leaves r (now (book .exit)) (now (table .exit))
+        ≡ openLeaves (now (planning .entry)) (now (calendar .entry)) (now (book .entry)) (now (table .entry)) counts ⌝ }
+    ensures numbers { λ r. ⌜ numbers (r .answer)
+        ≡ openNumbers (now (planning .entry)) (now (calendar .entry)) (now (book .entry)) (now (table .entry)) ⌝ }
 {
-    if (planning.len() <= 8192) & (calendar.len() <= 4096) {
+    if (planning.len() <= SMALL_PLANNING) & (calendar.len() <= SMALL_CALENDAR) {
         let mut passes = [0u8; SMALL_PASSES];
         let mut validities = [0u8; SMALL_VALIDITIES];
         return open_by(
@@ -108,7 +101,7 @@ pub fn open(
             &mut validities,
             book,
             table,
-            c,
+            counts,
         );
     }
     let mut passes = [0u8; PASSES];
@@ -120,19 +113,19 @@ pub fn open(
         &mut validities,
         book,
         table,
-        c,
+        counts,
     )
 }
 
 // ---- Staged pass times and validities become the plan, in book and table: open, once both dossiers are read. It reads no dossier.
 
-// Room for the bodies of as many plan entries as a book has room for: 4,401.
-const BODIES: usize = 290466;
+// Room for the bodies of as many plan entries as a book has room for.
+const BODIES: usize = 4401 * passage::BODY_WIDE;
 
 // Clearing that takes long beside joining a few pairs, which so have a smaller one. Few pairs, and room for their bodies.
 const FEW: usize = 640;
 
-const FEW_BODIES: usize = 42240;
+const FEW_BODIES: usize = FEW * passage::BODY_WIDE;
 
 // The smaller number.
 fn fewer(a: usize, b: usize) -> usize
@@ -144,51 +137,67 @@ fn fewer(a: usize, b: usize) -> usize
     b
 }
 
-// The joined pairs: 7 where the book has no room for all of them, whatever their keys. The area holds all pairs, or as many bodies as any book: so it
-// is never what they lack room in.
+// The joined pairs of so many pass times and validities: 7 where the book has no room for all of them, whatever their keys. The area holds all pairs,
+// or as many bodies as any book: so it is never what they lack room in.
 fn join_all(
     passes: &[u8],
-    np: usize,
+    times: usize,
     validities: &[u8],
-    nv: usize,
+    days: usize,
     bodies: &mut [u8],
     book: &mut [u8],
     table: &mut [u8],
-    c: Counts,
+    counts: Counts,
 ) -> Outcome
-    requires { ⌜ (np * pass-wide ≤ length (now passes)) × (nv * validity-wide ≤ length (now validities)) × Enough np nv (length (now bodies)) ⌝ }
-    ensures outcome { λ r. ⌜ r ≡ openedOutcome (pairs np (now (passes .entry)) nv (now (validities .entry))) (now (book .entry)) (now (table .entry)) c ⌝ }
-    ensures entries { λ _. ⌜ now (book .exit) ≡ openedBook (pairs np (now (passes .entry)) nv (now (validities .entry))) (now (book .entry)) (now (table .entry)) ⌝ }
-    ensures rows { λ _. ⌜ now (table .exit) ≡ openedTable (pairs np (now (passes .entry)) nv (now (validities .entry))) (now (book .entry)) (now (table .entry)) ⌝ }
+    requires { ⌜ (times * pass-wide ≤ length (now passes)) × (days * validity-wide ≤ length (now validities)) × Enough times days (length (now bodies)) ⌝ }
+    ensures { λ r. ⌜ leaves r (now (book .exit)) (now (table .exit))
+        ≡ openedLeaves (stagedPairs times (now (passes .entry)) days (now (validities .entry))) (now (book .entry)) (now (table .entry)) counts ⌝ }
 {
     let room = book::book_room(book) / book::PLAN_WIDE;
     let most = fewer(room, bodies.len() / passage::BODY_WIDE);
-    let n = plan::join(passes, np, validities, nv, bodies, most);
-    if most < n {
-        return calls::refused(Answer::BookShort, c);
+    let pairs = plan::join(passes, times, validities, days, bodies, most);
+    if most < pairs {
+        return calls::unchanged(Answer::BookShort, counts);
     }
-    opening_write::sort_and_write(bodies, n, book, table, c)
+    opening_write::sort_and_write(bodies, pairs, book, table, counts)
 }
 
 // The same, with an area for the bodies: a small one where the pairs are few, so that little is cleared for them.
 pub fn join_fitting(
     passes: &[u8],
-    np: usize,
+    times: usize,
     validities: &[u8],
-    nv: usize,
+    days: usize,
     book: &mut [u8],
     table: &mut [u8],
-    c: Counts,
+    counts: Counts,
 ) -> Outcome
-    requires { ⌜ (np * pass-wide ≤ length (now passes)) × (nv * validity-wide ≤ length (now validities)) × (np ≤ 6553) × (nv ≤ 5461) ⌝ }
-    ensures outcome { λ r. ⌜ r ≡ openedOutcome (pairs np (now (passes .entry)) nv (now (validities .entry))) (now (book .entry)) (now (table .entry)) c ⌝ }
-    ensures entries { λ _. ⌜ now (book .exit) ≡ openedBook (pairs np (now (passes .entry)) nv (now (validities .entry))) (now (book .entry)) (now (table .entry)) ⌝ }
-    ensures rows { λ _. ⌜ now (table .exit) ≡ openedTable (pairs np (now (passes .entry)) nv (now (validities .entry))) (now (book .entry)) (now (table .entry)) ⌝ }
+    requires { ⌜ (times * pass-wide ≤ length (now passes)) × (days * validity-wide ≤ length (now validities)) × (times ≤ 6553) × (days ≤ 5461) ⌝ }
+    ensures { λ r. ⌜ leaves r (now (book .exit)) (now (table .exit))
+        ≡ openedLeaves (stagedPairs times (now (passes .entry)) days (now (validities .entry))) (now (book .entry)) (now (table .entry)) counts ⌝ }
 {
-    if np * nv <= FEW {
+    if times * days <= FEW {
         let mut bodies = [0u8; FEW_BODIES];
-        return join_all(passes, np, validities, nv, &mut bodies, book, table, c);
+        return join_all(
+            passes,
+            times,
+            validities,
+            days,
+            &mut bodies,
+            book,
+            table,
+            counts,
+        );
     }
     let mut bodies = [0u8; BODIES];
-    join_all(passes, np, validities, nv, &mut bodies, book, table, c)
+    join_all(
+        passes,
+        times,
+        validities,
+        days,
+        &mut bodies,
+        book,
+        table,
+        counts,
+    )
 }

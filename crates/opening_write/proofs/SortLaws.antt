@@ -16,7 +16,7 @@ use Rattle.sorting.specs.Rules.{keyAt, sortedPlaces}
 use Rattle.sorting.specs.Claims.{rowIn, keyIn}
 use Rattle.sorting.proofs.SortedPlacesLaws.{places-below}
 use Rattle.sorting.proofs.RowPlacesLaws.{places-count, places-put, element-places}
-use Rattle.opening_write.specs.Steps.{bodiesAt}
+use Rattle.opening_write.specs.inner.Steps.{bodiesAt}
 
 module _ (s : List ℕ) (n : ℕ) where
   abbrev pub rs : List (List ℕ)

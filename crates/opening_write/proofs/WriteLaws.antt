@@ -2,7 +2,7 @@
 use mathlib.Core.Path.{_≡_, refl, sym, ap, subst, _∙_}
 use mathlib.Core.List.{List, [], _∷_, _++_, map, append-nil}
 use Prim.Native.Nat.{ℕ, suc, _+_, _*_, _≤_, _<_}
-use native.Mathlib.Nat.{zero-add, add-zero}
+use native.Mathlib.Nat.{zero-add}
 use native.Mathlib.Omega.{arith}
 use lib.ListN.{length, take, getD, set, length-append}
 use lib.Seq.{length-take-le, getD-take, take-take}
@@ -17,16 +17,9 @@ use Rattle.lists.proofs.WideLaws.{length-flat}
 use Rattle.passage.specs.Layout.{body-wide}
 use Rattle.book.specs.Entries.{planEntry}
 use Rattle.book.specs.Rules.{planRow, planRows}
-use Rattle.opening_write.specs.Steps.{bodiesAt}
+use Rattle.opening_write.specs.inner.Steps.{bodiesAt}
 
 -- ---- one body
-
--- kind, then the body
-pub entry-written : (at : ℕ) (body book : List ℕ) → over (at + 1) body (set book at 1) ≡ over at (planEntry body) book
-entry-written at body book =
-    let e : set book at 1 ≡ over at (1 ∷ []) book =
-    ap (λ (l : List ℕ). set l at 1) (sym (over-nil at book)) ∙ ap (λ (m : ℕ). set (over at [] book) m 1) (sym (add-zero at)) ∙ over-snoc at 1 [] book in
-    rw e (over-then at (1 ∷ []) body book)
 
 -- the body, then heard
 pub row-written : (at : ℕ) (body table : List ℕ) → length body ≡ body-wide → set (over at body table) (at + body-wide) 0 ≡ over at (planRow body) table

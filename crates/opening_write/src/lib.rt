@@ -12,19 +12,11 @@ ghost use Rattle.lists.specs.Rows.{flat, rowsOf};
 ghost use Rattle.passage.specs.Layout.{body-wide, row-wide};
 ghost use Rattle.book.specs.Entries.{plan-wide, planEntry};
 ghost use Rattle.book.specs.Rules.{bookRoom, planRow, planRows};
-ghost use Rattle.opening_write.specs.Steps.{bodiesAt, openedOutcome, openedBook, openedTable};
+ghost use Rattle.calls.specs.Leaves.{leaves};
+ghost use Rattle.opening_write.specs.inner.Steps.{bodiesAt, openedLeaves};
 
 // As many plan entries as a book has room for.
 const MOST: usize = 4401;
-
-// The body at p becomes a plan entry from `at` on.
-fn write_entry(book: &mut [u8], at: usize, bodies: &[u8], p: usize)
-    requires { ⌜ (at + plan-wide ≤ length (now book)) × (p + body-wide ≤ length (now bodies)) ⌝ }
-    ensures { λ _. ⌜ now (book .exit) ≡ over at (planEntry (part p body-wide (now (bodies .entry)))) (now (book .entry)) ⌝ }
-{
-    book[at] = 1;
-    lists::copy_to(book, at + 1, &bodies[p..p + passage::BODY_WIDE]);
-}
 
 // The body at p becomes a row from `at` on that no update was heard of.
 fn write_row(table: &mut [u8], at: usize, bodies: &[u8], p: usize)
@@ -35,16 +27,16 @@ fn write_row(table: &mut [u8], at: usize, bodies: &[u8], p: usize)
     table[at + passage::HEARD_AT] = 0;
 }
 
-// The plan entries of the n bodies, in this order.
-fn write_plan(book: &mut [u8], bodies: &[u8], order: &[u32], n: usize)
-    requires { ⌜ (n * plan-wide ≤ length (now book)) × (n * body-wide ≤ length (now bodies)) × (n ≤ length (now order)) ⌝ }
+// The plan entries of the n bodies, in this order, from the start of the book's free tail: of a book that is opened all is free.
+fn write_plan(tail: &mut [u8], bodies: &[u8], order: &[u32], n: usize)
+    requires { ⌜ (n * plan-wide ≤ length (now tail)) × (n * body-wide ≤ length (now bodies)) × (n ≤ length (now order)) ⌝ }
     requires { ⌜ Each (λ (j : ℕ). j < n) (take n (now order)) ⌝ }
-    ensures { λ _. ⌜ now (book .exit) ≡ over 0 (flat (map planEntry (bodiesAt (now (bodies .entry)) (take n (now (order .entry)))))) (now (book .entry)) ⌝ }
+    ensures { λ _. ⌜ now (tail .exit) ≡ over 0 (flat (map planEntry (bodiesAt (now (bodies .entry)) (take n (now (order .entry)))))) (now (tail .entry)) ⌝ }
 {
     let mut i = 0;
     while i < n {
         let j = order[i] as usize;
-        write_entry(book, i * book::PLAN_WIDE, bodies, j * passage::BODY_WIDE);
+        book_write::write_plan_entry(tail, i * book::PLAN_WIDE, bodies, j * passage::BODY_WIDE);
         i += 1;
     }
 }
@@ -53,7 +45,8 @@ fn write_plan(book: &mut [u8], bodies: &[u8], order: &[u32], n: usize)
 fn write_rows(table: &mut [u8], bodies: &[u8], order: &[u32], n: usize)
     requires { ⌜ (n * row-wide ≤ length (now table)) × (n * body-wide ≤ length (now bodies)) × (n ≤ length (now order)) ⌝ }
     requires { ⌜ Each (λ (j : ℕ). j < n) (take n (now order)) ⌝ }
-    ensures { λ _. ⌜ now (table .exit) ≡ over 0 (flat (planRows (bodiesAt (now (bodies .entry)) (take n (now (order .entry)))))) (now (table .entry)) ⌝ }
+    ensures { λ _. ⌜ now (table .exit)
+        ≡ over 0 (flat (planRows (bodiesAt (now (bodies .entry)) (take n (now (order .entry)))))) (now (table .entry)) ⌝ }
 {
     let mut i = 0;
     while i < n {
@@ -63,33 +56,28 @@ fn write_rows(table: &mut [u8], bodies: &[u8], order: &[u32], n: usize)
     }
 }
 
-// The n bodies by key: 9, 8, or entries and rows. The book has room.
+// The bodies by key: 9, 8, or entries and rows. The book has room.
 pub fn sort_and_write(
     bodies: &[u8],
-    n: usize,
+    count: usize,
     book: &mut [u8],
     table: &mut [u8],
-    c: Counts,
+    counts: Counts,
 ) -> Outcome
-    requires { ⌜ (n * body-wide ≤ length (now bodies)) × (n * plan-wide ≤ bookRoom (now book)) ⌝ }
-    ensures outcome { λ r. ⌜ r ≡ openedOutcome (rowsOf body-wide n (now (bodies .entry))) (now (book .entry)) (now (table .entry)) c ⌝ }
-    ensures entries { λ _. ⌜ now (book .exit) ≡ openedBook (rowsOf body-wide n (now (bodies .entry))) (now (book .entry)) (now (table .entry)) ⌝ }
-    ensures rows { λ _. ⌜ now (table .exit) ≡ openedTable (rowsOf body-wide n (now (bodies .entry))) (now (book .entry)) (now (table .entry)) ⌝ }
+    requires { ⌜ (count * body-wide ≤ length (now bodies)) × (count * plan-wide ≤ bookRoom (now book)) ⌝ }
+    ensures { λ r. ⌜ leaves r (now (book .exit)) (now (table .exit))
+        ≡ openedLeaves (rowsOf body-wide count (now (bodies .entry))) (now (book .entry)) (now (table .entry)) counts ⌝ }
 {
     let mut order = [0u32; MOST];
-    let distinct = sorting_merge::sort_keys(bodies, n, 0, passage::BODY_WIDE, &mut order);
+    let distinct = sorting_merge::sort_keys(bodies, count, 0, passage::BODY_WIDE, &mut order);
     let room = table::rows_room(table);
-    if distinct != n {
-        return calls::refused(Answer::KeyTwice, c);
+    if distinct != count {
+        return calls::unchanged(Answer::KeyTwice, counts);
     }
-    if room < n {
-        return calls::refused(Answer::TableShort, c);
+    if room < count {
+        return calls::unchanged(Answer::TableShort, counts);
     }
-    write_plan(book, bodies, &order, n);
-    write_rows(table, bodies, &order, n);
-    let used = n * book::PLAN_WIDE;
-    Outcome {
-        answer: Answer::Accepted(0),
-        counts: Counts { used, rows: n },
-    }
+    write_plan(book, bodies, &order, count);
+    write_rows(table, bodies, &order, count);
+    calls::accepted(0, count * book::PLAN_WIDE, count)
 }

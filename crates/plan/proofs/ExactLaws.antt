@@ -1,14 +1,14 @@
-use Prim.Native.Nat.{ℕ}
-use mathlib.Core.Path.{_≡_, refl}
-use mathlib.Core.Bool.{Bool, true, false}
+-- A plan passage joins exactly where a pass time and a validity that match give it, and as often. Assumes nothing.
+use Prim.Native.Nat.{ℕ, _+_}
+use native.Mathlib.Omega.{arith}
+use mathlib.Core.Path.{_≡_, refl, ap, _∙_}
+use mathlib.Core.Bool.{Bool, true, false, _&&_}
 use mathlib.Core.List.{List, [], _∷_, _++_}
 use mathlib.Core.Logic.{_⊎_, inl, inr, ⊎-elim, _↔_}
 use Rattle.lists.specs.Logic.{on}
-use Rattle.plan.specs.BodiesRules.{planBody}
+use Rattle.plan.specs.Passes.{planBody}
 use Rattle.plan.specs.Rules.{matches, joinedWith, joined}
-use Rattle.plan.specs.Claims.{Some}
-
--- A plan passage joins exactly where a pass time and a validity that match give it. Assumes nothing.
+use Rattle.plan.specs.Claims.{Some, tally, tallyPairs}
 
 module _ (P : List ℕ → Type 0) where
   some-front : (xs ys : List (List ℕ)) → Some P xs → Some P (xs ++ ys)
@@ -61,3 +61,29 @@ module _ (b : List ℕ) where
 
 pub joined-exactly : (ps vs : List (List ℕ)) (b : List ℕ) → Some (λ (x : List ℕ). x ≡ b) (joined ps vs) ↔ Some (λ (p : List ℕ). Some (λ (v : List ℕ). (matches p v ≡ true) × (planBody p v ≡ b)) vs) ps
 joined-exactly ps vs b = (joined-given b ps vs, given-joined b ps vs)
+
+-- ---- how many join
+
+module _ (kind : List ℕ → Bool) where
+  tally-append : (xs ys : List (List ℕ)) → tally kind (xs ++ ys) ≡ tally kind xs + tally kind ys
+  tally-append [] ys = omega arith
+  tally-append (x ∷ xs) ys = let e = tally-append xs ys in omega arith
+
+  -- a pair that matches and gives one of that kind
+  abbrev giving : List ℕ → List ℕ → Bool
+  giving p v = matches p v && kind (planBody p v)
+
+  with-counted : (p : List ℕ) (vs : List (List ℕ)) → tally kind (joinedWith p vs) ≡ tally (giving p) vs
+  unfolding joinedWith
+  with-counted p [] = refl
+  with-counted p (v ∷ vs) = go (matches p v) (with-counted p vs)
+    where
+      go : (t : Bool) → tally kind (joinedWith p vs) ≡ tally (giving p) vs → tally kind (on t (planBody p v ∷ joinedWith p vs) (joinedWith p vs)) ≡ on (t && kind (planBody p v)) 1 0 + tally (giving p) vs
+      go true e = ap (λ (n : ℕ). on (kind (planBody p v)) 1 0 + n) e
+      go false e = omega arith
+
+  pub joined-counted : (ps vs : List (List ℕ)) → tally kind (joined ps vs) ≡ tallyPairs giving ps vs
+  unfolding joined
+  joined-counted [] vs = refl
+  joined-counted (p ∷ ps) vs =
+      tally-append (joinedWith p vs) (joined ps vs) ∙ ap (λ (n : ℕ). n + tally kind (joined ps vs)) (with-counted p vs) ∙ ap (λ (n : ℕ). tally (giving p) vs + n) (joined-counted ps vs)

@@ -1,11 +1,11 @@
 pub mod TextLaws
+pub mod BodyLaws
 pub mod FirstLaws
 pub mod MatchLaws
 pub mod JoinLaws
 pub mod PlanLaws
 pub mod RangeLaws
+pub mod FieldLaws
 pub mod ExactLaws
 pub mod Claims
 pub mod Determined
-pub mod BodyLaws
-pub mod BodiesDetermined

@@ -1,3 +1,4 @@
+-- All pass times, one by one. Assumes nothing.
 use Prim.Native.Nat.{ℕ, _+_, _*_, _-_, _≤_, _<_}
 use native.Mathlib.Omega.{arith}
 use native.Mathlib.Decide.{decLe}
@@ -11,21 +12,21 @@ use Rattle.lists.proofs.EachLaws.{each-append}
 use Rattle.lists.proofs.OverLaws.{over-nil, over-then}
 use Rattle.lists.proofs.RowLaws.{rowsOf-append, flat-append, take-rowsOf}
 use Rattle.lists.proofs.WideLaws.{length-flat, wide-rowsOf}
+use Rattle.passage.specs.Layout.{body-wide}
+use Rattle.plan.specs.Passes.{pass-wide, validity-wide}
 use Rattle.plan.specs.Rules.{joinedWith, joined}
 use Rattle.plan.proofs.MatchLaws.{wide-joined}
-
--- All pass times, one by one. Assumes nothing.
 
 joined-append : (xs ys vs : List (List ℕ)) → joined (xs ++ ys) vs ≡ joined xs vs ++ joined ys vs
 unfolding joined
 joined-append [] ys vs = refl
 joined-append (x ∷ xs) ys vs = ap (λ (l : List (List ℕ)). joinedWith x vs ++ l) (joined-append xs ys vs) ∙ sym (append-assoc (joinedWith x vs) (joined xs vs) (joined ys vs))
 
--- every plan passage has 66 bytes
-pub wide-all : (ps vs : List (List ℕ)) → Wide 65 ps → Wide 24 vs → Wide 66 (joined ps vs)
+-- every plan passage is as wide as a body
+pub wide-all : (ps vs : List (List ℕ)) → Wide pass-wide ps → Wide validity-wide vs → Wide body-wide (joined ps vs)
 unfolding joined
 wide-all [] vs h k = tt
-wide-all (p ∷ ps) vs h k = each-append (λ (b : List ℕ). length b ≡ 66) (joinedWith p vs) (joined ps vs) (wide-joined p (h .0) vs k) (wide-all ps vs (h .1) k)
+wide-all (p ∷ ps) vs h k = each-append (λ (b : List ℕ). length b ≡ body-wide) (joinedWith p vs) (joined ps vs) (wide-joined p (h .0) vs k) (wide-all ps vs (h .1) k)
 
 -- n elements and one more are taken, or there are no more than n
 more-or-all : (n : ℕ) (l : List (List ℕ)) → Dec (length l ≤ n) → length (take (n + 1) l) ≤ n → length l ≤ n
@@ -34,11 +35,11 @@ more-or-all n l (no h) e = let t = length-take-le (n + 1) l (omega (arith, h)) i
 
 module _ (ps vs : List ℕ) (np nv most : ℕ) (out₀ : List ℕ) where
   abbrev validities : List (List ℕ)
-  validities = rowsOf 24 nv vs
+  validities = rowsOf validity-wide nv vs
 
   -- what joins of the first i pass times
   abbrev so-far : ℕ → List (List ℕ)
-  so-far i = joined (rowsOf 65 i ps) validities
+  so-far i = joined (rowsOf pass-wide i ps) validities
 
   -- the first i pass times are done: k plan passages, no more than may be, and they are written
   pub record Planned (out : List ℕ) (k i : ℕ) : Type 0 where
@@ -61,35 +62,35 @@ module _ (ps vs : List ℕ) (np nv most : ℕ) (out₀ : List ℕ) where
       let f = g .few in
       (rw (take-all (most + 1) (so-far np) (omega arith)) c, rw (take-all most (so-far np) (omega arith), ← e) (g .laid))
 
-  module _ (hp : np * 65 ≤ length ps) (hv : nv * 24 ≤ length vs) (out : List ℕ) (k i : ℕ) (g : Planned out k i) (l : i < np) where
+  module _ (hp : np * pass-wide ≤ length ps) (hv : nv * validity-wide ≤ length vs) (out : List ℕ) (k i : ℕ) (g : Planned out k i) (l : i < np) where
     abbrev found : List (List ℕ)
-    found = joinedWith (part (i * 65) 65 ps) validities
+    found = joinedWith (part (i * pass-wide) pass-wide ps) validities
 
     one-more : so-far (i + 1) ≡ so-far i ++ found
     unfolding rowsOf joined part
     one-more =
-        ap (λ (rs : List (List ℕ)). joined rs validities) (rowsOf-append 65 i 1 ps) ∙ joined-append (rowsOf 65 i ps) (rowsOf 65 1 (drop (i * 65) ps)) validities
+        ap (λ (rs : List (List ℕ)). joined rs validities) (rowsOf-append pass-wide i 1 ps) ∙ joined-append (rowsOf pass-wide i ps) (rowsOf pass-wide 1 (drop (i * pass-wide) ps)) validities
         ∙ ap (λ (rs : List (List ℕ)). so-far i ++ rs) (append-nil found)
 
     abbrev later : List (List ℕ)
-    later = joined (drop (i + 1) (rowsOf 65 np ps)) validities
+    later = joined (drop (i + 1) (rowsOf pass-wide np ps)) validities
 
     whole : so-far np ≡ (so-far i ++ found) ++ later
     whole =
-        let r = rowsOf 65 np ps in
-        ap (λ (rs : List (List ℕ)). joined rs validities) (sym (take-append-drop (i + 1) r) ∙ ap (λ (rs : List (List ℕ)). rs ++ drop (i + 1) r) (take-rowsOf 65 np (i + 1) ps (omega arith)))
-        ∙ joined-append (rowsOf 65 (i + 1) ps) (drop (i + 1) r) validities
+        let r = rowsOf pass-wide np ps in
+        ap (λ (rs : List (List ℕ)). joined rs validities) (sym (take-append-drop (i + 1) r) ∙ ap (λ (rs : List (List ℕ)). rs ++ drop (i + 1) r) (take-rowsOf pass-wide np (i + 1) ps (omega arith)))
+        ∙ joined-append (rowsOf pass-wide (i + 1) ps) (drop (i + 1) r) validities
         ∙ ap (λ (rs : List (List ℕ)). rs ++ later) one-more
 
     -- what is written behind the passages so far
-    laid-more : (xs : List (List ℕ)) (out′ : List ℕ) → out′ ≡ over (k * 66) (flat xs) out → out′ ≡ over 0 (flat (so-far i ++ xs)) out₀
+    laid-more : (xs : List (List ℕ)) (out′ : List ℕ) → out′ ≡ over (k * body-wide) (flat xs) out → out′ ≡ over 0 (flat (so-far i ++ xs)) out₀
     laid-more xs out′ o =
-        let w : Wide 66 (so-far i) = wide-all (rowsOf 65 i ps) validities (wide-rowsOf 65 i ps (omega arith)) (wide-rowsOf 24 nv vs hv) in
-        let e : k * 66 ≡ 0 + length (flat (so-far i)) = omega (arith, g .count, length-flat 66 (so-far i) w) in
+        let w : Wide body-wide (so-far i) = wide-all (rowsOf pass-wide i ps) validities (wide-rowsOf pass-wide i ps (omega arith)) (wide-rowsOf validity-wide nv vs hv) in
+        let e : k * body-wide ≡ 0 + length (flat (so-far i)) = omega (arith, g .count, length-flat body-wide (so-far i) w) in
         o ∙ ap (λ (n : ℕ). over n (flat xs) out) e ∙ ap (over (0 + length (flat (so-far i))) (flat xs)) (g .laid) ∙ over-then 0 (flat (so-far i)) (flat xs) out₀
         ∙ ap (λ (x : List ℕ). over 0 x out₀) (sym (flat-append (so-far i) xs))
 
-    module _ (k′ : ℕ) (out′ : List ℕ) (c : k′ ≡ k + length (take (most + 1 - k) found)) (o : out′ ≡ over (k * 66) (flat (take (most - k) found)) out) where
+    module _ (k′ : ℕ) (out′ : List ℕ) (c : k′ ≡ k + length (take (most + 1 - k) found)) (o : out′ ≡ over (k * body-wide) (flat (take (most - k) found)) out) where
       count′ : k′ ≡ k + length (take (most - k + 1) found)
       count′ = let f = g .few in let e : most + 1 - k ≡ most - k + 1 = omega arith in c ∙ ap (λ (n : ℕ). k + length (take n found)) e
 
@@ -102,7 +103,7 @@ module _ (ps vs : List ℕ) (np nv most : ℕ) (out₀ : List ℕ) where
             within = omega arith;
             few = b;
             count = c ∙ ap (λ (xs : List (List ℕ)). k + length xs) t ∙ ap (λ (n : ℕ). n + length found) (g .count) ∙ sym (length-append (so-far i) found) ∙ ap length (sym one-more);
-            laid = rw one-more (laid-more found out′ (o ∙ ap (λ (xs : List (List ℕ)). over (k * 66) (flat xs) out) (take-all (most - k) found a)));
+            laid = rw one-more (laid-more found out′ (o ∙ ap (λ (xs : List (List ℕ)). over (k * body-wide) (flat xs) out) (take-all (most - k) found a)));
           }
 
       pub plan-full : most < k′ → Told k′ out′

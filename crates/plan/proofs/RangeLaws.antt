@@ -1,3 +1,4 @@
+-- A plan passage has its fields from the pass time and the validity, and so is in range. Assumes nothing.
 use Prim.Native.Nat.{ℕ, _+_, _≤_, _<_}
 use native.Mathlib.Omega.{arith}
 use mathlib.Core.Path.{_≡_, refl, sym, ap, subst, _∙_}
@@ -20,12 +21,10 @@ use Rattle.passage.specs.Ranges.{paddedText}
 use Rattle.passage.specs.Facts.{PlanFacts, TimeFacts}
 use Rattle.passage.proofs.RangeLaws.{facts-plan}
 use Rattle.reader.specs.Staged.{PassFacts, ValidityFacts}
-use Rattle.plan.specs.BodiesRules.{planKey, planRest, planBody}
+use Rattle.plan.specs.Passes.{planKey, planRest, planBody}
 use Rattle.plan.proofs.BodyLaws.{key-length, body-length}
 use Rattle.plan.specs.Rules.{matches, joinedWith, joined}
 use Rattle.plan.specs.Claims.{Passage}
-
--- A plan passage has its fields from the pass time and the validity, and so is in range. Assumes nothing.
 
 module _ (p v : List ℕ) (h : length p ≡ 65) (k : length v ≡ 24) where
   abbrev body : List ℕ
@@ -53,20 +52,20 @@ module _ (p v : List ℕ) (h : length p ≡ 65) (k : length v ≡ 24) where
   unfolding planBody flat
   put-together = simp (append-nil, append-assoc)
 
-  piece : (j : ℕ) → j < 7 → part (begins widths j) (getD widths j 0) body ≡ getD pieces j []
+  pub piece : (j : ℕ) → j < 7 → part (begins widths j) (getD widths j 0) body ≡ getD pieces j []
   piece j l = ap (part (begins widths j) (getD widths j 0)) (sym put-together) ∙ flat-part widths pieces [] fit j l
 
   -- a part of a piece of the pass time, and a byte of a piece
-  of-pass : (at from m : ℕ) → part at m body ≡ part from m p → (off n : ℕ) → off + n ≤ m → part (at + off) n body ≡ part (from + off) n p
+  pub of-pass : (at from m : ℕ) → part at m body ≡ part from m p → (off n : ℕ) → off + n ≤ m → part (at + off) n body ≡ part (from + off) n p
   of-pass at from m e off n l = sym (part-part off n at m body l) ∙ ap (part off n) e ∙ part-part off n from m p l
 
-  byte-of : (at m : ℕ) (x : List ℕ) → part at m body ≡ x → (off : ℕ) → off < m → getD body (at + off) 0 ≡ getD x off 0
+  pub byte-of : (at m : ℕ) (x : List ℕ) → part at m body ≡ x → (off : ℕ) → off < m → getD body (at + off) 0 ≡ getD x off 0
   byte-of at m x e off l = sym (part-at at m body off l) ∙ ap (λ (y : List ℕ). getD y off 0) e
 
-  byte-of-pass : (at from m : ℕ) → part at m body ≡ part from m p → (off : ℕ) → off < m → getD body (at + off) 0 ≡ getD p (from + off) 0
+  pub byte-of-pass : (at from m : ℕ) → part at m body ≡ part from m p → (off : ℕ) → off < m → getD body (at + off) 0 ≡ getD p (from + off) 0
   byte-of-pass at from m e off l = byte-of at m (part from m p) e off l ∙ part-at from m p off l
 
-  no-stamp : part 51 5 body ≡ replicate 5 0 → number (part 51 4 body) ≡ 0
+  pub no-stamp : part 51 5 body ≡ replicate 5 0 → number (part 51 4 body) ≡ 0
   unfolding number part
   no-stamp e = ap number (sym (part-part 0 4 51 5 body (omega arith)) ∙ ap (part 0 4) e)
 

@@ -1,28 +1,23 @@
+-- Lists that are compared piece by piece. Assumes nothing.
 use Prim.Native.Nat.{ℕ, _+_, _<_}
 use native.Mathlib.Omega.{arith}
 use mathlib.Core.Path.{_≡_, refl, sym, ap, _∙_}
-use mathlib.Core.Bool.{Bool, true, false, not, _||_}
+use mathlib.Core.Bool.{Bool, true, false, not, _||_, _&&_}
 use mathlib.Core.List.{List, [], _∷_, _++_}
 use lib.Dec.{eqb}
 use lib.ListN.{length, take, getD}
 use lib.Seq.{take-all, length-take-le}
-use Rattle.lists.specs.Logic.{both}
+use Rattle.lists.proofs.LogicLaws.{and-assoc}
 use Rattle.lists.specs.Text.{same}
 use Rattle.lists.specs.Part.{part}
 use Rattle.lists.proofs.PartLaws.{part-zero, part-snoc, length-part, take-snoc}
 
--- Lists that are compared piece by piece. Assumes nothing.
-
-both-assoc : (a b c : Bool) → both (both a b) c ≡ both a (both b c)
-both-assoc true b c = refl
-both-assoc false b c = refl
-
-pub same-append : (a b c d : List ℕ) → length a ≡ length b → same (a ++ c) (b ++ d) ≡ both (same a b) (same c d)
+pub same-append : (a b c d : List ℕ) → length a ≡ length b → same (a ++ c) (b ++ d) ≡ (same a b && same c d)
 unfolding same
 same-append [] [] c d e = refl
 same-append [] (y ∷ b) c d e = absurd (omega arith)
 same-append (x ∷ a) [] c d e = absurd (omega arith)
-same-append (x ∷ a) (y ∷ b) c d e = ap (both (eqb x y)) (same-append a b c d (omega arith)) ∙ sym (both-assoc (eqb x y) (same a b) (same c d))
+same-append (x ∷ a) (y ∷ b) c d e = ap (_&&_ (eqb x y)) (same-append a b c d (omega arith)) ∙ sym (and-assoc (eqb x y) (same a b) (same c d))
 
 -- ---- byte by byte, without a branch
 
@@ -30,11 +25,11 @@ same-one : (x y : ℕ) → same (x ∷ []) (y ∷ []) ≡ eqb x y
 unfolding same
 same-one x y = go (eqb x y)
   where
-    go : (b : Bool) → both b true ≡ b
+    go : (b : Bool) → (b && true) ≡ b
     go true = refl
     go false = refl
 
-or-not : (s e : Bool) → (not s || not e) ≡ not (both s e)
+or-not : (s e : Bool) → (not s || not e) ≡ not (s && e)
 or-not true true = refl
 or-not true false = refl
 or-not false true = refl

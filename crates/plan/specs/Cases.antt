@@ -5,7 +5,7 @@ use mathlib.Core.List.{List, [], _∷_, _++_}
 use lib.ListN.{length, replicate}
 use Rattle.lists.specs.Text.{bytes, same}
 use Rattle.lists.specs.Part.{part}
-use Rattle.plan.specs.BodiesRules.{planBody}
+use Rattle.plan.specs.Passes.{planBody}
 use Rattle.plan.specs.Rules.{matches, joinedWith, joined}
 
 -- CXX, line A031, journey 1, fortify 0, stop S1, order number 2, level L or M, destination CIOS, 24:10:00, INTERMEDIATE, flexible 0

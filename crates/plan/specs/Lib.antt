@@ -1,4 +1,5 @@
 pub mod Rules
 pub mod Claims
 pub mod Cases
-pub mod BodiesRules
+pub mod Passes
+pub mod inner

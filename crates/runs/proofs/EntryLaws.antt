@@ -14,8 +14,8 @@ use Rattle.lists.specs.BigEndian.{number, spelled}
 use Rattle.lists.specs.Rows.{Wide}
 use Rattle.lists.proofs.BigEndianLaws.{length-spelled, number-spelled}
 use Rattle.passage.specs.Layout.{body-wide}
-use Rattle.book.specs.Entries.{number-wide, entry-wide, numberOf, bodyOf, entryOf, entriesOf}
-use Rattle.book.specs.Rules.{marked, withdrawn, messageEntries, standing, lastFrom}
+use Rattle.book.specs.Entries.{number-wide, entry-wide, numberOf, entryBody, entryOf, entriesOf}
+use Rattle.book.specs.Rules.{markedWithdrawn, withdrawn, messageEntries, standing, lastFrom}
 
 -- an entry of any kind
 abbrev pub entryAs : ℕ → ℕ → ℕ → List ℕ → List ℕ
@@ -29,8 +29,8 @@ module _ (n sender : ℕ) where
   unfolding entriesOf entryOf
   entries-standing bodies = refl
 
-  pub entries-marked : (bodies : List (List ℕ)) → map marked (entriesOf n sender bodies) ≡ entriesAs 3 n sender bodies
-  unfolding entriesOf entryOf marked
+  pub entries-marked : (bodies : List (List ℕ)) → map markedWithdrawn (entriesOf n sender bodies) ≡ entriesAs 3 n sender bodies
+  unfolding entriesOf entryOf markedWithdrawn
   entries-marked [] = refl
   entries-marked (b ∷ bodies) = ap (λ (l : List (List ℕ)). entryAs 3 n sender b ∷ l) (entries-marked bodies)
 
@@ -41,7 +41,7 @@ module _ (kind n sender : ℕ) (body : List ℕ) where
   unfolding part
   entry-number h = ap number (take-at (spelled number-wide n) (sender ∷ body) number-wide (length-spelled number-wide n)) ∙ number-spelled number-wide n h
 
-  pub entry-body : length body ≡ body-wide → bodyOf (entryAs kind n sender body) ≡ body
+  pub entry-body : length body ≡ body-wide → entryBody (entryAs kind n sender body) ≡ body
   unfolding part
   entry-body h =
       let e : length (spelled number-wide n) + 1 ≡ 5 = simp length-spelled (omega arith) in
@@ -69,14 +69,14 @@ module _ (kind m sender : ℕ) where
   standing-as (b ∷ bodies) h = go (eqb kind 2) (standing-as bodies (h .1))
     where
       go : (t : Bool) → standing (entriesAs kind m sender bodies) ≡ on t bodies []
-          → on t (bodyOf (entryAs kind m sender b) ∷ standing (entriesAs kind m sender bodies)) (standing (entriesAs kind m sender bodies)) ≡ on t (b ∷ bodies) []
+          → on t (entryBody (entryAs kind m sender b) ∷ standing (entriesAs kind m sender bodies)) (standing (entriesAs kind m sender bodies)) ≡ on t (b ∷ bodies) []
       go true ih = rw (entry-body kind m sender b (h .0), ih)
       go false ih = ih
 
   module _ (fits : m < 256 ^ 4) where
     -- they are marked if the message is the one that is withdrawn
     pub withdrawn-as : (n : ℕ) (bodies : List (List ℕ)) → withdrawn n (entriesAs kind m sender bodies) ≡ entriesAs (on (eqb m n) 3 kind) m sender bodies
-    unfolding withdrawn marked
+    unfolding withdrawn markedWithdrawn
     withdrawn-as n [] = refl
     withdrawn-as n (b ∷ bodies) = rw (entry-number kind m sender b fits) (go (eqb m n) (withdrawn-as n bodies))
       where

@@ -12,12 +12,13 @@ use Rattle.lists.proofs.OverLaws.{over-then, over-longer}
 use Rattle.lists.proofs.WideLaws.{length-flat}
 use Rattle.lists.proofs.StoreLaws.{rowsOf-store}
 use Rattle.passage.specs.Layout.{body-wide, row-wide}
-use Rattle.table.specs.Rules.{tableSound, room}
+use Rattle.table.specs.Rules.{tableSound, tableRoom}
 use Rattle.table.proofs.SoundLaws.{each-range, room-holds, sound-stored}
 use Rattle.book.specs.Entries.{plan-wide, entry-wide, planEntry, planCount, plansIn, planBodies, updatesIn}
 use Rattle.book.specs.Rules.{bookSound}
 use Rattle.book.proofs.PlanLaws.{length-bodies}
-use Rattle.runs.specs.Runs.{Day, Taken, logEntries, logStanding}
+use Rattle.calls.specs.Leaves.{Day}
+use Rattle.runs.specs.Runs.{Taken, logEntries, logStanding}
 use Rattle.runs.proofs.LogLaws.{each-so, Update, NotedFrom, log-wide}
 use Rattle.runs.proofs.RowsLaws.{Planned, IsPlan, Row, replay, replay-sorted, replay-rows}
 
@@ -65,7 +66,7 @@ plan-count used b = length-bodies (planCount used b) b
 
 -- ---- the table that is stored
 
-module _ (plan us rs : List (List ℕ)) (p : IsPlan plan) (updates : Each Update us) (e : rs ≡ replay plan us) (n : ℕ) (t : List ℕ) (h : length rs ≤ room t) where
+module _ (plan us rs : List (List ℕ)) (p : IsPlan plan) (updates : Each Update us) (e : rs ≡ replay plan us) (n : ℕ) (t : List ℕ) (h : length rs ≤ tableRoom t) where
   all-rows : Each Row rs
   all-rows = rw e (replay-rows plan us p updates)
 

@@ -12,16 +12,16 @@ use Rattle.lists.specs.Each.{Each}
 use Rattle.lists.specs.Text.{same}
 use Rattle.lists.specs.Rows.{Wide}
 use Rattle.lists.proofs.EachLaws.{each-append}
-use Rattle.lists.proofs.LogicLaws.{either-false}
+use Rattle.lists.proofs.LogicLaws.{or-fail}
 use Rattle.passage.specs.Layout.{body-wide, keyOf}
 use Rattle.passage.specs.Ranges.{updateInRange}
 use Rattle.keys.specs.Replay.{Rule, replayed}
 use Rattle.keys.proofs.ReplayLaws.{replayed-append, replayed-skip, among, among-append}
-use Rattle.book.specs.Entries.{entry-wide, numberOf, bodyOf, entriesOf}
+use Rattle.book.specs.Entries.{entry-wide, numberOf, entryBody, entriesOf}
 use Rattle.book.specs.Rules.{withdrawn, messageEntries, standing, noEntry, lastFrom, nextNumber}
 use Rattle.book.proofs.NumberLaws.{no-number}
 use Rattle.book.proofs.StandingLaws.{standing-append}
-use Rattle.calls.specs.Withdraw.{named}
+use Rattle.calls.specs.Withdraw.{keysNamed}
 use Rattle.runs.specs.Runs.{Taken, undone, struck, takenEntries, logEntries, logStanding}
 use Rattle.runs.proofs.EntryLaws.{entryAs, entriesAs, entries-standing, entries-marked, entries-wide, entry-body, standing-as, withdrawn-as, entries-of, last-as, withdrawn-append, entries-append, last-append}
 
@@ -196,20 +196,20 @@ log-next log h = let e = last-number 0 log noEntry h no-number in omega arith
 
 -- ---- keys that a message does not name
 
-named-append : (xs ys : List (List ℕ)) → named (xs ++ ys) ≡ named xs ++ named ys
-unfolding named
-named-append xs ys = map-append (λ (e : List ℕ). keyOf (bodyOf e)) xs ys
+named-append : (xs ys : List (List ℕ)) → keysNamed (xs ++ ys) ≡ keysNamed xs ++ keysNamed ys
+unfolding keysNamed
+named-append xs ys = map-append (λ (e : List ℕ). keyOf (entryBody e)) xs ys
 
 module _ (kind n sender : ℕ) (k : List ℕ) where
-  others : (bodies : List (List ℕ)) → Wide body-wide bodies → among k (named (entriesAs kind n sender bodies)) ≡ false → Each (λ (u : List ℕ). same (keyOf u) k ≡ false) bodies
-  unfolding among named
+  others : (bodies : List (List ℕ)) → Wide body-wide bodies → among k (keysNamed (entriesAs kind n sender bodies)) ≡ false → Each (λ (u : List ℕ). same (keyOf u) k ≡ false) bodies
+  unfolding among keysNamed
   others [] h e = tt
   others (b ∷ bodies) h e =
-      let f = either-false (same (keyOf (bodyOf (entryAs kind n sender b))) k) (among k (named (entriesAs kind n sender bodies))) e in
+      let f = or-fail (same (keyOf (entryBody (entryAs kind n sender b))) k) (among k (keysNamed (entriesAs kind n sender bodies))) e in
       (ap (λ (l : List ℕ). same (keyOf l) k) (sym (entry-body kind n sender b (h .0))) ∙ f .0, others bodies (h .1) (f .1))
 
 -- a key that message n does not name has the same row whether the message is struck out or not
-pub struck-skips : (rule : Rule) (n j : ℕ) (log : List Taken) (k held : List ℕ) → NotedFrom j log → among k (named (messageEntries n (logEntries log))) ≡ false
+pub struck-skips : (rule : Rule) (n j : ℕ) (log : List Taken) (k held : List ℕ) → NotedFrom j log → among k (keysNamed (messageEntries n (logEntries log))) ≡ false
     → replayed rule k held (logStanding (map (struck n) log)) ≡ replayed rule k held (logStanding log)
 unfolding logEntries logStanding
 struck-skips rule n j [] k held h e = refl
@@ -219,12 +219,12 @@ struck-skips rule n j (m ∷ log) k held h e =
     ∙ struck-skips rule n (suc j) log k (replayed rule k held (on (m .stands) (m .bodies) [])) (h .1) (both-out .1)
     ∙ sym (replayed-append rule k held (on (m .stands) (m .bodies) []) (logStanding log))
   where
-    both-out : (among k (named (messageEntries n (takenEntries m))) ≡ false) × (among k (named (messageEntries n (logEntries log))) ≡ false)
+    both-out : (among k (keysNamed (messageEntries n (takenEntries m))) ≡ false) × (among k (keysNamed (messageEntries n (logEntries log))) ≡ false)
     both-out =
-        either-false (among k (named (messageEntries n (takenEntries m)))) (among k (named (messageEntries n (logEntries log))))
-        (sym (among-append k (named (messageEntries n (takenEntries m))) (named (messageEntries n (logEntries log))))
+        or-fail (among k (keysNamed (messageEntries n (takenEntries m)))) (among k (keysNamed (messageEntries n (logEntries log))))
+        (sym (among-append k (keysNamed (messageEntries n (takenEntries m))) (keysNamed (messageEntries n (logEntries log))))
         ∙ ap (among k) (sym (named-append (messageEntries n (takenEntries m)) (messageEntries n (logEntries log))))
-        ∙ ap (λ (l : List (List ℕ)). among k (named l)) (sym (entries-append n (takenEntries m) (logEntries log)))
+        ∙ ap (λ (l : List (List ℕ)). among k (keysNamed l)) (sym (entries-append n (takenEntries m) (logEntries log)))
         ∙ e)
 
     mine : messageEntries n (takenEntries m) ≡ on (eqb (m .number) n) (entriesAs (kindFor (m .stands)) (m .number) (m .sender) (m .bodies)) []
@@ -241,4 +241,4 @@ struck-skips rule n j (m ∷ log) k held h e =
     one true f =
         skip (m .stands)
         (others (kindFor (m .stands)) (m .number) (m .sender) k (m .bodies) (updates-wide (m .bodies) (h .0 .updates))
-        (ap (λ (l : List (List ℕ)). among k (named l)) (sym (mine ∙ ap (λ (t : Bool). on t (entriesAs (kindFor (m .stands)) (m .number) (m .sender) (m .bodies)) []) f)) ∙ both-out .0))
+        (ap (λ (l : List (List ℕ)). among k (keysNamed l)) (sym (mine ∙ ap (λ (t : Bool). on t (entriesAs (kindFor (m .stands)) (m .number) (m .sender) (m .bodies)) []) f)) ∙ both-out .0))

@@ -18,24 +18,25 @@ use Rattle.lists.proofs.StoreLaws.{store-same}
 use Rattle.passage.specs.Layout.{row-wide}
 use Rattle.passage.specs.Ranges.{updateInRange}
 use Rattle.columns.specs.declared.Table.the-variants as Tables
-use Rattle.reader.specs.declared.Answer.the-variants as Readings
+use Rattle.reader.specs.declared.Reading.the-variants as Readings
 use Rattle.reader.specs.Rules.{readingOf, itemsOf}
 use Rattle.reader.proofs.RangeLaws.{rows-in-range}
-use Rattle.reader.proofs.AnswerLaws.{rows-counted, desk-nothing}
+use Rattle.reader.proofs.AnswerLaws.{rows-counted, accepted-each, desk-nothing}
 use Rattle.keys.specs.Replay.{takenAll}
 use Rattle.keys.proofs.ReplayLaws.{each-both, takenAll-append}
 use Rattle.update.specs.Rule.{rowRule}
-use Rattle.table.specs.Rules.{room}
+use Rattle.table.specs.Rules.{tableRoom}
 use Rattle.book.specs.Entries.{entry-wide, planEntry, entriesOf, updatesIn}
 use Rattle.book.specs.Rules.{bookRoom, nextNumber, planRows}
 use Rattle.book.proofs.SoundLaws.{sound-facts, used-within}
 use Rattle.book.proofs.WriteLaws.{length-entriesOf}
 use Rattle.book.proofs.AfterLaws.{after-message}
 use Rattle.calls.specs.Answers.{isAccepted}
-use Rattle.calls.specs.Message.{messageBodies, numberFor, rowsTaken, messageAnswer, bookTaking, tableTaking, countsTaking, messageOutcome, messageBook, messageTable}
+use Rattle.calls.specs.Message.{messageRows, numberFor, rowsTaken, messageAnswer, bookTaking, tableTaking, countsTaking, takenBy, messageLeaves}
 use Rattle.calls.proofs.AcceptedLaws.{Passed, passed, passes}
-use Rattle.calls.proofs.TakenLaws.{IsBody, bodies-wide}
-use Rattle.runs.specs.Runs.{Day, Call, after, Taken, noted, logEntries, logStanding}
+use Rattle.calls.proofs.TakenLaws.{IsBody, message-wide}
+use Rattle.calls.specs.Leaves.{Day}
+use Rattle.runs.specs.Runs.{Call, after, Taken, noted, logEntries, logStanding}
 use Rattle.runs.proofs.LogLaws.{Update, NotedFrom, noted-append, log-more, standing-more, log-least, log-next, standing-updates}
 use Rattle.runs.proofs.RowsLaws.{replay}
 use Rattle.runs.proofs.FollowLaws.{Follows, length-plans, length-log, write-behind, stored-sound, stored-rows}
@@ -80,7 +81,7 @@ module _ (plan : List (List ℕ)) (lent : List ℕ) (x : Day) (log : List Taken)
       omega arith
 
   module _ (bodies : List (List ℕ)) (sender : ℕ) (are : Each Update bodies) (some : 0 < length bodies) (from : 1 ≤ sender)
-      (book-room : x .counts .used + length bodies * entry-wide ≤ bookRoom (x .book)) (table-room : length (rowsTaken bodies (x .table) (x .counts .rows)) ≤ room (x .table)) where
+      (book-room : x .counts .used + length bodies * entry-wide ≤ bookRoom (x .book)) (table-room : length (rowsTaken bodies (x .table) (x .counts .rows)) ≤ tableRoom (x .table)) where
     abbrev more : List Taken
     more = log ++ record { number = next; sender = sender; bodies = bodies; stands = true } ∷ []
 
@@ -120,9 +121,12 @@ module _ (plan : List (List ℕ)) (lent : List ℕ) (x : Day) (log : List Taken)
 
 -- ---- the call
 
+abbrev InRange : List ℕ → Type 0
+InRange u = updateInRange u ≡ true
+
 -- the desk sends no row
-pub from-sender : (register d : List ℕ) (sender n : ℕ) → readingOf Tables.Message register sender d ≡ Readings.Rows n → 0 < length (messageBodies register sender d) → 1 ≤ sender
-unfolding messageBodies
+pub from-sender : (register d : List ℕ) (sender n : ℕ) → readingOf Tables.Message register sender d ≡ Readings.Rows n → 0 < length (messageRows d) → 1 ≤ sender
+unfolding messageRows
 from-sender register d zero n r h =
     let z = desk-nothing register d n r in
     let c = rows-counted Tables.Message register 0 d n r in
@@ -134,18 +138,20 @@ module _ (d : List ℕ) (sender : ℕ) (register : List ℕ) (x : Day) where
   call = Call.message d sender register
 
   abbrev pub sent : List (List ℕ)
-  sent = messageBodies register sender d
-
-  pub sent-updates : Each Update sent
-  unfolding messageBodies
-  sent-updates = each-both IsBody (λ (u : List ℕ). updateInRange u ≡ true) sent (bodies-wide register sender d) (rows-in-range register sender (itemsOf Tables.Message d))
+  sent = messageRows d
 
   module _ (e : isAccepted (messageAnswer d sender register (x .book) (x .table) (x .counts)) ≡ true) where
     pub went : Passed d register (x .book) (x .table) sender (x .counts)
     went = passed d register (x .book) (x .table) sender (x .counts) e
 
+    pub sent-updates : Each Update sent
+    unfolding messageRows
+    sent-updates =
+        let r = went .rows in
+        each-both IsBody InRange sent (message-wide register sender d (r .0) (r .1)) (accepted-each Tables.Message register sender d InRange (rows-in-range register sender (itemsOf Tables.Message d)) (r .0) (r .1))
+
     pub day-after : takes sent sender x ≡ after call x
-    unfolding messageBook messageTable messageOutcome
+    unfolding messageLeaves takenBy
     day-after = rw e
 
     log-after : (log : List Taken) → notes (numberFor sent (x .counts .used) (x .book)) sender sent log ≡ noted call (messageAnswer d sender register (x .book) (x .table) (x .counts)) log

@@ -8,7 +8,7 @@ use native.Mathlib.Omega.{arith}
 use lib.ListN.{length, length-append}
 use Rattle.lists.specs.Logic.{on}
 use Rattle.lists.specs.Each.{Each}
-use Rattle.lists.proofs.LogicLaws.{both-true}
+use Rattle.lists.proofs.LogicLaws.{and-pass}
 use Rattle.lists.proofs.PartLaws.{part-part}
 use Rattle.passage.specs.Layout.{key-wide, body-wide, row-wide, keyOf}
 use Rattle.passage.specs.Ranges.{planInRange, rowInRange}
@@ -21,7 +21,7 @@ use Rattle.keys.proofs.ReplayLaws.{RowOf, get-own, each-both, sorted-takenAll, 
 use Rattle.update.specs.Rule.{rowRule}
 use Rattle.update.proofs.InRangeLaws.{rule-in-range}
 use Rattle.book.specs.Rules.{withdrawn, messageEntries, standing, planRow, planRows, rowFor}
-use Rattle.calls.specs.Withdraw.{named}
+use Rattle.calls.specs.Withdraw.{keysNamed}
 use Rattle.calls.proofs.TakenLaws.{IsBody, keeps, taken-wide, taken-get}
 use Rattle.runs.specs.Runs.{Taken, struck, logEntries, logStanding}
 use Rattle.runs.proofs.LogLaws.{Update, each-so, NotedFrom, updates-wide, log-standing, log-withdrawn, log-struck, standing-updates, struck-skips}
@@ -59,7 +59,7 @@ rises-plan : (b : List ℕ) (plan : List (List ℕ)) → Planned b → Each Plan
 unfolding planRows risesFrom
 rises-plan b [] p h e = refl
 rises-plan b (c ∷ plan) p h e =
-    let f = both-true (isLess (cmp (keyOf b) (keyOf c))) (risesFrom c plan) e in
+    let f = and-pass (isLess (cmp (keyOf b) (keyOf c))) (risesFrom c plan) e in
     rw (plan-key b (p .0), plan-key c (h .0 .0), f .0) (rises-plan c plan (h .0) (h .1) (f .1))
 
 sorted-plan : (plan : List (List ℕ)) → Each Planned plan → sortedRows plan ≡ true → sortedRows (planRows plan) ≡ true
@@ -126,7 +126,7 @@ module _ (plan : List (List ℕ)) (p : IsPlan plan) (log : List Taken) (noted : 
   works-own k = rw (works-as k) (replay-own plan (logStanding less) p all-after k)
 
   -- the rows of the message's keys worked out again are all the rows without it
-  pub rows-struck : reworked works (named (messageEntries n (logEntries log))) before ≡ afterwards
+  pub rows-struck : reworked works (keysNamed (messageEntries n (logEntries log))) before ≡ afterwards
   rows-struck =
       rows-equal (reworked works keys before) afterwards (sorted-reworked works keys before ordered) (replay-sorted plan (logStanding less) p all-after)
       (filled-reworked works keys before (replay-filled plan (logStanding log) p all-before))
@@ -134,7 +134,7 @@ module _ (plan : List (List ℕ)) (p : IsPlan plan) (log : List Taken) (noted : 
       (λ k. get-reworked works works-own k keys before ordered ∙ go k (among k keys) refl)
     where
       keys : List (List ℕ)
-      keys = named (messageEntries n (logEntries log))
+      keys = keysNamed (messageEntries n (logEntries log))
 
       ordered : sortedRows before ≡ true
       ordered = replay-sorted plan (logStanding log) p all-before

@@ -17,7 +17,7 @@ use Rattle.keys.proofs.ReplayLaws.{each-both, get-has, sorted-takenAll, each-ta
 use Rattle.update.specs.Rule.{rowRule}
 use Rattle.update.proofs.RuleLaws.{rule-wide}
 use Rattle.update.proofs.InRangeLaws.{rule-in-range}
-use Rattle.table.specs.Rules.{tableSound, room}
+use Rattle.table.specs.Rules.{tableSound, tableRoom}
 use Rattle.table.proofs.SoundLaws.{sound-fits, sound-range, sound-sorted, range-each, each-range, sound-stored}
 use Rattle.book.specs.Entries.{entry-wide, planBodies, updatesIn}
 use Rattle.book.specs.Rules.{bookSound, noEntry, withdrawn, standing, planRows, rowFor}
@@ -27,13 +27,15 @@ use Rattle.book.proofs.StandingLaws.{standing-ranges, sound-plan-ranges}
 use Rattle.book.proofs.AfterLaws.{after-message}
 use Rattle.calls.specs.Answers.{isAccepted}
 use Rattle.calls.specs.Message.{bookTaking, tableTaking}
-use Rattle.calls.specs.Withdraw.{named, rowsWithout, bookWithout, tableWithout}
+use Rattle.calls.specs.Withdraw.{keysNamed, rowsWithout, bookWithout, tableWithout}
 use Rattle.calls.proofs.AcceptedLaws.{Passed, left}
-use Rattle.runs.specs.Runs.{Day, Call, answerOf, after}
+use Rattle.calls.specs.Leaves.{Day}
+use Rattle.runs.specs.Runs.{Call, answerOf, after}
 use Rattle.runs.specs.Claims.{Sound}
 use Rattle.runs.proofs.LogLaws.{Update, each-so}
 use Rattle.runs.proofs.RowsLaws.{Row, plan-rows}
 use Rattle.book.proofs.MarkLaws.{book-less}
+use Rattle.runs.proofs.OpenLaws.{open-follows}
 use Rattle.runs.proofs.MessageLaws as Message
 use Rattle.runs.proofs.WithdrawLaws as Withdraw
 
@@ -49,7 +51,7 @@ sound-rows n t e =
     (wide-rowsOf row-wide n t (sound-fits n t e)) (range-each (rowsOf row-wide n t) (sound-range n t e))
 
 -- rows that are stored where there is room for them
-rows-stored : (n : ℕ) (rs : List (List ℕ)) (t : List ℕ) → Each Row rs → sortedRows rs ≡ true → length rs ≤ room t → tableSound (length rs) (store row-wide n rs t) ≡ true
+rows-stored : (n : ℕ) (rs : List (List ℕ)) (t : List ℕ) → Each Row rs → sortedRows rs ≡ true → length rs ≤ tableRoom t → tableSound (length rs) (store row-wide n rs t) ≡ true
 rows-stored n rs t r s h = sound-stored n rs t (each-so (λ x q. q .0) rs r) h (each-range rs (each-so (λ x q. q .1) rs r)) s
 
 -- ---- message
@@ -65,14 +67,14 @@ module _ (d : List ℕ) (sender : ℕ) (register : List ℕ) (x : Day) (s : Soun
   unfolding tableTaking
   table-after =
       rows-stored (x .counts .rows) _ (x .table)
-      (each-takenAll rowRule Update Row rule-row bodies _ (Message.sent-updates d sender register x) (sound-rows (x .counts .rows) (x .table) (s .1)))
+      (each-takenAll rowRule Update Row rule-row bodies _ (Message.sent-updates d sender register x e) (sound-rows (x .counts .rows) (x .table) (s .1)))
       (sorted-takenAll rowRule bodies _ (sound-sorted (x .counts .rows) (x .table) (s .1)))
       (went .in-table)
 
   book-taken : 0 < length bodies → bookSound (x .counts .used + length bodies * entry-wide) (bookTaking bodies sender (x .book) (x .counts .used)) ≡ true
   unfolding bookTaking
   book-taken some =
-      after-message (x .counts .used) (x .book) (s .0) sender bodies (Message.sent-updates d sender register x)
+      after-message (x .counts .used) (x .book) (s .0) sender bodies (Message.sent-updates d sender register x e)
       (Message.from-sender register d sender (went .rows .0) (went .rows .1) some) (went .in-book) .0
 
   message-sound : Sound (after (Call.message d sender register) x)
@@ -115,12 +117,14 @@ module _ (n sender : ℕ) (x : Day) (s : Sound x) (e : isAccepted (answerOf (Cal
       subst Sound (Withdraw.day-after n sender x e) (
         book-after,
         rows-stored (x .counts .rows) _ (x .table)
-            (each-reworked _ Row worked (named _) _ (sound-rows (x .counts .rows) (x .table) (s .1)))
-            (sorted-reworked _ (named _) _ (sound-sorted (x .counts .rows) (x .table) (s .1)))
+            (each-reworked _ Row worked (keysNamed _) _ (sound-rows (x .counts .rows) (x .table) (s .1)))
+            (sorted-reworked _ (keysNamed _) _ (sound-sorted (x .counts .rows) (x .table) (s .1)))
             (left (x .book) (x .table) n sender (x .counts) e .in-table),
       )
 
 pub accepted-sound : (call : Call) (x : Day) → Sound x → isAccepted (answerOf call x) ≡ true → Sound (after call x)
+accepted-sound (Call.reopen planning calendar) x s e =
+    let f = open-follows planning calendar (x .book) (x .table) (x .counts) e in (f .book-sound, f .table-sound)
 accepted-sound (Call.message d sender register) x s e = message-sound d sender register x s e
 accepted-sound (Call.withdraw n sender) x s e = withdraw-sound n sender x s e
 accepted-sound Call.look x s e = s

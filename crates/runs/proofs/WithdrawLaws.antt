@@ -10,9 +10,10 @@ use Rattle.lists.specs.Rows.{flat}
 use Rattle.book.specs.Entries.{plan-wide, planEntry, planCount, updatesIn}
 use Rattle.book.specs.Rules.{withdrawn}
 use Rattle.calls.specs.Answers.{isAccepted}
-use Rattle.calls.specs.Withdraw.{rowsWithout, withdrawAnswer, bookWithout, tableWithout, withdrawOutcome, withdrawBook, withdrawTable}
+use Rattle.calls.specs.Withdraw.{rowsWithout, withdrawAnswer, bookWithout, tableWithout, withoutBy, withdrawLeaves}
 use Rattle.calls.proofs.AcceptedLaws.{left}
-use Rattle.runs.specs.Runs.{Day, Call, after, Taken, struck, noted, logEntries, logStanding}
+use Rattle.calls.specs.Leaves.{Day}
+use Rattle.runs.specs.Runs.{Call, after, Taken, struck, noted, logEntries, logStanding}
 use Rattle.runs.proofs.LogLaws.{NotedFrom, log-struck, log-withdrawn, length-withdrawn, standing-updates}
 use Rattle.runs.proofs.RowsLaws.{replay, rows-struck}
 use Rattle.book.proofs.MarkLaws.{book-less}
@@ -35,7 +36,7 @@ module _ (n sender : ℕ) (x : Day) (e : isAccepted (withdrawAnswer n sender (x 
       }
 
   pub day-after : leaves ≡ after call x
-  unfolding withdrawBook withdrawTable withdrawOutcome
+  unfolding withdrawLeaves withoutBy
   day-after = rw e
 
   log-after : (log : List Taken) → map (struck n) log ≡ noted call (withdrawAnswer n sender (x .book) (x .table) (x .counts)) log

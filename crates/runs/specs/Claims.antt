@@ -1,9 +1,9 @@
 -- The theorem on runs: what is certain after any run of calls on a day that was opened. Assumes nothing.
-use Prim.Native.Nat.{ℕ, suc, _+_, _*_}
+use Prim.Native.Nat.{ℕ, suc, _+_, _*_, _<_}
 use mathlib.Core.Path.{_≡_}
 use mathlib.Core.Bool.{true, false}
 use mathlib.Core.List.{List, [], _∷_, _++_, map}
-use lib.ListN.{length}
+use lib.ListN.{length, getD}
 use Rattle.lists.specs.Part.{over}
 use Rattle.lists.specs.Rows.{rowsOf, flat}
 use Rattle.passage.specs.Layout.{row-wide}
@@ -14,15 +14,18 @@ use Rattle.book.specs.Entries.{plan-wide, entry-wide, planEntry, updatesIn}
 use Rattle.book.specs.Rules.{bookSound, nextNumber, planRows}
 use Rattle.calls.specs.declared.Counts.{Counts}
 use Rattle.calls.specs.Answers.{isAccepted}
-use Rattle.calls.specs.Open.{openAnswer, planOf}
-use Rattle.runs.specs.Runs.{Day, Call, answerOf, after, opened, Taken, noted, dayAfter, logAfter, logEntries, logStanding}
+use Rattle.calls.specs.Open.{openAnswer}
+use Rattle.calls.specs.Leaves.{Day}
+use Rattle.runs.specs.Runs.{Call, answerOf, after, opened, Taken, noted, begunBy, dayAfter, logAfter, begunAfter, unnumbered, logEntries, logStanding}
 
--- P holds of the plan, the book that open was lent, the day and the log after any run on a day that was opened
+-- P holds of the plan, the book that its open was lent, the day and the log after any run on a day that was opened; opens in the run too, refused
+-- or accepted
 abbrev pub AfterRuns : (List (List ℕ) → List ℕ → Day → List Taken → Type 0) → Type 0
 AfterRuns P =
     (planning calendar book table : List ℕ) (c : Counts) (calls : List Call)
     → isAccepted (openAnswer planning calendar book table) ≡ true
-    → P (planOf planning calendar) book (dayAfter calls (opened planning calendar book table c)) (logAfter calls (opened planning calendar book table c) [])
+    → let begun = begunAfter calls (opened planning calendar book table c) (begunBy planning calendar book) in
+    P (begun .plan) (begun .lent) (dayAfter calls (opened planning calendar book table c)) (logAfter calls (opened planning calendar book table c) [])
 
 -- (a) the book is the plan and the log, entry by entry, byte for byte, and behind them the bytes that it was lent with
 abbrev pub BookIsPlanAndLog : Type 0
@@ -58,15 +61,36 @@ AsIfNever =
     (plan : List (List ℕ)) (earlier later : List Taken) (m : Taken) → m .stands ≡ false
     → takenAll rowRule (logStanding (earlier ++ m ∷ later)) (planRows plan) ≡ takenAll rowRule (logStanding (earlier ++ later)) (planRows plan)
 
--- so two runs, of whatever calls, whose logs have the same standing rows, leave the same rows
-abbrev pub SameStandingSameRows : Type 0
-SameStandingSameRows =
-    (planning calendar book table book′ table′ : List ℕ) (c c′ : Counts) (calls calls′ : List Call)
+-- P holds of the plan, the day and the log of any two runs, of whatever calls, each on a day that was opened
+abbrev pub OfTwoRuns : (List (List ℕ) → Day → List Taken → List (List ℕ) → Day → List Taken → Type 0) → Type 0
+OfTwoRuns P =
+    (planning calendar book table planning′ calendar′ book′ table′ : List ℕ) (c c′ : Counts) (calls calls′ : List Call)
     → isAccepted (openAnswer planning calendar book table) ≡ true
-    → isAccepted (openAnswer planning calendar book′ table′) ≡ true
-    → logStanding (logAfter calls (opened planning calendar book table c) []) ≡ logStanding (logAfter calls′ (opened planning calendar book′ table′ c′) [])
-    → rowsOf row-wide (dayAfter calls (opened planning calendar book table c) .counts .rows) (dayAfter calls (opened planning calendar book table c) .table)
-    ≡ rowsOf row-wide (dayAfter calls′ (opened planning calendar book′ table′ c′) .counts .rows) (dayAfter calls′ (opened planning calendar book′ table′ c′) .table)
+    → isAccepted (openAnswer planning′ calendar′ book′ table′) ≡ true
+    → let x = opened planning calendar book table c in
+    let x′ = opened planning′ calendar′ book′ table′ c′ in
+    P (begunAfter calls x (begunBy planning calendar book) .plan) (dayAfter calls x) (logAfter calls x [])
+    (begunAfter calls′ x′ (begunBy planning′ calendar′ book′) .plan) (dayAfter calls′ x′) (logAfter calls′ x′ [])
+
+-- the rows of a day's table
+abbrev pub rowsIn : Day → List (List ℕ)
+rowsIn x = rowsOf row-wide (x .counts .rows) (x .table)
+
+-- two runs with one plan whose logs have the same standing rows leave the same rows
+abbrev pub SameStandingSameRows : Type 0
+SameStandingSameRows = OfTwoRuns (λ plan x log plan′ x′ log′. plan ≡ plan′ → logStanding log ≡ logStanding log′ → rowsIn x ≡ rowsIn x′)
+
+-- so a run with a withdrawn message leaves the rows of one in which it was not accepted and every other message was noted, and stands, as here
+abbrev pub AsIfNeverInRuns : Type 0
+AsIfNeverInRuns =
+    OfTwoRuns
+    (λ plan x log plan′ x′ log′.
+    (earlier later : List Taken) (m : Taken) → plan ≡ plan′ → log ≡ earlier ++ m ∷ later → m .stands ≡ false
+    → map unnumbered log′ ≡ map unnumbered (earlier ++ later) → rowsIn x ≡ rowsIn x′)
+
+-- message k of a log has number k, from 1
+abbrev pub NumberedInOrder : Type 0
+NumberedInOrder = AfterRuns (λ plan book x log. (k : ℕ) (none : Taken) → k < length log → getD log k none .number ≡ suc k)
 
 -- its number does not come back: the next number counts every message accepted with rows, withdrawn or not; nor does its room, by (a)
 abbrev pub NumbersNeverReturn : Type 0
@@ -80,4 +104,4 @@ RefusedChangesNothing =
 
 -- all of these
 abbrev pub All : Type 0
-All = BookIsPlanAndLog × StaysSound × CallsKeepSound × TableIsReplay × AsIfNever × SameStandingSameRows × NumbersNeverReturn × RefusedChangesNothing
+All = BookIsPlanAndLog × StaysSound × CallsKeepSound × TableIsReplay × AsIfNever × SameStandingSameRows × AsIfNeverInRuns × NumberedInOrder × NumbersNeverReturn × RefusedChangesNothing

@@ -5,56 +5,44 @@ use mathlib.Core.List.{List, [], _∷_, _++_, map}
 use lib.Dec.{eqb}
 use Rattle.lists.specs.Logic.{on}
 use Rattle.book.specs.Entries.{entriesOf}
-use Rattle.book.specs.Rules.{marked}
+use Rattle.book.specs.Rules.{markedWithdrawn}
 use Rattle.calls.specs.declared.Answer.{Answer}
 use Rattle.calls.specs.declared.Answer.the-variants.{Accepted}
 use Rattle.calls.specs.declared.Counts.{Counts}
 use Rattle.calls.specs.Answers.{numbers, isAccepted}
-use Rattle.calls.specs.Message.{messageBodies, messageAnswer, messageOutcome, messageBook, messageTable}
-use Rattle.calls.specs.Withdraw.{withdrawAnswer, withdrawOutcome, withdrawBook, withdrawTable}
-use Rattle.calls.specs.Open.{openOutcome, openBook, openTable}
+use Rattle.calls.specs.Leaves.{Day, dayOf, Leaves}
+use Rattle.calls.specs.Message.{messageRows, messageAnswer, messageLeaves}
+use Rattle.calls.specs.Withdraw.{withdrawAnswer, withdrawLeaves}
+use Rattle.calls.specs.Open.{planOf, openAnswer, openLeaves}
 
--- the lent book and table with the counts
-pub record Day : Type 0 where
-  pub book : List ℕ
-  pub table : List ℕ
-  pub counts : Counts
-
--- a message (dossier, sender, register), a withdrawal (message number, sender), or a call that is lent the table to read alone, as a board is
+-- an open (planning, calendar), a message (dossier, sender, register), a withdrawal (message number, sender), or a call that is lent the table to
+-- read alone, as a board is
 pub data Call : Type 0 where
+  reopen : List ℕ → List ℕ → Call
   message : List ℕ → ℕ → List ℕ → Call
   withdraw : ℕ → ℕ → Call
   look : Call
 
 abbrev pub answerOf : Call → Day → Answer
-answerOf (message d sender register) x = messageAnswer d sender register (x .book) (x .table) (x .counts)
+answerOf (reopen planning calendar) x = openAnswer planning calendar (x .book) (x .table)
+answerOf (message dossier sender register) x = messageAnswer dossier sender register (x .book) (x .table) (x .counts)
 answerOf (withdraw n sender) x = withdrawAnswer n sender (x .book) (x .table) (x .counts)
 answerOf look x = Accepted 0
 
--- the day after a call, by the promises of the calls; the next call is given the counts that this one returned
-abbrev pub after : Call → Day → Day
-after (message d sender register) x =
-    record {
-      book = messageBook d sender register (x .book) (x .table) (x .counts);
-      table = messageTable d sender register (x .book) (x .table) (x .counts);
-      counts = messageOutcome d sender register (x .book) (x .table) (x .counts) .counts;
-    }
-after (withdraw n sender) x =
-    record {
-      book = withdrawBook n sender (x .book) (x .table) (x .counts);
-      table = withdrawTable n sender (x .book) (x .table) (x .counts);
-      counts = withdrawOutcome n sender (x .book) (x .table) (x .counts) .counts;
-    }
-after look x = x
+-- the day that a call leaves to the next one
+abbrev pub dayLeft : Leaves → Day
+dayLeft left = dayOf (left .book) (left .table) (left .outcome .counts)
 
 -- the day that open leaves
 abbrev pub opened : List ℕ → List ℕ → List ℕ → List ℕ → Counts → Day
-opened planning calendar book table c =
-    record {
-      book = openBook planning calendar book table;
-      table = openTable planning calendar book table;
-      counts = openOutcome planning calendar book table c .counts;
-    }
+opened planning calendar book table c = dayLeft (openLeaves planning calendar book table c)
+
+-- the day after a call, by the promises of the calls; the next call is given the counts that this one returned
+abbrev pub after : Call → Day → Day
+after (reopen planning calendar) x = opened planning calendar (x .book) (x .table) (x .counts)
+after (message dossier sender register) x = dayLeft (messageLeaves dossier sender register (x .book) (x .table) (x .counts))
+after (withdraw n sender) x = dayLeft (withdrawLeaves n sender (x .book) (x .table) (x .counts))
+after look x = x
 
 -- ---- the log
 
@@ -72,20 +60,38 @@ undone m = record { number = m .number; sender = m .sender; bodies = m .bodies; 
 abbrev pub struck : ℕ → Taken → Taken
 struck n m = on (eqb (m .number) n) (undone m) m
 
--- what is noted of a call and its answer: a message that got a number, a withdrawal that was accepted
+-- what is noted of a call and its answer: a message that got a number, a withdrawal that was accepted; an open that was accepted begins a new log
 abbrev pub notedIf : Bool → Call → ℕ → List Taken → List Taken
 notedIf false call n log = log
-notedIf true (message d sender register) n log =
-    on (eqb n 0) log (log ++ record { number = n; sender = sender; bodies = messageBodies register sender d; stands = true } ∷ [])
+notedIf true (reopen planning calendar) n log = []
+notedIf true (message dossier sender register) n log =
+    on (eqb n 0) log (log ++ record { number = n; sender = sender; bodies = messageRows dossier; stands = true } ∷ [])
 notedIf true (withdraw m sender) n log = map (struck m) log
 notedIf true look n log = log
 
 -- the number that an acceptance gives
-abbrev pub given : Answer → ℕ
-given a = numbers a .1
+abbrev pub numberGiven : Answer → ℕ
+numberGiven a = numbers a .1
 
 abbrev pub noted : Call → Answer → List Taken → List Taken
-noted call a log = notedIf (isAccepted a) call (given a) log
+noted call a log = notedIf (isAccepted a) call (numberGiven a) log
+
+-- ---- what a day began with
+
+-- the plan of the last open that was accepted, and the book that it was lent
+pub record Begun : Type 0 where
+  pub plan : List (List ℕ)
+  pub lent : List ℕ
+
+abbrev pub begunBy : List ℕ → List ℕ → List ℕ → Begun
+begunBy planning calendar book = record { plan = planOf planning calendar; lent = book }
+
+abbrev pub begunIf : Bool → Call → Day → Begun → Begun
+begunIf false call x begun = begun
+begunIf true (reopen planning calendar) x begun = begunBy planning calendar (x .book)
+begunIf true (message dossier sender register) x begun = begun
+begunIf true (withdraw n sender) x begun = begun
+begunIf true look x begun = begun
 
 -- ---- runs
 
@@ -97,11 +103,19 @@ unfoldable pub logAfter : List Call → Day → List Taken → List Taken
 logAfter [] x log = log
 logAfter (call ∷ calls) x log = logAfter calls (after call x) (noted call (answerOf call x) log)
 
+unfoldable pub begunAfter : List Call → Day → Begun → Begun
+begunAfter [] x begun = begun
+begunAfter (call ∷ calls) x begun = begunAfter calls (after call x) (begunIf (isAccepted (answerOf call x)) call x begun)
+
 -- ---- what a log says
+
+-- a message but for its number
+abbrev pub unnumbered : Taken → Taken
+unnumbered m = record { number = 0; sender = m .sender; bodies = m .bodies; stands = m .stands }
 
 -- its entries, as the book has them: kind 2 where the message stands, else 3
 abbrev pub takenEntries : Taken → List (List ℕ)
-takenEntries m = on (m .stands) (entriesOf (m .number) (m .sender) (m .bodies)) (map marked (entriesOf (m .number) (m .sender) (m .bodies)))
+takenEntries m = on (m .stands) (entriesOf (m .number) (m .sender) (m .bodies)) (map markedWithdrawn (entriesOf (m .number) (m .sender) (m .bodies)))
 
 unfoldable pub logEntries : List Taken → List (List ℕ)
 logEntries [] = []

@@ -1,13 +1,13 @@
 -- The answers of a withdrawal, one way out after another, and that a refusal gives back everything. Assumes nothing.
-use mathlib.Core.Path.{_≡_, sym, _∙_}
-use mathlib.Core.Bool.{Bool, true, false}
+use mathlib.Core.Path.{_≡_, _∙_}
+use mathlib.Core.Bool.{Bool, true, false, _||_}
 use mathlib.Core.List.{List, [], _∷_}
 use Prim.Native.Nat.{ℕ, zero, suc, _+_, _-_, _<_}
 use native.Mathlib.Nat.{not-suc-le-zero}
 use native.Mathlib.Omega.{arith}
 use lib.Dec.{eqb}
-use lib.ListN.{length, drop, getD}
-use Rattle.lists.specs.Logic.{on, either}
+use lib.ListN.{drop, getD}
+use Rattle.lists.specs.Logic.{on}
 use Rattle.lists.specs.Part.{part}
 use Rattle.lists.specs.Rows.{rowsOf}
 use Rattle.table.specs.Rules.{tableSound}
@@ -19,8 +19,10 @@ use Rattle.calls.specs.declared.Answer.the-variants.{Unsound, NoMessage, Alread
 use Rattle.calls.specs.declared.Counts.{Counts}
 use Rattle.calls.specs.declared.Outcome.{Outcome}
 use Rattle.calls.specs.Answers.{isAccepted}
-use Rattle.calls.specs.Withdraw.{withdrawSound, rowsWithout, bookWithout, tableWithout, withdrawAnswer, withdrawOutcome, withdrawBook, withdrawTable}
-use Rattle.withdrawals.specs.Steps.{Stands, roomAnswer, roomOutcome, roomBook, roomTable}
+use Rattle.calls.specs.Leaves.{outcomeOf, leaves}
+use Rattle.calls.specs.Withdraw.{withdrawSound, roomWithout, withdrawAnswer, withoutBy, withdrawLeaves}
+use Rattle.calls.proofs.LeavesLaws.{leaves-refused}
+use Rattle.withdrawals.specs.inner.Steps.{MessageAt, roomLeaves}
 
 -- ---- soundness, by its two tests
 
@@ -33,28 +35,15 @@ module _ (book table : List ℕ) (c : Counts) where
   unfolding withdrawSound
   unsound-book e = rw e
 
--- ---- a choice by an answer
-
-given-back : {A : Type 0} (a b : Answer) (x y : A) → a ≡ b → isAccepted b ≡ false → on (isAccepted a) x y ≡ y
-given-back a b x y e denied = rw (e, denied)
+-- ---- what is left
 
 module _ (n sender : ℕ) (book table : List ℕ) (c : Counts) where
   abbrev All : Outcome → List ℕ → List ℕ → Type 0
-  All r b t = (r ≡ withdrawOutcome n sender book table c) × ((b ≡ withdrawBook n sender book table c) × (t ≡ withdrawTable n sender book table c))
+  All r b t = leaves r b t ≡ withdrawLeaves n sender book table c
 
-  pub refused-all : (a : Answer) (r : Outcome) → withdrawAnswer n sender book table c ≡ a → isAccepted a ≡ false → (r .answer ≡ a) × (r .counts ≡ c) → All r book table
-  unfolding withdrawOutcome withdrawBook withdrawTable
-  refused-all a r e denied told = (
-    λ i.
-        record {
-          answer = (told .0 ∙ sym e) i;
-          counts = (told .1 ∙ sym (given-back (withdrawAnswer n sender book table c) a (record { used = c .used; rows = length (rowsWithout n book (c .used) table (c .rows)) }) c e denied)) i;
-        },
-    (
-      sym (given-back (withdrawAnswer n sender book table c) a (bookWithout n book (c .used)) book e denied),
-      sym (given-back (withdrawAnswer n sender book table c) a (tableWithout n book (c .used) table (c .rows)) table e denied),
-    ),
-  )
+  pub refused-all : (a : Answer) (r : Outcome) → withdrawAnswer n sender book table c ≡ a → isAccepted a ≡ false → r ≡ outcomeOf a c → All r book table
+  unfolding withdrawLeaves withoutBy
+  refused-all a r e denied told = leaves-refused (withdrawAnswer n sender book table c) a _ book table c e denied r told
 
   -- ---- which answer
 
@@ -67,27 +56,26 @@ module _ (n sender : ℕ) (book table : List ℕ) (c : Counts) where
     unfolding withdrawAnswer
     not-there e = rw (sound, e)
 
-    module _ (at m : ℕ) (st : Stands n (c .used) book at m) where
+    module _ (at m : ℕ) (st : MessageAt n (c .used) book at m) where
       first-row : (w k : ℕ) (t : List ℕ) → 0 < k → rowsOf w k t ≡ part 0 w t ∷ rowsOf w (k - 1) (drop w t)
       unfolding rowsOf part
       first-row w zero t h = absurd (not-suc-le-zero h)
       first-row w (suc k) t h = let e : suc k - 1 ≡ k = omega arith in rw e
 
       as-read : withdrawAnswer n sender book table c
-          ≡ on (either (eqb sender 0) (eqb sender (getD book (at + sender-at) 0))) (on (eqb (getD book at 0) 3) AlreadyWithdrawn (roomAnswer n book table c)) OtherSender
-      unfolding withdrawAnswer roomAnswer part
+          ≡ on (eqb sender 0 || eqb sender (getD book (at + sender-at) 0)) (on (eqb (getD book at 0) 3) AlreadyWithdrawn (roomWithout n book table c)) OtherSender
+      unfolding withdrawAnswer part
       as-read = rw (sound, st .entries, first-row entry-wide m (drop at book) (st .some), kind-at at book, sender-from at book)
 
-      pub other-sender : either (eqb sender 0) (eqb sender (getD book (at + sender-at) 0)) ≡ false → withdrawAnswer n sender book table c ≡ OtherSender
+      pub other-sender : (eqb sender 0 || eqb sender (getD book (at + sender-at) 0)) ≡ false → withdrawAnswer n sender book table c ≡ OtherSender
       other-sender e = as-read ∙ rw e
 
-      module _ (e : either (eqb sender 0) (eqb sender (getD book (at + sender-at) 0)) ≡ true) where
+      module _ (e : (eqb sender 0 || eqb sender (getD book (at + sender-at) 0)) ≡ true) where
         pub already : eqb (getD book at 0) 3 ≡ true → withdrawAnswer n sender book table c ≡ AlreadyWithdrawn
         already k = as-read ∙ rw (e, k)
 
-        pub goes-on : eqb (getD book at 0) 3 ≡ false → (r : Outcome) (b t : List ℕ)
-            → (r ≡ roomOutcome n book table c) × ((b ≡ roomBook n book table c) × (t ≡ roomTable n book table c)) → All r b t
-        unfolding withdrawOutcome withdrawBook withdrawTable roomOutcome roomBook roomTable
+        pub goes-on : eqb (getD book at 0) 3 ≡ false → (r : Outcome) (b t : List ℕ) → leaves r b t ≡ roomLeaves n book table c → All r b t
+        unfolding withdrawLeaves
         goes-on k r b t told =
-            let a : withdrawAnswer n sender book table c ≡ roomAnswer n book table c = as-read ∙ rw (e, k) in
+            let a : withdrawAnswer n sender book table c ≡ roomWithout n book table c = as-read ∙ rw (e, k) in
             rw a told

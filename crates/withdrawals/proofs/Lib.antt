@@ -1,9 +1,8 @@
 pub mod StandsLaws
 pub mod AnswerLaws
-pub mod Determined
 pub mod RowsLaws
 pub mod NamesLaws
 pub mod WorkLaws
 pub mod ReworkLaws
 pub mod RoomLaws
-pub mod ReworksDetermined
+pub mod Determined

@@ -19,7 +19,7 @@ use Rattle.keys.specs.Sorted.{sortedRows, get}
 use Rattle.keys.proofs.ReplayLaws.{RowOf, among, replayed-key}
 use Rattle.update.specs.Rule.{rowRule}
 use Rattle.update.proofs.RuleLaws.{rule-key}
-use Rattle.table.specs.Rules.{rows, room, tableSound}
+use Rattle.table.specs.Rules.{rows, tableRoom, tableSound}
 use Rattle.table.proofs.SoundLaws.{sound-fits, sound-sorted, room-fits}
 use Rattle.table.proofs.RunLaws.{wide-filled}
 use Rattle.sorting.specs.Rules.{keyAt, sortedPlaces}
@@ -30,9 +30,9 @@ use Rattle.book.specs.Rules.{bookSound, messageEntries, withdrawn, standing, pl
 use Rattle.book.proofs.PlanLaws.{wide-bodies}
 use Rattle.book.proofs.SoundLaws.{sound-facts, used-within, plans-within}
 use Rattle.book.proofs.SplitLaws.{wide-updates}
-use Rattle.calls.specs.Withdraw.{named, rowsWithout, tableWithout}
-use Rattle.withdrawals_replay.specs.Slots.{slotsOf, settled, weights}
-use Rattle.withdrawals.specs.Steps.{Stands, namesIn, workedOut}
+use Rattle.calls.specs.Withdraw.{keysNamed, rowsWithout, tableWithout}
+use Rattle.withdrawals_replay.specs.inner.Slots.{slotsOf, settled, weights}
+use Rattle.withdrawals.specs.inner.Steps.{MessageAt, namesIn, workedOut}
 use Rattle.withdrawals_replay.proofs.SlotLaws.{planned-key, wide-standing, wide-withdrawn, worked-key, worked-row, worked-wide}
 use Rattle.withdrawals_replay.proofs.BeginLaws.{Key, names-wide}
 use Rattle.withdrawals.proofs.NamesLaws.{names-among, lent-rows}
@@ -44,7 +44,7 @@ use Rattle.withdrawals.proofs.RowsLaws.{SlotsFor, slots-taken, slots-we
 pub record Worked (n used : ℕ) (b : List ℕ) (at m r : ℕ) (t : List ℕ) (c : ℕ) (s : List ℕ) : Type 0 where
   pub sound : bookSound used b ≡ true
   pub tables : tableSound r t ≡ true
-  pub stands : Stands n used b at m
+  pub stands : MessageAt n used b at m
   pub counted : c ≡ length (namesIn at m b)
   pub slots : slotsOf c s ≡ map (workedOut n used b) (namesIn at m b)
 
@@ -107,13 +107,13 @@ module _ {n used : ℕ} {b : List ℕ} {at m r : ℕ} {t : List ℕ} {c : ℕ} {
       omega arith
 
   -- the names are those of the message's entries
-  same-names : (k : List ℕ) → among k names ≡ among k (named (messageEntries n us))
+  same-names : (k : List ℕ) → among k names ≡ among k (keysNamed (messageEntries n us))
   unfolding namesIn part
   same-names k =
       let u = used-fits in
       let w = x .stands .within in
       let l : m * entry-wide ≤ length (drop at b) = simp length-drop (omega arith) in
-      names-among k entries m ∙ ap (λ (es : List (List ℕ)). among k (named es)) (lent-rows entry-wide m (drop at b) l ∙ sym (x .stands .entries))
+      names-among k entries m ∙ ap (λ (es : List (List ℕ)). among k (keysNamed es)) (lent-rows entry-wide m (drop at b) l ∙ sym (x .stands .entries))
 
   slots-for : (ks : List (List ℕ)) → Each Key ks → SlotsFor f ks (map (workedOut n used b) ks)
   unfolding workedOut
@@ -135,27 +135,27 @@ module _ {n used : ℕ} {b : List ℕ} {at m r : ℕ} {t : List ℕ} {c : ℕ} {
   pub rows-are : settled (slotsOf c s) rs ≡ without
   unfolding rowsWithout
   rows-are = rw (x .slots)
-      (slots-taken f own names (map (workedOut n used b) names) (named (messageEntries n us)) rs (slots-for names keys) (sound-sorted r t (x .tables)) (wide-filled rs wide) same-names)
+      (slots-taken f own names (map (workedOut n used b) names) (keysNamed (messageEntries n us)) rs (slots-for names keys) (sound-sorted r t (x .tables)) (wide-filled rs wide) same-names)
 
   weighs : r + weights rs (slotsOf c s) ≡ length without + c
   unfolding rowsWithout
   weighs =
       let l : length rs ≡ r = length-rowsOf row-wide r t in
       let k : length (map (workedOut n used b) names) ≡ c = length-map names (workedOut n used b) ∙ sym (x .counted) in
-      let w = slots-weigh f own names (map (workedOut n used b) names) (named (messageEntries n us)) rs (slots-for names keys) rise (sound-sorted r t (x .tables)) (wide-filled rs wide) same-names in
+      let w = slots-weigh f own names (map (workedOut n used b) names) (keysNamed (messageEntries n us)) rs (slots-for names keys) rise (sound-sorted r t (x .tables)) (wide-filled rs wide) same-names in
       rw (x .slots) (rw (l, k) at w)
 
   -- the test that the code makes
   abbrev fitting : Bool
-  fitting = leb (r + weights rs (slotsOf c s)) (room t + c)
+  fitting = leb (r + weights rs (slotsOf c s)) (tableRoom t + c)
 
-  pub room-short : fitting ≡ false → room t < length without
-  room-short e = let w = weighs in let h = leb-false (r + weights rs (slotsOf c s)) (room t + c) e in omega arith
+  pub room-short : fitting ≡ false → tableRoom t < length without
+  room-short e = let w = weighs in let h = leb-false (r + weights rs (slotsOf c s)) (tableRoom t + c) e in omega arith
 
-  pub room-there : fitting ≡ true → length without ≤ room t
-  room-there e = let w = weighs in let h = leb-true (r + weights rs (slotsOf c s)) (room t + c) e in omega arith
+  pub room-there : fitting ≡ true → length without ≤ tableRoom t
+  room-there e = let w = weighs in let h = leb-true (r + weights rs (slotsOf c s)) (tableRoom t + c) e in omega arith
 
-  pub rows-fit : length without ≤ room t → length (settled (slotsOf c s) rs) * row-wide ≤ length t
+  pub rows-fit : length without ≤ tableRoom t → length (settled (slotsOf c s) rs) * row-wide ≤ length t
   rows-fit h = rw rows-are (le-trans (mul-le-mul-right row-wide h) (room-fits t))
 
   pub rows-stored : (u : List ℕ) → u ≡ store row-wide r (settled (slotsOf c s) rs) t → u ≡ tableWithout n b used t r

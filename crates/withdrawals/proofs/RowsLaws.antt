@@ -1,12 +1,13 @@
 -- Slots taken into sorted rows: removals, then puts, are the rows worked out again; and how many there are then. Assumes nothing.
 use mathlib.Core.Path.{_≡_, refl, sym, ap, _∙_}
-use mathlib.Core.Bool.{Bool, true, false}
+use mathlib.Core.Bool.{Bool, true, false, _||_}
 use mathlib.Core.Logic.{_⊎_, inl, inr}
 use mathlib.Core.List.{List, [], _∷_, _++_}
 use Prim.Native.Nat.{ℕ, _+_, _<_}
 use native.Mathlib.Omega.{arith}
 use lib.ListN.{length}
-use Rattle.lists.specs.Logic.{on, either}
+use Rattle.lists.proofs.LogicLaws.{or-assoc}
+use Rattle.lists.specs.Logic.{on}
 use Rattle.lists.specs.Each.{Each}
 use Rattle.lists.specs.Text.{same}
 use Rattle.lists.specs.Part.{part}
@@ -15,18 +16,18 @@ use Rattle.passage.specs.Layout.{row-wide, keyOf}
 use Rattle.keys.specs.declared.Order.the-variants.{Less}
 use Rattle.keys.specs.Keys.{cmp}
 use Rattle.keys.specs.Sorted.{sortedRows, risesFrom, get, put, remove}
-use Rattle.keys.specs.Replay.{place, reworked}
+use Rattle.keys.specs.Replay.{becoming, reworked}
 use Rattle.keys.proofs.KeyLaws.{less-not-same, cmp-trans}
 use Rattle.keys.proofs.SortedLaws.{rises-head, rises-tail, sorted-rises, sorted-tail}
 use Rattle.keys.proofs.EqualLaws.{Filled}
 use Rattle.keys.proofs.CountLaws.{length-put-new, length-put-held, remove-missing, length-remove-held}
 use Rattle.keys.proofs.ReplayLaws.{RowOf, among, sorted-place, each-place, get-place-other, reworked-members}
 use Rattle.sorting.proofs.PlaceLaws.{own-part}
-use Rattle.withdrawals_replay.specs.Slots.{slot-wide, hasRow, keyIn, rowIn, removeOne, putOne, removals, puts, weight, weights}
+use Rattle.withdrawals_replay.specs.inner.Slots.{slot-wide, hasRow, slotKey, slotRow, removeOne, putOne, removals, puts, weight, weights}
 
 -- the slot s is of key k, and has the row that f gives it, or none
 abbrev pub SlotFor : (List ℕ → List ℕ) → List ℕ → List ℕ → Type 0
-SlotFor f k s = (keyIn s ≡ k) × (rowIn s ≡ f k) × (length s ≡ slot-wide)
+SlotFor f k s = (slotKey s ≡ k) × (slotRow s ≡ f k) × (length s ≡ slot-wide)
 
 -- the slots ss are those of the keys ks
 abbrev pub SlotsFor : (List ℕ → List ℕ) → List (List ℕ) → List (List ℕ) → Type 0
@@ -56,20 +57,16 @@ rises-skip k j (l ∷ ls) h r = rw (cmp-trans (keyOf k) (keyOf j) (keyOf l) h (r
 
 -- ---- tests
 
-either-assoc : (a b c : Bool) → either a (either b c) ≡ either (either a b) c
-either-assoc true b c = refl
-either-assoc false b c = refl
-
-pub either-swap : (a b c : Bool) → either a (either b c) ≡ either b (either a c)
-either-swap true true c = refl
-either-swap true false c = refl
-either-swap false b c = refl
+pub or-swap : (a b c : Bool) → (a || (b || c)) ≡ (b || (a || c))
+or-swap true true c = refl
+or-swap true false c = refl
+or-swap false b c = refl
 
 -- ---- one slot
 
 -- a slot has a row exactly where its row is not none
-has-row : (s : List ℕ) → length s ≡ slot-wide → (hasRow s ≡ true → rowIn s ≡ part 1 row-wide s) × (none (rowIn s) ≡ on (hasRow s) false true)
-unfolding rowIn
+has-row : (s : List ℕ) → length s ≡ slot-wide → (hasRow s ≡ true → slotRow s ≡ part 1 row-wide s) × (none (slotRow s) ≡ on (hasRow s) false true)
+unfolding slotRow
 has-row s l = go (hasRow s) refl
   where
     some : (r : List ℕ) → length r ≡ row-wide → none r ≡ false
@@ -80,11 +77,11 @@ has-row s l = go (hasRow s) refl
     go true e = (λ f. refl, some (part 1 row-wide s) (length-part 1 row-wide s (omega arith)))
     go false e = (λ f. let z : _≡_ {A = ℕ} 0 1 = cc in absurd (omega arith), refl)
 
-none-place : (k r : List ℕ) (rs : List (List ℕ)) → none r ≡ true → place k r rs ≡ remove k rs
+none-place : (k r : List ℕ) (rs : List (List ℕ)) → none r ≡ true → becoming k r rs ≡ remove k rs
 none-place k [] rs e = refl
 none-place k (b ∷ r) rs e = let z : _≡_ {A = ℕ} 0 1 = cc in absurd (omega arith)
 
-some-place : (k r : List ℕ) (rs : List (List ℕ)) → none r ≡ false → place k r rs ≡ put r rs
+some-place : (k r : List ℕ) (rs : List (List ℕ)) → none r ≡ false → becoming k r rs ≡ put r rs
 some-place k [] rs e = let z : _≡_ {A = ℕ} 0 1 = cc in absurd (omega arith)
 some-place k (b ∷ r) rs e = refl
 
@@ -92,19 +89,19 @@ module _ (f : List ℕ → List ℕ) (k s : List ℕ) (h : SlotFor f k s) (rs : 
   none-is : none (f k) ≡ on (hasRow s) false true
   none-is = ap none (sym (h .1)) ∙ has-row s (h .2) .1
 
-  remove-one : removeOne s rs ≡ on (none (f k)) (place k (f k) rs) rs
+  remove-one : removeOne s rs ≡ on (none (f k)) (becoming k (f k) rs) rs
   remove-one = go (hasRow s) refl
     where
-      go : (t : Bool) → hasRow s ≡ t → on t rs (remove (keyIn s) rs) ≡ on (none (f k)) (place k (f k) rs) rs
+      go : (t : Bool) → hasRow s ≡ t → on t rs (remove (slotKey s) rs) ≡ on (none (f k)) (becoming k (f k) rs) rs
       go true e = rw (none-is, e)
       go false e =
           let n : none (f k) ≡ true = none-is ∙ rw e in
           rw (n, none-place k (f k) rs n) (ap (λ (j : List ℕ). remove j rs) (h .0))
 
-  put-one : putOne s rs ≡ on (none (f k)) rs (place k (f k) rs)
+  put-one : putOne s rs ≡ on (none (f k)) rs (becoming k (f k) rs)
   put-one = go (hasRow s) refl
     where
-      go : (t : Bool) → hasRow s ≡ t → on t (put (part 1 row-wide s) rs) rs ≡ on (none (f k)) rs (place k (f k) rs)
+      go : (t : Bool) → hasRow s ≡ t → on t (put (part 1 row-wide s) rs) rs ≡ on (none (f k)) rs (becoming k (f k) rs)
       go true e =
           let n : none (f k) ≡ false = none-is ∙ rw e in
           rw (n, some-place k (f k) rs n) (ap (λ (r : List ℕ). put r rs) (sym (has-row s (h .2) .0 e) ∙ h .1))
@@ -115,12 +112,12 @@ module _ (f : List ℕ → List ℕ) (k s : List ℕ) (h : SlotFor f k s) (rs : 
 reworked-append : (f : List ℕ → List ℕ) (js ks rs : List (List ℕ)) → reworked f (js ++ ks) rs ≡ reworked f ks (reworked f js rs)
 unfolding reworked
 reworked-append f [] ks rs = refl
-reworked-append f (j ∷ js) ks rs = reworked-append f js ks (place j (f j) rs)
+reworked-append f (j ∷ js) ks rs = reworked-append f js ks (becoming j (f j) rs)
 
-among-append : (x : List ℕ) (js ks : List (List ℕ)) → among x (js ++ ks) ≡ either (among x js) (among x ks)
+among-append : (x : List ℕ) (js ks : List (List ℕ)) → among x (js ++ ks) ≡ (among x js || among x ks)
 unfolding among
 among-append x [] ks = refl
-among-append x (j ∷ js) ks = ap (either (same j x)) (among-append x js ks) ∙ either-assoc (same j x) (among x js) (among x ks)
+among-append x (j ∷ js) ks = ap (_||_ (same j x)) (among-append x js ks) ∙ sym (or-assoc (same j x) (among x js) (among x ks))
 
 module _ (f : List ℕ → List ℕ) where
   removals-are : (ks ss rs : List (List ℕ)) → SlotsFor f ks ss → removals ss rs ≡ reworked f (gone f ks) rs
@@ -131,8 +128,8 @@ module _ (f : List ℕ → List ℕ) where
   removals-are (k ∷ ks) (s ∷ ss) rs h = ap (removals ss) (remove-one f k s (h .0) rs) ∙ go (none (f k)) (λ qs. removals-are ks ss qs (h .1))
     where
       go : (t : Bool) → ((qs : List (List ℕ)) → removals ss qs ≡ reworked f (gone f ks) qs)
-          → removals ss (on t (place k (f k) rs) rs) ≡ reworked f (on t (k ∷ gone f ks) (gone f ks)) rs
-      go true ih = ih (place k (f k) rs)
+          → removals ss (on t (becoming k (f k) rs) rs) ≡ reworked f (on t (k ∷ gone f ks) (gone f ks)) rs
+      go true ih = ih (becoming k (f k) rs)
       go false ih = ih rs
 
   puts-are : (ks ss rs : List (List ℕ)) → SlotsFor f ks ss → puts ss rs ≡ reworked f (held f ks) rs
@@ -143,19 +140,19 @@ module _ (f : List ℕ → List ℕ) where
   puts-are (k ∷ ks) (s ∷ ss) rs h = ap (puts ss) (put-one f k s (h .0) rs) ∙ go (none (f k)) (λ qs. puts-are ks ss qs (h .1))
     where
       go : (t : Bool) → ((qs : List (List ℕ)) → puts ss qs ≡ reworked f (held f ks) qs)
-          → puts ss (on t rs (place k (f k) rs)) ≡ reworked f (on t (held f ks) (k ∷ held f ks)) rs
+          → puts ss (on t rs (becoming k (f k) rs)) ≡ reworked f (on t (held f ks) (k ∷ held f ks)) rs
       go true ih = ih rs
-      go false ih = ih (place k (f k) rs)
+      go false ih = ih (becoming k (f k) rs)
 
-  among-split : (x : List ℕ) (ks : List (List ℕ)) → either (among x (gone f ks)) (among x (held f ks)) ≡ among x ks
+  among-split : (x : List ℕ) (ks : List (List ℕ)) → (among x (gone f ks) || among x (held f ks)) ≡ among x ks
   unfolding among gone held
   among-split x [] = refl
   among-split x (k ∷ ks) = go (none (f k)) (among-split x ks)
     where
-      go : (t : Bool) → either (among x (gone f ks)) (among x (held f ks)) ≡ among x ks
-          → either (among x (on t (k ∷ gone f ks) (gone f ks))) (among x (on t (held f ks) (k ∷ held f ks))) ≡ either (same k x) (among x ks)
-      go true ih = sym (either-assoc (same k x) (among x (gone f ks)) (among x (held f ks))) ∙ ap (either (same k x)) ih
-      go false ih = either-swap (among x (gone f ks)) (same k x) (among x (held f ks)) ∙ ap (either (same k x)) ih
+      go : (t : Bool) → (among x (gone f ks) || among x (held f ks)) ≡ among x ks
+          → (among x (on t (k ∷ gone f ks) (gone f ks)) || among x (on t (held f ks) (k ∷ held f ks))) ≡ (same k x || among x ks)
+      go true ih = or-assoc (same k x) (among x (gone f ks)) (among x (held f ks)) ∙ ap (_||_ (same k x)) ih
+      go false ih = or-swap (among x (gone f ks)) (same k x) (among x (held f ks)) ∙ ap (_||_ (same k x)) ih
 
   module _ (own : (k : List ℕ) → RowOf k (f k)) where
     -- removals first, then puts: the rows of any list of the same keys, worked out again
@@ -169,7 +166,7 @@ module _ (f : List ℕ → List ℕ) where
 
     -- ---- how many rows there are then
 
-    place-weight : (k r : List ℕ) (rs : List (List ℕ)) → Filled rs → RowOf k r → length (place k r rs) + 1 ≡ length rs + weight (get k rs) r
+    place-weight : (k r : List ℕ) (rs : List (List ℕ)) → Filled rs → RowOf k r → length (becoming k r rs) + 1 ≡ length rs + weight (get k rs) r
     place-weight k [] rs full o = go (get k rs) refl
       where
         go : (l : List ℕ) → get k rs ≡ l → length (remove k rs) + 1 ≡ length rs + weight l []
@@ -202,7 +199,7 @@ module _ (f : List ℕ → List ℕ) where
 
     -- a row placed at a lower key changes nothing of the keys above
     agree-above : (k : List ℕ) (ks rs qs : List (List ℕ)) → Each (λ (j : List ℕ). keyOf j ≡ j) (k ∷ ks) → risesFrom k ks ≡ true → sortedRows qs ≡ true → Agree rs qs ks
-        → Agree rs (place k (f k) qs) ks
+        → Agree rs (becoming k (f k) qs) ks
     agree-above k [] rs qs ow h s a = tt
     agree-above k (j ∷ ks) rs qs ow h s a = (
       get-place-other j k (f k) qs s (own k) (λ e. less-not-same (cmp k j) low e) ∙ a .0,
@@ -225,8 +222,8 @@ module _ (f : List ℕ → List ℕ) where
     weights-from [] (x ∷ ss) rs qs h o s full a = absurd h
     weights-from (k ∷ ks) [] rs qs h o s full a = absurd h
     weights-from (k ∷ ks) (x ∷ ss) rs qs h o s full a =
-        let ps = place k (f k) qs in
-        let w : weight (get (keyIn x) rs) (rowIn x) ≡ weight (get k qs) (f k) = rw (h .0 .0, h .0 .1, a .0) in
+        let ps = becoming k (f k) qs in
+        let w : weight (get (slotKey x) rs) (slotRow x) ≡ weight (get k qs) (f k) = rw (h .0 .0, h .0 .1, a .0) in
         let one = place-weight k (f k) qs full (own k) in
         let more = weights-from ks ss rs ps (h .1) (sorted-tail k ks (sorted-rises k ks o)) (sorted-place k (f k) qs s) (each-place Full k (f k) qs (full-from k) full)
         (agree-above k ks rs qs (slots-own (k ∷ ks) (x ∷ ss) h) (sorted-rises k ks o) s (a .1)) in

@@ -19,9 +19,9 @@ use Rattle.book.specs.Rules.{bookSound}
 use Rattle.book.proofs.PlanLaws.{bodies}
 use Rattle.book.proofs.SoundLaws.{sound-facts, used-within, count-within, updates-are}
 use Rattle.book.proofs.WriteLaws.{lent-part}
-use Rattle.withdrawals_replay.specs.Slots.{slot-wide, slotsOf, keyIn}
-use Rattle.withdrawals_replay.specs.Worked.{begunSlot, heardIn, namesAt}
-use Rattle.withdrawals.specs.Steps.{namesIn, workedOut}
+use Rattle.withdrawals_replay.specs.inner.Slots.{slot-wide, slotsOf, slotKey}
+use Rattle.withdrawals_replay.specs.inner.Worked.{begunSlot, heardIn, namesAt}
+use Rattle.withdrawals.specs.inner.Steps.{namesIn, workedOut}
 use Rattle.withdrawals_replay.proofs.BeginLaws.{names-wide, begun-keys, begun-read}
 
 -- the m entries from `at` on, as the code lends them, and the places that they are sorted by
@@ -115,8 +115,8 @@ module _ {used at m : ℕ} {b : List ℕ} {c : ℕ} {order : List ℕ} (w : Sort
       slots-read : slotsOf c s ≡ map (begunSlot (bodies n b)) names
       slots-read = begun-read n b (lent at m b) m order c plans-fit lent-there (w .long) order-below d s wide begun
 
-      pub keys-are : map keyIn (slotsOf c s) ≡ names
-      keys-are = ap (map keyIn) slots-read ∙ begun-keys n b plans-fit names (names-wide (lent at m b) m (take c order) lent-there order-below)
+      pub keys-are : map slotKey (slotsOf c s) ≡ names
+      keys-are = ap (map slotKey) slots-read ∙ begun-keys n b plans-fit names (names-wide (lent at m b) m (take c order) lent-there order-below)
 
       pub worked : (number : ℕ) (t : List ℕ) → slotsOf c t ≡ map (heardIn number (rowsOf entry-wide k (drop (n * plan-wide) b))) (slotsOf c s)
           → slotsOf c t ≡ map (workedOut number used b) (namesIn at m b)

@@ -18,8 +18,8 @@ use Rattle.book.proofs.PlanLaws.{bodies, wide-bodies}
 use Rattle.sorting.specs.Rules.{keyAt, keysOf}
 use Rattle.sorting.proofs.PlaceLaws.{length-keysOf, keysOf-at}
 use Rattle.sorting.proofs.SearchLaws.{key-fits, place-below}
-use Rattle.withdrawals_replay.specs.Slots.{slot-wide, slotsOf, keyIn}
-use Rattle.withdrawals_replay.specs.Worked.{begunSlot, namesAt}
+use Rattle.withdrawals_replay.specs.inner.Slots.{slot-wide, slotsOf, slotKey}
+use Rattle.withdrawals_replay.specs.inner.Worked.{begunSlot, namesAt}
 use Rattle.withdrawals_replay.proofs.SlotLaws.{begun-key, begun-wide}
 use Rattle.withdrawals_replay.proofs.SlotWriteLaws.{rows-start, rows-turn, rows-end}
 
@@ -42,7 +42,7 @@ module _ (n : ℕ) (b : List ℕ) (hb : n * plan-wide ≤ length b) where
   begun-wides [] h = tt
   begun-wides (k ∷ ks) h = (begun-wide (bodies n b) (wide-bodies n b hb) k (h .0), begun-wides ks (h .1))
 
-  pub begun-keys : (ks : List (List ℕ)) → Each Key ks → map keyIn (map (begunSlot (bodies n b)) ks) ≡ ks
+  pub begun-keys : (ks : List (List ℕ)) → Each Key ks → map slotKey (map (begunSlot (bodies n b)) ks) ≡ ks
   begun-keys [] h = refl
   begun-keys (k ∷ ks) h = rw (begun-key (bodies n b) (wide-bodies n b hb) k (h .0), begun-keys ks (h .1))
 

@@ -22,12 +22,12 @@ use Rattle.keys.specs.Sorted.{sortedRows, lookup}
 use Rattle.keys.proofs.PutLaws.{lookup-within}
 use Rattle.update.specs.Rule.{rowRule}
 use Rattle.update.proofs.RuleLaws.{rule-wide}
-use Rattle.book.specs.Entries.{entry-wide, number-at, number-wide, body-at, kindOf, numberOf, bodyOf}
-use Rattle.book.specs.Rules.{marked, withdrawn, standing}
+use Rattle.book.specs.Entries.{entry-wide, number-at, number-wide, body-at, kindOf, numberOf, entryBody}
+use Rattle.book.specs.Rules.{markedWithdrawn, withdrawn, standing}
 use Rattle.book.proofs.PlaceLaws.{kind-at, number-from, body-from, rest, rest-start, rest-step, rest-end}
 use Rattle.book.proofs.PlanLaws.{plan-key-at}
-use Rattle.withdrawals_replay.specs.Slots.{slot-wide, slotsOf, keyIn, rowIn}
-use Rattle.withdrawals_replay.specs.Worked.{takeIn, takenIn, heardIn}
+use Rattle.withdrawals_replay.specs.inner.Slots.{slot-wide, slotsOf, slotKey, slotRow}
+use Rattle.withdrawals_replay.specs.inner.Worked.{takeIn, takenIn, heardIn}
 use Rattle.withdrawals_replay.proofs.SlotLaws.{taken-append, heard-key}
 use Rattle.withdrawals_replay.proofs.SlotWriteLaws.{slots-set}
 use Rattle.withdrawals_replay.proofs.TakeLaws.{take-found}
@@ -42,35 +42,35 @@ map-same : (f : List ℕ → List ℕ) (l : List (List ℕ)) → ((s : List ℕ)
 map-same f [] h = refl
 map-same f (s ∷ l) h = rw (h s, map-same f l h)
 
-module _ (c p : ℕ) (b d : List ℕ) (names : List (List ℕ)) (fits : c * slot-wide ≤ length d) (body : p + body-wide ≤ length b) (rises : sortedRows names ≡ true) (keys : map keyIn (slotsOf c d) ≡ names) where
+module _ (c p : ℕ) (b d : List ℕ) (names : List (List ℕ)) (fits : c * slot-wide ≤ length d) (body : p + body-wide ≤ length b) (rises : sortedRows names ≡ true) (keys : map slotKey (slotsOf c d) ≡ names) where
   abbrev u : List ℕ
   u = part p body-wide b
 
-  found-as : (f : Found) → f ≡ lookup (part p key-wide b) names → lookup (keyOf u) (map keyIn (slotsOf c d)) ≡ f
+  found-as : (f : Found) → f ≡ lookup (part p key-wide b) names → lookup (keyOf u) (map slotKey (slotsOf c d)) ≡ f
   found-as f e = rw (keys, plan-key-at p b) (sym e)
 
   pub update-below : (i : ℕ) → At i ≡ lookup (part p key-wide b) names → i < c
   update-below i e =
       let w = rw (sym e, ← keys) at (lookup-within (part p key-wide b) names) in
-      let l : length (map keyIn (slotsOf c d)) ≡ c = length-map (slotsOf c d) keyIn ∙ length-rowsOf slot-wide c d in
+      let l : length (map slotKey (slotsOf c d)) ≡ c = length-map (slotsOf c d) slotKey ∙ length-rowsOf slot-wide c d in
       omega arith
 
-  pub update-taken : (i : ℕ) (s : List ℕ) → At i ≡ lookup (part p key-wide b) names → s ≡ over (i * slot-wide) (1 ∷ rowRule (rowIn (part (i * slot-wide) slot-wide d)) u) d
+  pub update-taken : (i : ℕ) (s : List ℕ) → At i ≡ lookup (part p key-wide b) names → s ≡ over (i * slot-wide) (1 ∷ rowRule (slotRow (part (i * slot-wide) slot-wide d)) u) d
       → slotsOf c s ≡ map (takeIn u) (slotsOf c d)
   update-taken i s e g =
       let h = update-below i e in
-      let wide = rule-wide (rowIn (part (i * slot-wide) slot-wide d)) u (length-part p body-wide b body) in
+      let wide = rule-wide (slotRow (part (i * slot-wide) slot-wide d)) u (length-part p body-wide b body) in
       ap (slotsOf c) g
-      ∙ slots-set c i (1 ∷ rowRule (rowIn (part (i * slot-wide) slot-wide d)) u) d fits h (omega arith)
+      ∙ slots-set c i (1 ∷ rowRule (slotRow (part (i * slot-wide) slot-wide d)) u) d fits h (omega arith)
       ∙ rw (← row-at slot-wide c i d h) (sym (take-found u (slotsOf c d) (At i) (rw keys rises) (found-as (At i) e)))
 
   -- what lies behind the slots stays
-  pub update-rest : (i : ℕ) (s : List ℕ) → At i ≡ lookup (part p key-wide b) names → s ≡ over (i * slot-wide) (1 ∷ rowRule (rowIn (part (i * slot-wide) slot-wide d)) u) d
+  pub update-rest : (i : ℕ) (s : List ℕ) → At i ≡ lookup (part p key-wide b) names → s ≡ over (i * slot-wide) (1 ∷ rowRule (slotRow (part (i * slot-wide) slot-wide d)) u) d
       → drop (c * slot-wide) s ≡ drop (c * slot-wide) d
   update-rest i s e g =
       let h = update-below i e in
-      let wide = rule-wide (rowIn (part (i * slot-wide) slot-wide d)) u (length-part p body-wide b body) in
-      ap (drop (c * slot-wide)) g ∙ drop-behind (c * slot-wide) (i * slot-wide) (1 ∷ rowRule (rowIn (part (i * slot-wide) slot-wide d)) u) d (omega arith)
+      let wide = rule-wide (slotRow (part (i * slot-wide) slot-wide d)) u (length-part p body-wide b body) in
+      ap (drop (c * slot-wide)) g ∙ drop-behind (c * slot-wide) (i * slot-wide) (1 ∷ rowRule (slotRow (part (i * slot-wide) slot-wide d)) u) d (omega arith)
 
   pub update-missing : (i : ℕ) → Missing i ≡ lookup (part p key-wide b) names → slotsOf c d ≡ map (takeIn u) (slotsOf c d)
   update-missing i e = sym (take-found u (slotsOf c d) (Missing i) (rw keys rises) (found-as (Missing i) e))
@@ -79,8 +79,8 @@ module _ (c p : ℕ) (b d : List ℕ) (names : List (List ℕ)) (fits : c * slot
 
 module _ (n : ℕ) (e : List ℕ) (filled : 0 < length e) where
   -- a withdrawn entry does not stand
-  marked-kind : eqb (kindOf (marked e)) 2 ≡ false
-  unfolding marked
+  marked-kind : eqb (kindOf (markedWithdrawn e)) 2 ≡ false
+  unfolding markedWithdrawn
   marked-kind = rw (getD-set-same e 0 3 0 filled)
 
   pub heard-own : numberOf e ≡ n → standing (withdrawn n (e ∷ [])) ≡ []
@@ -91,11 +91,11 @@ module _ (n : ℕ) (e : List ℕ) (filled : 0 < length e) where
   unfolding withdrawn standing
   heard-fallen h = go (eqb (numberOf e) n)
     where
-      go : (t : Bool) → on (eqb (kindOf (on t (marked e) e)) 2) (bodyOf (on t (marked e) e) ∷ []) [] ≡ []
+      go : (t : Bool) → on (eqb (kindOf (on t (markedWithdrawn e) e)) 2) (entryBody (on t (markedWithdrawn e) e) ∷ []) [] ≡ []
       go true = rw marked-kind
       go false = rw (ne-eqb (kindOf e) 2 h)
 
-  pub heard-other : kindOf e ≡ 2 → (numberOf e ≡ n → ⊥) → standing (withdrawn n (e ∷ [])) ≡ bodyOf e ∷ []
+  pub heard-other : kindOf e ≡ 2 → (numberOf e ≡ n → ⊥) → standing (withdrawn n (e ∷ [])) ≡ entryBody e ∷ []
   unfolding withdrawn standing
   heard-other k h = rw (ne-eqb (numberOf e) n h, eq-eqb (kindOf e) 2 k)
 
@@ -120,7 +120,7 @@ module _ (n p : ℕ) (b : List ℕ) (ss : List (List ℕ)) (fits : p + entry-wid
   unfolding heardIn takenIn
   entry-other k h =
       rw (← body-from p b)
-      (map-agree (takeIn (bodyOf e)) (heardIn n (e ∷ [])) ss
+      (map-agree (takeIn (entryBody e)) (heardIn n (e ∷ [])) ss
       (λ s. sym (ap (λ (us : List (List ℕ)). takenIn us s) (heard-other n e filled (kind-at p b ∙ k) (λ g. h (sym (number-from p b) ∙ g))))))
 
 -- ---- all of them, one after another
@@ -129,15 +129,15 @@ standing-cons : (e : List ℕ) (es : List (List ℕ)) → standing (e ∷ es) �
 unfolding standing
 standing-cons e es = go (eqb (kindOf e) 2)
   where
-    go : (t : Bool) → on t (bodyOf e ∷ standing es) (standing es) ≡ on t (bodyOf e ∷ []) [] ++ standing es
+    go : (t : Bool) → on t (entryBody e ∷ standing es) (standing es) ≡ on t (entryBody e ∷ []) [] ++ standing es
     go true = refl
     go false = refl
 
 heard-cons : (n : ℕ) (e : List ℕ) (es : List (List ℕ)) (s : List ℕ) → heardIn n (e ∷ es) s ≡ heardIn n es (heardIn n (e ∷ []) s)
 unfolding heardIn withdrawn
 heard-cons n e es s =
-    ap (λ (us : List (List ℕ)). takenIn us s) (standing-cons (on (eqb (numberOf e) n) (marked e) e) (withdrawn n es))
-    ∙ taken-append (standing (on (eqb (numberOf e) n) (marked e) e ∷ [])) (standing (withdrawn n es)) s
+    ap (λ (us : List (List ℕ)). takenIn us s) (standing-cons (on (eqb (numberOf e) n) (markedWithdrawn e) e) (withdrawn n es))
+    ∙ taken-append (standing (on (eqb (numberOf e) n) (markedWithdrawn e) e ∷ [])) (standing (withdrawn n es)) s
 
 heard-none : (n : ℕ) (s : List ℕ) → heardIn n [] s ≡ s
 unfolding heardIn takenIn withdrawn standing
@@ -145,11 +145,11 @@ heard-none n s = refl
 
 -- after i of k updates from `at` on
 pub record Heard (n : ℕ) (b : List ℕ) (at k : ℕ) (names ss₀ : List (List ℕ)) (i : ℕ) (ss : List (List ℕ)) : Type 0 where
-  pub keys : map keyIn ss ≡ names
+  pub keys : map slotKey ss ≡ names
   pub left : map (heardIn n (rest b at k i)) ss ≡ map (heardIn n (rowsOf entry-wide k (drop at b))) ss₀
 
 module _ (n : ℕ) (b : List ℕ) (at k : ℕ) (names ss₀ : List (List ℕ)) where
-  pub heard-start : map keyIn ss₀ ≡ names → Heard n b at k names ss₀ 0 ss₀
+  pub heard-start : map slotKey ss₀ ≡ names → Heard n b at k names ss₀ 0 ss₀
   heard-start h = record { keys = h; left = rw (rest-start b at k) }
 
   pub heard-turn : (i : ℕ) (ss qs : List (List ℕ)) → at + k * entry-wide ≤ length b → i < k → Heard n b at k names ss₀ i ss
@@ -158,7 +158,7 @@ module _ (n : ℕ) (b : List ℕ) (at k : ℕ) (names ss₀ : List (List ℕ)) w
       let x = part (at + i * entry-wide) entry-wide b in
       let w : Wide entry-wide (x ∷ []) = (length-part (at + i * entry-wide) entry-wide b (omega arith), tt) in
       record {
-        keys = ap (map keyIn) e ∙ map-map keyIn (heardIn n (x ∷ [])) ss ∙ map-agree (λ (s : List ℕ). keyIn (heardIn n (x ∷ []) s)) keyIn ss (λ s. heard-key n (x ∷ []) w s) ∙ inv .keys;
+        keys = ap (map slotKey) e ∙ map-map slotKey (heardIn n (x ∷ [])) ss ∙ map-agree (λ (s : List ℕ). slotKey (heardIn n (x ∷ []) s)) slotKey ss (λ s. heard-key n (x ∷ []) w s) ∙ inv .keys;
         left =
             ap (map (heardIn n (rest b at k (i + 1)))) e
             ∙ map-map (heardIn n (rest b at k (i + 1))) (heardIn n (x ∷ [])) ss

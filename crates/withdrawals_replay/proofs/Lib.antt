@@ -3,7 +3,6 @@ pub mod SlotWriteLaws
 pub mod BeginLaws
 pub mod TableLaws
 pub mod SettleLaws
-pub mod Determined
 pub mod TakeLaws
 pub mod HeardLaws
-pub mod ReplaysDetermined
+pub mod Determined

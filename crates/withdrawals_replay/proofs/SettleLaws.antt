@@ -19,7 +19,7 @@ use Rattle.keys.proofs.CountLaws.{wide-put, wide-remove}
 use Rattle.table.specs.Rules.{rows}
 use Rattle.table.proofs.RunLaws.{Holds, holds-rows, holds-fits, holds-sorted, holds-length}
 use Rattle.table.proofs.StoreTwiceLaws.{store-comes}
-use Rattle.withdrawals_replay.specs.Slots.{slot-wide, slotsOf, hasRow, keyIn, removeOne, removals, putOne, puts, settled}
+use Rattle.withdrawals_replay.specs.inner.Slots.{slot-wide, slotsOf, hasRow, slotKey, removeOne, removals, putOne, puts, settled}
 use Rattle.withdrawals_replay.proofs.TableLaws.{remove-least, puts-least}
 
 -- ---- removals and puts keep rows whole and sorted
@@ -33,9 +33,9 @@ removals-hold (x ∷ ss) rs w s =
     let r = removals-hold ss (removeOne x rs) (one .0) (one .1) in
     (r .0, r .1, le-trans (r .2) (remove-least x rs))
   where
-    go : (t : Bool) → Wide row-wide (on t rs (remove (keyIn x) rs)) × (sortedRows (on t rs (remove (keyIn x) rs)) ≡ true)
+    go : (t : Bool) → Wide row-wide (on t rs (remove (slotKey x) rs)) × (sortedRows (on t rs (remove (slotKey x) rs)) ≡ true)
     go true = (w, s)
-    go false = (wide-remove row-wide (keyIn x) rs w, sorted-remove (keyIn x) rs s)
+    go false = (wide-remove row-wide (slotKey x) rs w, sorted-remove (slotKey x) rs s)
 
 puts-wide : (ss rs : List (List ℕ)) → Wide slot-wide ss → Wide row-wide rs → Wide row-wide (puts ss rs)
 unfolding puts

@@ -10,7 +10,7 @@ use native.Mathlib.Omega.{arith}
 use borrow.Author.Tests.{eq-eqb, ne-eqb}
 use lib.ListN.{length, take, getD, set, replicate, length-replicate, length-append}
 use lib.Seq.{length-take-le, take-suc, take-length, set-getD, drop-length}
-use Rattle.lists.specs.Part.{part, over}
+use Rattle.lists.specs.Part.{part, over, some}
 use Rattle.lists.specs.Rows.{flat, Wide}
 use Rattle.lists.proofs.PartLaws.{part-part, length-part}
 use Rattle.lists.proofs.OverLaws.{over-nil, over-cons, over-then, over-longer, getD-before, onto-fits}
@@ -23,9 +23,8 @@ use Rattle.update.specs.Rule.{begun, beginning, applyRow, rowRule}
 use Rattle.update.proofs.RuleLaws.{rule-wide}
 use Rattle.book.proofs.PlaceLaws.{first-at}
 use Rattle.book.proofs.WriteLaws.{set-over}
-use Rattle.book_find.specs.Held.{some}
-use Rattle.withdrawals_replay.specs.Slots.{slot-wide, slotsOf, rowIn}
-use Rattle.withdrawals_replay.specs.Worked.{slotOf}
+use Rattle.withdrawals_replay.specs.inner.Slots.{slot-wide, slotsOf, slotRow}
+use Rattle.withdrawals_replay.specs.inner.Worked.{slotOf}
 use Rattle.withdrawals_replay.proofs.SlotLaws.{Whole}
 
 -- one byte in front of what was written
@@ -97,15 +96,15 @@ module _ (at : ℕ) (d u : List ℕ) (fits : at + slot-wide ≤ length d) (wide 
   row = part (at + 1) row-wide d
 
   -- a slot with a row, and one without
-  pub row-there : getD d at 0 ≡ 1 → rowIn (part at slot-wide d) ≡ row
-  unfolding rowIn
+  pub row-there : getD d at 0 ≡ 1 → slotRow (part at slot-wide d) ≡ row
+  unfolding slotRow
   row-there e = rw (first-at at slot-wide d (omega arith), eq-eqb (getD d at 0) 1 e) (part-part 1 row-wide at slot-wide d (omega arith))
 
-  pub row-none : (getD d at 0 ≡ 1 → ⊥) → rowIn (part at slot-wide d) ≡ []
-  unfolding rowIn
+  pub row-none : (getD d at 0 ≡ 1 → ⊥) → slotRow (part at slot-wide d) ≡ []
+  unfolding slotRow
   row-none e = rw (first-at at slot-wide d (omega arith), ne-eqb (getD d at 0) 1 e)
 
-  pub held-taken : (s : List ℕ) → getD d at 0 ≡ 1 → s ≡ over (at + 1) (applyRow row u) d → s ≡ over at (1 ∷ rowRule (rowIn (part at slot-wide d)) u) d
+  pub held-taken : (s : List ℕ) → getD d at 0 ≡ 1 → s ≡ over (at + 1) (applyRow row u) d → s ≡ over at (1 ∷ rowRule (slotRow (part at slot-wide d)) u) d
   unfolding rowRule
   held-taken s e g =
       let full : 0 < length row = rw (length-part (at + 1) row-wide d (omega arith)) (omega arith) in
@@ -116,7 +115,7 @@ module _ (at : ℕ) (d u : List ℕ) (fits : at + slot-wide ≤ length d) (wide 
       ∙ front-byte at 1 (applyRow row u) d
       ∙ rw (row-there e, begun-held row full)
 
-  pub new-taken : (s t : List ℕ) → (getD d at 0 ≡ 1 → ⊥) → s ≡ over (at + 1) beginning d → t ≡ over (at + 1) (applyRow (part (at + 1) row-wide s) u) s → set t at 1 ≡ over at (1 ∷ rowRule (rowIn (part at slot-wide d)) u) d
+  pub new-taken : (s t : List ℕ) → (getD d at 0 ≡ 1 → ⊥) → s ≡ over (at + 1) beginning d → t ≡ over (at + 1) (applyRow (part (at + 1) row-wide s) u) s → set t at 1 ≡ over at (1 ∷ rowRule (slotRow (part at slot-wide d)) u) d
   unfolding rowRule
   new-taken s t e g h =
       let begins : part (at + 1) row-wide s ≡ beginning =

@@ -26,7 +26,7 @@ use Rattle.table.specs.Rules.{rows}
 use Rattle.table.proofs.RunLaws.{Holds, holds-start, holds-length, holds-rows, holds-put, holds-remove}
 use Rattle.book.proofs.PlaceLaws.{first-at}
 use Rattle.book.proofs.WriteLaws.{rowsOf-snoc}
-use Rattle.withdrawals_replay.specs.Slots.{slot-wide, slotsOf, hasRow, keyIn, rowIn, removeOne, removals, putOne, puts, weight, weights}
+use Rattle.withdrawals_replay.specs.inner.Slots.{slot-wide, slotsOf, hasRow, slotKey, slotRow, removeOne, removals, putOne, puts, weight, weights}
 
 -- ---- a slot as it lies in bytes
 
@@ -34,7 +34,7 @@ module _ (at : ℕ) (s : List ℕ) where
   abbrev slot : List ℕ
   slot = part at slot-wide s
 
-  pub key-lies : keyIn slot ≡ part (at + 1) key-wide s
+  pub key-lies : slotKey slot ≡ part (at + 1) key-wide s
   key-lies = part-part 1 key-wide at slot-wide s (omega arith)
 
   pub has-lies : hasRow slot ≡ eqb (getD s at 0) 1
@@ -72,38 +72,38 @@ come-weight (b ∷ y) h = refl
 
 module _ (n at i : ℕ) (t s : List ℕ) (fits : n * row-wide ≤ length t) (there : at + slot-wide ≤ length s) where
   abbrev weighed : ℕ
-  weighed = weight (get (keyIn (slot at s)) (rows n t)) (rowIn (slot at s))
+  weighed = weight (get (slotKey (slot at s)) (rows n t)) (slotRow (slot at s))
 
-  row-full : hasRow (slot at s) ≡ true → 0 < length (rowIn (slot at s))
-  unfolding rowIn
+  row-full : hasRow (slot at s) ≡ true → 0 < length (slotRow (slot at s))
+  unfolding slotRow
   row-full e = rw (e, part-part 1 row-wide at slot-wide s (omega arith), length-part (at + 1) row-wide s (omega arith)) (omega arith)
 
-  row-empty : hasRow (slot at s) ≡ false → rowIn (slot at s) ≡ []
-  unfolding rowIn
+  row-empty : hasRow (slot at s) ≡ false → slotRow (slot at s) ≡ []
+  unfolding slotRow
   row-empty e = rw e
 
-  got : (f : Found) → f ≡ lookup (part (at + 1) key-wide s) (rows n t) → lookup (keyIn (slot at s)) (rows n t) ≡ f
+  got : (f : Found) → f ≡ lookup (part (at + 1) key-wide s) (rows n t) → lookup (slotKey (slot at s)) (rows n t) ≡ f
   got f e = rw (key-lies at s) (sym e)
 
   module _ (e : At i ≡ lookup (part (at + 1) key-wide s) (rows n t)) where
-    got-full : 0 < length (get (keyIn (slot at s)) (rows n t))
+    got-full : 0 < length (get (slotKey (slot at s)) (rows n t))
     got-full =
         let w = rw (sym e) at (lookup-within (part (at + 1) key-wide s) (rows n t)) in
         let l = each-at (λ (r : List ℕ). length r ≡ row-wide) (rows n t) i [] (wide-rowsOf row-wide n t fits) w in
-        rw (get-at (keyIn (slot at s)) (rows n t) (At i) (got (At i) e)) (omega arith)
+        rw (get-at (slotKey (slot at s)) (rows n t) (At i) (got (At i) e)) (omega arith)
 
     pub weigh-both : getD s at 0 ≡ 1 → 1 ≡ weighed
-    weigh-both h = sym (some-weight (get (keyIn (slot at s)) (rows n t)) (rowIn (slot at s)) got-full (row-full (has-one at s h)))
+    weigh-both h = sym (some-weight (get (slotKey (slot at s)) (rows n t)) (slotRow (slot at s)) got-full (row-full (has-one at s h)))
 
     pub weigh-gone : (getD s at 0 ≡ 1 → ⊥) → 0 ≡ weighed
-    weigh-gone h = rw (row-empty (has-none at s h)) (sym (gone-weight (get (keyIn (slot at s)) (rows n t)) got-full))
+    weigh-gone h = rw (row-empty (has-none at s h)) (sym (gone-weight (get (slotKey (slot at s)) (rows n t)) got-full))
 
   module _ (e : Missing i ≡ lookup (part (at + 1) key-wide s) (rows n t)) where
-    got-none : get (keyIn (slot at s)) (rows n t) ≡ []
-    got-none = get-at (keyIn (slot at s)) (rows n t) (Missing i) (got (Missing i) e)
+    got-none : get (slotKey (slot at s)) (rows n t) ≡ []
+    got-none = get-at (slotKey (slot at s)) (rows n t) (Missing i) (got (Missing i) e)
 
     pub weigh-come : getD s at 0 ≡ 1 → 2 ≡ weighed
-    weigh-come h = rw got-none (sym (come-weight (rowIn (slot at s)) (row-full (has-one at s h))))
+    weigh-come h = rw got-none (sym (come-weight (slotRow (slot at s)) (row-full (has-one at s h))))
 
     pub weigh-neither : (getD s at 0 ≡ 1 → ⊥) → 1 ≡ weighed
     weigh-neither h = rw (got-none, row-empty (has-none at s h))
@@ -126,11 +126,11 @@ module _ (rs : List (List ℕ)) (c : ℕ) (s : List ℕ) where
   pub sum-start : (n : ℕ) → Summed n 0 n
   sum-start n = record { small = omega arith; whole = rw (← rowsOf-start slot-wide c s) }
 
-  pub sum-turn : (n i sum w : ℕ) → i < c → Summed n i sum → w ≡ weight (get (keyIn (slot (i * slot-wide) s)) rs) (rowIn (slot (i * slot-wide) s)) → Summed n (i + 1) (sum + w)
+  pub sum-turn : (n i sum w : ℕ) → i < c → Summed n i sum → w ≡ weight (get (slotKey (slot (i * slot-wide) s)) rs) (slotRow (slot (i * slot-wide) s)) → Summed n (i + 1) (sum + w)
   unfolding weights
   sum-turn n i sum w h inv e =
-      let m = weight-most (get (keyIn (slot (i * slot-wide) s)) rs) (rowIn (slot (i * slot-wide) s)) in
-      let a : weights rs (slotsFrom i) ≡ weight (get (keyIn (slot (i * slot-wide) s)) rs) (rowIn (slot (i * slot-wide) s)) + weights rs (slotsFrom (i + 1)) = ap (weights rs) (rowsOf-step slot-wide c i s h) in
+      let m = weight-most (get (slotKey (slot (i * slot-wide) s)) rs) (slotRow (slot (i * slot-wide) s)) in
+      let a : weights rs (slotsFrom i) ≡ weight (get (slotKey (slot (i * slot-wide) s)) rs) (slotRow (slot (i * slot-wide) s)) + weights rs (slotsFrom (i + 1)) = ap (weights rs) (rowsOf-step slot-wide c i s h) in
       let k = inv .small in
       let l = inv .whole in
       record { small = omega arith; whole = omega arith }
@@ -147,7 +147,7 @@ weights-most : (rs ss : List (List ℕ)) → weights rs ss ≤ length ss * 2
 unfolding weights
 weights-most rs [] = omega arith
 weights-most rs (s ∷ ss) =
-    let one = weight-most (get (keyIn s) rs) (rowIn s) in
+    let one = weight-most (get (slotKey s) rs) (slotRow s) in
     let more = weights-most rs ss in
     omega arith
 
@@ -181,9 +181,9 @@ module _ (s : List ℕ) (rs : List (List ℕ)) where
 pub remove-least : (s : List ℕ) (rs : List (List ℕ)) → length (removeOne s rs) ≤ length rs
 remove-least s rs = go (hasRow s)
   where
-    go : (t : Bool) → length (on t rs (remove (keyIn s) rs)) ≤ length rs
+    go : (t : Bool) → length (on t rs (remove (slotKey s) rs)) ≤ length rs
     go true = le-refl (length rs)
-    go false = remove-most (keyIn s) rs
+    go false = remove-most (slotKey s) rs
 
 put-more : (s : List ℕ) (rs : List (List ℕ)) → length rs ≤ length (putOne s rs)
 put-more s rs = go (hasRow s)
@@ -240,10 +240,10 @@ module _ (n : ℕ) (t₀ : List ℕ) (s : List ℕ) where
         x : List ℕ
         x = slot (i * slot-wide) s
 
-        go : (b : Bool) → d ≡ length (on b (rows count t) (remove (keyIn x) (rows count t))) → u ≡ store row-wide count (on b (rows count t) (remove (keyIn x) (rows count t))) t
-            → Holds n t₀ d u (on b (removals (slotsOf i s) rs₀) (remove (keyIn x) (removals (slotsOf i s) rs₀)))
+        go : (b : Bool) → d ≡ length (on b (rows count t) (remove (slotKey x) (rows count t))) → u ≡ store row-wide count (on b (rows count t) (remove (slotKey x) (rows count t))) t
+            → Holds n t₀ d u (on b (removals (slotsOf i s) rs₀) (remove (slotKey x) (removals (slotsOf i s) rs₀)))
         go true e g = kept (removals (slotsOf i s) rs₀) d u (h .0) e g
-        go false e g = holds-remove n t₀ count t (removals (slotsOf i s) rs₀) (h .0) (keyIn x) d u (h .1) e g
+        go false e g = holds-remove n t₀ count t (removals (slotsOf i s) rs₀) (h .0) (slotKey x) d u (h .1) e g
 
     module _ (h : Put i count t) (there : i * slot-wide + slot-wide ≤ length s) (room : length (puts (slotsOf (i + 1) s) rs₀) * row-wide ≤ length t₀) where
       pub put-room : length (putOne (slot (i * slot-wide) s) (rows count t)) * row-wide ≤ length t

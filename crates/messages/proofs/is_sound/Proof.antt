@@ -20,18 +20,18 @@ returns c =
     let reg = book .before .before in
     let a = reg .before .before .before .before .args in
     c .table-is-sound .ensures
-    ∙ sym (rest-sound (a .register .now) (a .book .now) (a .table .now) (a .c) (sym (reg .register-is-sound .ensures) ∙ book .before .if1 .taken) (sym (book .book-is-sound .ensures) ∙ c .before .if2 .taken))
+    ∙ sym (rest-sound (a .register .now) (a .book .now) (a .table .now) (a .counts) (sym (reg .register-is-sound .ensures) ∙ book .before .if1 .taken) (sym (book .book-is-sound .ensures) ∙ c .before .if2 .taken))
 
 returns-2 : tie.Need-returns-2
 returns-2 c =
     let reg = c .before .before .before in
     let a = reg .before .before .before .before .args in
-    sym (book-unsound (a .register .now) (a .book .now) (a .table .now) (a .c) (sym (reg .register-is-sound .ensures) ∙ c .before .before .if1 .taken) (sym (c .before .book-is-sound .ensures) ∙ c .if2 .left))
+    sym (book-unsound (a .register .now) (a .book .now) (a .table .now) (a .counts) (sym (reg .register-is-sound .ensures) ∙ c .before .before .if1 .taken) (sym (c .before .book-is-sound .ensures) ∙ c .if2 .left))
 
 returns-3 : tie.Need-returns-3
 returns-3 c =
     let a = c .before .before .before .before .before .args in
-    sym (register-unsound (a .register .now) (a .book .now) (a .table .now) (a .c) (sym (c .before .register-is-sound .ensures) ∙ c .if1 .left))
+    sym (register-unsound (a .register .now) (a .book .now) (a .table .now) (a .counts) (sym (c .before .register-is-sound .ensures) ∙ c .if1 .left))
 
 pub is-sound-spec : {M : Type 1} → statement M
 is-sound-spec =

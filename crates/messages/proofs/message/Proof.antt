@@ -1,6 +1,7 @@
 -- `message` meets its contract. Assumes nothing.
 use mathlib.Core.Path.{refl, sym, _∙_}
 use borrow.Author.Needs.{needs}
+use Rattle.calls.proofs.NumbersLaws.{message-told}
 use Rattle.messages.proofs.ReadLaws.{unsound}
 use Rattle.messages.proofs.message.Statement.{statement}
 use Rattle.messages.proofs.message.Tie as tie
@@ -18,10 +19,13 @@ same-length-2 : tie.Need-same-length-2
 same-length-2 c = search needs
 
 returns : tie.Need-returns
-returns c = search needs
+returns c =
+    let took = c .before .before .before .before in
+    let a = took .before .before .before .before .before .before .before .before .before .before .before .args in
+    message-told (a .dossier .now) (a .sender) (a .register .now) (a .book .now) (a .table .now) (a .counts) _ _ _ (took .take-sound .ensures)
 
-refused-requires : tie.Need-refused-requires
-refused-requires c κs = tt
+unchanged-requires : tie.Need-unchanged-requires
+unchanged-requires c κs = tt
 
 same-length-3 : tie.Need-same-length-3
 same-length-3 c = refl
@@ -32,7 +36,8 @@ same-length-4 c = refl
 returns-2 : tie.Need-returns-2
 returns-2 c =
     let a = c .before .before .before .before .before .before .before .before .before .args in
-    unsound (a .d .now) (a .sender) (a .register .now) (a .book .now) (a .table .now) (a .c) (sym (c .before .before .is-sound .ensures) ∙ c .before .if1 .left) (c .refused .result) (c .refused .ensures)
+    message-told (a .dossier .now) (a .sender) (a .register .now) (a .book .now) (a .table .now) (a .counts) _ _ _
+    (unsound (a .dossier .now) (a .sender) (a .register .now) (a .book .now) (a .table .now) (a .counts) (sym (c .before .before .is-sound .ensures) ∙ c .before .if1 .left) (c .unchanged .result) (c .unchanged .ensures))
 
 pub message-spec : {M : Type 1} → statement M
 message-spec =
@@ -43,7 +48,7 @@ message-spec =
     same-length
     same-length-2
     returns
-    refused-requires
+    unchanged-requires
     same-length-3
     same-length-4
     returns-2)

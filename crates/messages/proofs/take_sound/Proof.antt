@@ -24,7 +24,7 @@ slice-aggregate-read-and-take c = sym (length-replicate {A = ℕ} 19998 0)
 read-and-take-requires : tie.Need-read-and-take-requires
 read-and-take-requires c κs =
     let s = c .before .before .before .before .before .before .before .before in
-    (s .pre, λ n few l. made-room (n * body-wide) 19998 (short-room (length (s .args .d .now)) n (c .before .before .before .if1 .taken) l))
+    (s .pre, λ n few l. made-room (n * body-wide) 19998 (short-room (length (s .args .dossier .now)) n (c .before .before .before .if1 .taken) l))
 
 same-length : tie.Need-same-length
 same-length c = c .before .before .before .before .before .read-and-take .kept .1 .1 .1 .1 .0

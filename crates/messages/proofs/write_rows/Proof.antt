@@ -1,13 +1,15 @@
 -- `write_rows` meets its contract. Assumes nothing.
-use Prim.Native.Nat.{_-_}
-use mathlib.Core.Path.{_≡_, refl, ap}
+use Prim.Native.Nat.{ℕ, _+_, _*_, _-_}
+use mathlib.Core.Path.{_≡_, ap, _∙_}
 use native.Mathlib.Omega.{arith}
 use borrow.Author.Needs.{needs}
 use lib.ListN.{length, take, drop, length-drop}
 use lib.Seq.{length-take-le}
+use Rattle.book.specs.Entries.{entry-wide}
 use Rattle.book.proofs.SoundLaws.{room-within}
+use Rattle.calls.specs.Leaves.{countsOf, outcomeOf}
 use Rattle.calls.specs.declared.Answer.the-variants.{Accepted}
-use Rattle.messages.proofs.PostingSoundLaws.{used-fits}
+use Rattle.messages.proofs.SoundLaws.{used-fits}
 use Rattle.messages.proofs.WriteLaws.{tail-back}
 use Rattle.messages.proofs.write_rows.Statement.{statement}
 use Rattle.messages.proofs.write_rows.Tie as tie
@@ -38,25 +40,28 @@ write-entries-requires c κs =
     let r = s .pre .1 .1 in
     (omega arith, s .pre .0 .1)
 
-mul-t12 : tie.Need-mul-t12
-mul-t12 c = search needs
+mul-accepted : tie.Need-mul-accepted
+mul-accepted c = search needs
 
-add-t16 : tie.Need-add-t16
-add-t16 c =
+add-accepted : tie.Need-add-accepted
+add-accepted c =
     let s = c .before .before .before .before .before .before .before .before in
     let u = used-fits (s .args .used) (s .args .book .now) (s .pre .1 .0) in
     omega arith
+
+accepted-requires : tie.Need-accepted-requires
+accepted-requires c κs = search needs
 
 same-length : tie.Need-same-length
 same-length c = search needs
 
 returns : tie.Need-returns
 returns c =
-    let next = c .before .before .before .before in
-    let s = c .before .before .before .before .before .before .before .before in
+    let next = c .before .before .before .before .before in
+    let s = next .before .before .before .before in
     let a = s .args in (
-      ap Accepted (next .next-number .ensures),
-      ((refl, refl), tail-back (a .staging .now) (a .n) (s .pre .0 .1) (a .book .now) (a .used) _ (a .sender) _ (s .pre .1 .1) (next .next-number .ensures) (c .before .before .write-entries .ensures)),
+      c .accepted .ensures ∙ ap (λ (n : ℕ). outcomeOf (Accepted n) (countsOf (a .used + a .count * entry-wide) (a .rows))) (next .next-number .ensures),
+      tail-back (a .staging .now) (a .count) (s .pre .0 .1) (a .book .now) (a .used) _ (a .sender) _ (s .pre .1 .1) (next .next-number .ensures) (c .before .before .before .write-entries .ensures),
     )
 
 pub write-rows-spec : {M : Type 1} → statement M
@@ -68,7 +73,8 @@ write-rows-spec =
     part-write-entries-start
     part-write-entries-end
     write-entries-requires
-    mul-t12
-    add-t16
+    mul-accepted
+    add-accepted
+    accepted-requires
     same-length
     returns)

@@ -6,6 +6,7 @@ use borrow.Author.Needs.{needs}
 use lib.ListN.{length-replicate}
 use Rattle.lists.proofs.AreaLaws.{made-room}
 use Rattle.passage.specs.Layout.{row-wide}
+use Rattle.table.specs.Rules.{most-rows}
 use Rattle.messages_take.proofs.TrialLaws.{all-fit}
 use Rattle.messages_take.proofs.fits_after.Statement.{statement}
 use Rattle.messages_take.proofs.fits_after.Tie as tie
@@ -16,17 +17,17 @@ add-if1 c = search needs
 returns : tie.Need-returns
 returns c =
     let a = c .before .before .before .args in
-    all-fit (a .s .now) (a .t .now) (a .n) (a .m) (a .most) (c .if1 .taken)
+    all-fit (a .bodies .now) (a .table .now) (a .count) (a .updates) (a .most) (c .if1 .taken)
 
 slice-aggregate-trial-fits : tie.Need-slice-aggregate-trial-fits
-slice-aggregate-trial-fits c = sym (length-replicate {A = ℕ} 137283 0)
+slice-aggregate-trial-fits c = sym (length-replicate {A = ℕ} ((most-rows + 1) * row-wide) 0)
 
 trial-fits-requires : tie.Need-trial-fits-requires
 trial-fits-requires c κs =
     let p = c .before .before .before .before .pre in
     let most = c .before .before .before .before .args .most in
-    let fits : most + 1 ≤ 2049 = omega arith in
-    ((p .0 .0, p .0 .1, p .0 .2, made-room ((most + 1) * row-wide) 137283 (mul-le-mul-right row-wide fits)), p .1)
+    let fits : most + 1 ≤ most-rows + 1 = omega arith in
+    ((p .0 .0, p .0 .1, p .0 .2, made-room ((most + 1) * row-wide) ((most-rows + 1) * row-wide) (mul-le-mul-right row-wide fits)), p .1)
 
 returns-2 : tie.Need-returns-2
 returns-2 c = c .before .trial-fits .ensures

@@ -1,5 +1,5 @@
 use borrow.Author.Needs.{needs}
-use Rattle.messages_take.proofs.FittingLaws.{few-fit}
+use Rattle.messages_take.proofs.AbsentLaws.{few-fit}
 use Rattle.messages_take.proofs.fits_with.Statement.{statement}
 use Rattle.messages_take.proofs.fits_with.Tie as tie
 
@@ -10,7 +10,7 @@ returns : tie.Need-returns
 returns c =
     let start = c .before .before .before in
     let a = start .args in
-    few-fit (a .s .now) (a .t .now) (a .n) (a .m) (a .most) (a .missing) (start .pre .0 .1) (start .pre .0 .2) (start .pre .1 .1) (c .if1 .taken)
+    few-fit (a .bodies .now) (a .table .now) (a .count) (a .updates) (a .most) (a .missing) (start .pre .0 .1) (start .pre .0 .2) (start .pre .1 .1) (c .if1 .taken)
 
 fits-after-requires : tie.Need-fits-after-requires
 fits-after-requires c κs = let p = c .before .before .before .pre in (p .0, p .1 .0)

@@ -33,7 +33,7 @@ returns c =
     let a = start .args in
     let begun = c .before .before .before .before .before .before .before .before .before .begin-row in
     let applied = c .before .before .before .before .before .before .apply-row in
-    new-insert (a .t .now) _ (a .s .now) (replicate row-wide 0) (begun .last .0) (applied .last .0) (a .n) (a .i) (a .at)
+    new-insert (a .table .now) _ (a .bodies .now) (replicate row-wide 0) (begun .last .0) (applied .last .0) (a .count) (a .place) (a .from)
     (start .pre .2) refl (begun .ensures) (applied .ensures) (c .before .before .insert-row .ensures)
 
 pub insert-new-spec : {M : Type 1} → statement M

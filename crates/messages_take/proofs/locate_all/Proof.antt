@@ -5,7 +5,7 @@ use borrow.Author.Needs.{needs}
 use lib.ListN.{length, length-set}
 use Rattle.lists.specs.Rows.{rowsOf}
 use Rattle.passage.specs.Layout.{body-wide, row-wide}
-use Rattle.messages_take.proofs.FittingLaws.{held-there, new-lacks, Looked, looked-start, looked-held, looked-new, looked-end}
+use Rattle.messages_take.proofs.AbsentLaws.{held-there, new-lacks, Looked, looked-start, looked-held, looked-new, looked-end}
 use Rattle.messages_take.proofs.locate_all.Statement.{statement}
 use Rattle.messages_take.proofs.locate_all.Tie as tie
 
@@ -18,7 +18,7 @@ abbrev μ-loop : tie.MeasureT-loop
 loop-holds : tie.Need-loop-holds Inv-loop μ-loop
 loop-holds c =
     let a = c .before .before .before .args in
-    (omega arith, refl, looked-start (rowsOf row-wide (a .n) (a .t .now)) (a .m) (a .s .now))
+    (omega arith, refl, looked-start (rowsOf row-wide (a .count) (a .table .now)) (a .updates) (a .bodies .now))
 
 mul-find : tie.Need-mul-find Inv-loop μ-loop
 mul-find c = search needs
@@ -49,9 +49,9 @@ loop-again c =
     let a = start .args in
     let l = c .before .before .before .before .before .loop in
     let e = sym (c .before .before .before .find .ensures) ∙ c .before .f .given .1 in
-    let there : l .k * body-wide + body-wide ≤ length (a .s .now) = omega arith in
-    let got = held-there (a .t .now) (a .s .now) (a .n) (l .k * body-wide) _ (start .pre .0 .0) there e in
-    (omega arith, length-set (l .places) (l .k) (c .before .f .given .0 .0) ∙ l .inv .1, looked-held (rowsOf row-wide (a .n) (a .t .now)) (a .m) (a .s .now) (l .k) (l .missing) (c .before .before .before .before .loop-test .taken) (l .inv .2) got)
+    let there : l .k * body-wide + body-wide ≤ length (a .bodies .now) = omega arith in
+    let got = held-there (a .table .now) (a .bodies .now) (a .count) (l .k * body-wide) _ (start .pre .0 .0) there e in
+    (omega arith, length-set (l .places) (l .k) (c .before .f .given .0 .0) ∙ l .inv .1, looked-held (rowsOf row-wide (a .count) (a .table .now)) (a .updates) (a .bodies .now) (l .k) (l .missing) (c .before .before .before .before .loop-test .taken) (l .inv .2) got)
 
 enum-known-f-2 : tie.Need-enum-known-f-2 Inv-loop μ-loop
 enum-known-f-2 c = search needs
@@ -80,9 +80,9 @@ loop-again-2 c =
     let a = start .args in
     let l = c .before .before .before .before .before .loop in
     let e = sym (c .before .before .before .find .ensures) ∙ c .before .f2 .given .1 in
-    let there : l .k * body-wide + body-wide ≤ length (a .s .now) = omega arith in
-    let got = new-lacks (a .t .now) (a .s .now) (a .n) (l .k * body-wide) _ (start .pre .0 .0) there e in
-    (omega arith, length-set (l .places) (l .k) (c .before .f2 .given .0 .0) ∙ l .inv .1, looked-new (rowsOf row-wide (a .n) (a .t .now)) (a .m) (a .s .now) (l .k) (l .missing) (c .before .before .before .before .loop-test .taken) (l .inv .2) got)
+    let there : l .k * body-wide + body-wide ≤ length (a .bodies .now) = omega arith in
+    let got = new-lacks (a .table .now) (a .bodies .now) (a .count) (l .k * body-wide) _ (start .pre .0 .0) there e in
+    (omega arith, length-set (l .places) (l .k) (c .before .f2 .given .0 .0) ∙ l .inv .1, looked-new (rowsOf row-wide (a .count) (a .table .now)) (a .updates) (a .bodies .now) (l .k) (l .missing) (c .before .before .before .before .loop-test .taken) (l .inv .2) got)
 
 same-length : tie.Need-same-length Inv-loop μ-loop
 same-length c = c .before .loop .inv .1
@@ -91,7 +91,7 @@ returns : tie.Need-returns Inv-loop μ-loop
 returns c =
     let a = c .before .before .before .before .before .args in
     let l = c .before .loop in
-    looked-end (rowsOf row-wide (a .n) (a .t .now)) (a .m) (a .s .now) (l .k) (l .missing) (c .loop-test .left) (l .inv .2)
+    looked-end (rowsOf row-wide (a .count) (a .table .now)) (a .updates) (a .bodies .now) (l .k) (l .missing) (c .loop-test .left) (l .inv .2)
 
 pub locate-all-spec : {M : Type 1} → statement M
 locate-all-spec =

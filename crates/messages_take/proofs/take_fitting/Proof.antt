@@ -17,8 +17,8 @@ take-all-requires c κs =
     let start = c .before .before .before .before in
     let a = start .args in
     let p = start .pre in
-    let fit = all-fit (a .s .now) (a .t .now) (a .n) (a .m) (a .most) (c .before .if1 .taken) in
-    ((p .0 .0, p .0 .1), (p .1 .0, fits-room (a .n) (a .most) (after (a .s .now) (rowsOf row-wide (a .n) (a .t .now)) (a .m)) (a .t .now) true fit refl (p .1 .1)))
+    let fit = all-fit (a .bodies .now) (a .table .now) (a .count) (a .updates) (a .most) (c .before .if1 .taken) in
+    ((p .0 .0, p .0 .1), (p .1 .0, fits-room (a .count) (a .most) (after (a .bodies .now) (rowsOf row-wide (a .count) (a .table .now)) (a .updates)) (a .table .now) true fit refl (p .1 .1)))
 
 same-length : tie.Need-same-length
 same-length c = search needs
@@ -27,8 +27,8 @@ returns : tie.Need-returns
 returns c =
     let a = c .before .before .before .before .before .before .before .args in
     let took = c .before .before .take-all in
-    let fit = all-fit (a .s .now) (a .t .now) (a .n) (a .m) (a .most) (c .before .before .before .before .if1 .taken) in
-    fits-yes (a .n) (a .most) (after (a .s .now) (rowsOf row-wide (a .n) (a .t .now)) (a .m)) (a .t .now) true fit refl (took .result) _ (took .ensures)
+    let fit = all-fit (a .bodies .now) (a .table .now) (a .count) (a .updates) (a .most) (c .before .before .before .before .if1 .taken) in
+    fits-yes (a .count) (a .most) (after (a .bodies .now) (rowsOf row-wide (a .count) (a .table .now)) (a .updates)) (a .table .now) true fit refl (took .result) _ (took .ensures)
 
 slice-aggregate-take-tight : tie.Need-slice-aggregate-take-tight
 slice-aggregate-take-tight c = search needs

@@ -17,7 +17,7 @@ abbrev μ-loop : tie.MeasureT-loop
 loop-holds : tie.Need-loop-holds Inv-loop μ-loop
 loop-holds c =
     let start = c .before .before .before in
-    (search needs, taking-start (start .args .s .now) (start .args .t .now) (start .args .n) (start .pre .0 .0))
+    (search needs, taking-start (start .args .bodies .now) (start .args .table .now) (start .args .count) (start .pre .0 .0))
 
 mul-take-near : tie.Need-mul-take-near Inv-loop μ-loop
 mul-take-near c = search needs
@@ -33,10 +33,10 @@ take-near-requires c κs =
     let l = c .before .before .before .loop in
     let start = c .before .before .before .before .before .before .before in
     let a = start .args in
-    let there : l .k * body-wide + body-wide ≤ length (a .s .now) = omega arith in
-    let room : length (after (a .s .now) (rowsOf row-wide (a .n) (a .t .now)) (l .k + 1)) * row-wide ≤ length (a .t .now) =
-    omega (arith, after-rises (a .s .now) (rowsOf row-wide (a .n) (a .t .now)) (l .k + 1) (a .m) (omega arith), start .pre .1 .1) in
-    taking-asked (a .s .now) (a .t .now) (a .n) (start .pre .0 .0) (l .k) (l .held) (l .t) (l .inv .1) there room (start .pre .1 .0)
+    let there : l .k * body-wide + body-wide ≤ length (a .bodies .now) = omega arith in
+    let room : length (after (a .bodies .now) (rowsOf row-wide (a .count) (a .table .now)) (l .k + 1)) * row-wide ≤ length (a .table .now) =
+    omega (arith, after-rises (a .bodies .now) (rowsOf row-wide (a .count) (a .table .now)) (l .k + 1) (a .updates) (omega arith), start .pre .1 .1) in
+    taking-asked (a .bodies .now) (a .table .now) (a .count) (start .pre .0 .0) (l .k) (l .held) (l .table) (l .inv .1) there room (start .pre .1 .0)
 
 add-k : tie.Need-add-k Inv-loop μ-loop
 add-k c = search needs
@@ -50,24 +50,24 @@ loop-again c =
     let start = c .before .before .before .before .before .before .before .before .before .before in
     let a = start .args in
     let row = c .before .before .take-near in
-    let there : l .k * body-wide + body-wide ≤ length (a .s .now) = omega arith in
-    let room : length (after (a .s .now) (rowsOf row-wide (a .n) (a .t .now)) (l .k + 1)) * row-wide ≤ length (a .t .now) =
-    omega (arith, after-rises (a .s .now) (rowsOf row-wide (a .n) (a .t .now)) (l .k + 1) (a .m) (omega arith), start .pre .1 .1) in (
+    let there : l .k * body-wide + body-wide ≤ length (a .bodies .now) = omega arith in
+    let room : length (after (a .bodies .now) (rowsOf row-wide (a .count) (a .table .now)) (l .k + 1)) * row-wide ≤ length (a .table .now) =
+    omega (arith, after-rises (a .bodies .now) (rowsOf row-wide (a .count) (a .table .now)) (l .k + 1) (a .updates) (omega arith), start .pre .1 .1) in (
       omega arith,
-      taking-next (a .s .now) (a .t .now) (a .n) (start .pre .0 .0) (l .k) (l .held) (l .t) (l .inv .1) there room (row .result) (row .last .0) (row .ensures .0) (row .ensures .1),
+      taking-next (a .bodies .now) (a .table .now) (a .count) (start .pre .0 .0) (l .k) (l .held) (l .table) (l .inv .1) there room (row .result) (row .last .0) (row .ensures .0) (row .ensures .1),
     )
 
 same-length : tie.Need-same-length Inv-loop μ-loop
 same-length c =
     let l = c .before .loop in
     let start = c .before .before .before .before .before in
-    taking-length (start .args .s .now) (start .args .t .now) (start .args .n) (start .pre .0 .0) (l .k) (l .held) (l .t) (l .inv .1)
+    taking-length (start .args .bodies .now) (start .args .table .now) (start .args .count) (start .pre .0 .0) (l .k) (l .held) (l .table) (l .inv .1)
 
 returns : tie.Need-returns Inv-loop μ-loop
 returns c =
     let l = c .before .loop in
     let start = c .before .before .before .before .before in
-    taking-end (start .args .s .now) (start .args .t .now) (start .args .n) (start .pre .0 .0) (l .k) (start .args .m) (l .held) (l .t) (omega arith) (l .inv .1)
+    taking-end (start .args .bodies .now) (start .args .table .now) (start .args .count) (start .pre .0 .0) (l .k) (start .args .updates) (l .held) (l .table) (omega arith) (l .inv .1)
 
 pub take-placed-spec : {M : Type 1} → statement M
 take-placed-spec =

@@ -18,7 +18,7 @@ take-placed-requires c κs =
     let start = c .before .before .before .before .before .before .before .before .before .before .before .before .before in
     let a = start .args in
     let p = start .pre in
-    let room = fits-room (a .n) (a .most) (after (a .s .now) (rowsOf row-wide (a .n) (a .t .now)) (a .m)) (a .t .now) _ (c .before .before .before .fits-with .ensures) (c .before .before .if1 .taken) (p .1 .1 .0) in
+    let room = fits-room (a .count) (a .most) (after (a .bodies .now) (rowsOf row-wide (a .count) (a .table .now)) (a .updates)) (a .table .now) _ (c .before .before .before .fits-with .ensures) (c .before .before .if1 .taken) (p .1 .1 .0) in
     ((p .0 .0, p .0 .1, omega arith), (p .1 .0, room))
 
 same-length : tie.Need-same-length
@@ -31,7 +31,7 @@ returns : tie.Need-returns
 returns c =
     let a = c .before .before .before .before .before .before .before .before .before .before .before .before .before .before .before .before .args in
     let took = c .before .before .take-placed in
-    fits-yes (a .n) (a .most) (after (a .s .now) (rowsOf row-wide (a .n) (a .t .now)) (a .m)) (a .t .now) _ (c .before .before .before .before .before .before .fits-with .ensures) (c .before .before .before .before .before .if1 .taken) (took .result) _ (took .ensures)
+    fits-yes (a .count) (a .most) (after (a .bodies .now) (rowsOf row-wide (a .count) (a .table .now)) (a .updates)) (a .table .now) _ (c .before .before .before .before .before .before .fits-with .ensures) (c .before .before .before .before .before .if1 .taken) (took .result) _ (took .ensures)
 
 same-length-3 : tie.Need-same-length-3
 same-length-3 c = search needs
@@ -42,7 +42,7 @@ same-length-4 c = search needs
 returns-2 : tie.Need-returns-2
 returns-2 c =
     let a = c .before .before .before .before .before .before .before .before .before .before .before .args in
-    fits-no (a .n) (a .most) (after (a .s .now) (rowsOf row-wide (a .n) (a .t .now)) (a .m)) (a .t .now) _ (c .before .fits-with .ensures) (c .if1 .left)
+    fits-no (a .count) (a .most) (after (a .bodies .now) (rowsOf row-wide (a .count) (a .table .now)) (a .updates)) (a .table .now) _ (c .before .fits-with .ensures) (c .if1 .left)
 
 pub take-tight-spec : {M : Type 1} → statement M
 take-tight-spec =

@@ -30,7 +30,7 @@ loop-holds c =
     let start = c .before .before .before .before .before .before .before .before in
     let a = start .args in
     let copied = c .before .before .copy-to in
-    trying-start (a .s .now) (a .t .now) (a .trial .now) (copied .last .0) (a .n) (a .m) (a .most) (start .pre) (copied .ensures)
+    trying-start (a .bodies .now) (a .table .now) (a .trial .now) (copied .last .0) (a .count) (a .updates) (a .most) (start .pre) (copied .ensures)
 
 mul-take-row : tie.Need-mul-take-row Inv-loop μ-loop
 mul-take-row c = search needs
@@ -41,7 +41,7 @@ take-row-requires c κs =
     let copied = c .before .before .before .before .before .copy-to in
     let start = c .before .before .before .before .before .before .before .before .before .before .before in
     let a = start .args in
-    trying-asked (a .s .now) (a .t .now) (a .trial .now) (copied .last .0) (a .n) (a .m) (a .most) (start .pre) (copied .ensures) (l .tried) (l .count) (l .trial) (c .before .loop-test .taken) (l .inv)
+    trying-asked (a .bodies .now) (a .table .now) (a .trial .now) (copied .last .0) (a .count) (a .updates) (a .most) (start .pre) (copied .ensures) (l .tried) (l .held) (l .trial) (c .before .loop-test .taken) (l .inv)
 
 same-length : tie.Need-same-length Inv-loop μ-loop
 same-length c = search needs
@@ -53,7 +53,7 @@ returns c =
     let copied = c .before .before .before .before .before .before .before .before .before .copy-to in
     let start = c .before .before .before .before .before .before .before .before .before .before .before .before .before .before .before in
     let a = start .args in
-    trying-over (a .s .now) (a .t .now) (a .trial .now) (copied .last .0) (a .n) (a .m) (a .most) (start .pre) (copied .ensures) (l .tried) (l .count) (l .trial)
+    trying-over (a .bodies .now) (a .table .now) (a .trial .now) (copied .last .0) (a .count) (a .updates) (a .most) (start .pre) (copied .ensures) (l .tried) (l .held) (l .trial)
     (c .before .before .before .before .before .loop-test .taken) (l .inv) (row .result) (row .last .0) (row .ensures) (c .if1 .taken)
 
 add-tried : tie.Need-add-tried Inv-loop μ-loop
@@ -69,7 +69,7 @@ loop-again c =
     let copied = c .before .before .before .before .before .before .before .before .before .copy-to in
     let start = c .before .before .before .before .before .before .before .before .before .before .before .before .before .before .before in
     let a = start .args in
-    trying-again (a .s .now) (a .t .now) (a .trial .now) (copied .last .0) (a .n) (a .m) (a .most) (start .pre) (copied .ensures) (l .tried) (l .count) (l .trial)
+    trying-again (a .bodies .now) (a .table .now) (a .trial .now) (copied .last .0) (a .count) (a .updates) (a .most) (start .pre) (copied .ensures) (l .tried) (l .held) (l .trial)
     (c .before .before .before .before .before .loop-test .taken) (l .inv) (row .result) (row .last .0) (row .ensures) (c .if1 .left)
 
 same-length-2 : tie.Need-same-length-2 Inv-loop μ-loop
@@ -81,7 +81,7 @@ returns-2 c =
     let copied = c .before .before .before .before .copy-to in
     let start = c .before .before .before .before .before .before .before .before .before .before in
     let a = start .args in
-    trying-end (a .s .now) (a .t .now) (a .trial .now) (copied .last .0) (a .n) (a .m) (a .most) (start .pre) (copied .ensures) (l .tried) (l .count) (l .trial) (c .loop-test .left) (l .inv)
+    trying-end (a .bodies .now) (a .table .now) (a .trial .now) (copied .last .0) (a .count) (a .updates) (a .most) (start .pre) (copied .ensures) (l .tried) (l .held) (l .trial) (c .loop-test .left) (l .inv)
 
 pub trial-fits-spec : {M : Type 1} → statement M
 trial-fits-spec =

@@ -10,7 +10,7 @@ use Rattle.book.specs.Rules.{bookRoom}
 use Rattle.book.proofs.SoundLaws.{room-within}
 use Rattle.calls.specs.declared.Answer.the-variants.{BookShort}
 use Rattle.calls.specs.Open.{roomToOpen}
-use Rattle.opening.specs.JoiningSteps.{fewer, pairs}
+use Rattle.opening.specs.inner.Joining.{fewer, stagedPairs}
 use Rattle.opening_write.proofs.StageLaws.{Opened, refused-with, book-short}
 use Rattle.lists.proofs.AreaLaws.{room-for}
 use Rattle.opening.proofs.AreaLaws.{most-within, few-joined, pairs-few}
@@ -53,10 +53,10 @@ join-requires c κs =
 -- ---- what joined
 
 abbrev joins : tie.Start → List (List ℕ)
-joins s = pairs (s .args .np) (s .args .passes .now) (s .args .nv) (s .args .validities .now)
+joins s = stagedPairs (s .args .times) (s .args .passes .now) (s .args .days) (s .args .validities .now)
 
-refused-requires : tie.Need-refused-requires
-refused-requires c κs = tt
+unchanged-requires : tie.Need-unchanged-requires
+unchanged-requires c κs = tt
 
 same-length : tie.Need-same-length
 same-length c = search needs
@@ -70,10 +70,10 @@ returns c =
     let f = j .before .before in
     let s = st f in
     let a = s .args in
-    refused-with (joins s) (a .book .now) (a .table .now) (a .c) BookShort _ refl
-    (book-short (joins s) (a .book .now) (a .table .now) (a .c)
-    (pairs-short (joins s) (f .fewer .result) (j .join .result) (j .join .ensures .0) (a .book .now) (a .np * a .nv) (long f) (pairs-few (a .np) (a .passes .now) (a .nv) (a .validities .now)) (s .pre .2) (most-is f)
-    (c .before .if1 .taken))) (c .refused .result) (c .refused .ensures)
+    refused-with (joins s) (a .book .now) (a .table .now) (a .counts) BookShort _ refl
+    (book-short (joins s) (a .book .now) (a .table .now) (a .counts)
+    (pairs-short (joins s) (f .fewer .result) (j .join .result) (j .join .ensures .0) (a .book .now) (a .times * a .days) (long f) (pairs-few (a .times) (a .passes .now) (a .days) (a .validities .now)) (s .pre .2) (most-is f)
+    (c .before .if1 .taken))) (c .unchanged .result) (c .unchanged .ensures)
 
 sort-and-write-requires : tie.Need-sort-and-write-requires
 sort-and-write-requires c κs =
@@ -103,9 +103,9 @@ returns-2 c =
     let a = s .args in
     let r =
     pairs-read (joins s) (f .fewer .result) (j .join .result) (j .join .ensures .0) _ (j .join .last .1 .1 .1 .1 .0) (j .join .ensures .1)
-    (wide-pairs (a .np) (a .passes .now) (a .nv) (a .validities .now) (s .pre .0) (s .pre .1)) (e .if1 .left) (few f .1) in
+    (wide-pairs (a .times) (a .passes .now) (a .days) (a .validities .now) (s .pre .0) (s .pre .1)) (e .if1 .left) (few f .1) in
     subst
-    (λ (k : List (List ℕ)). Opened (roomToOpen k (a .book .now) (a .table .now)) k (a .book .now) (a .table .now) (a .c) (w .sort-and-write .result) (w .sort-and-write .last .1 .1 .0) (w .sort-and-write .last .1 .1 .1 .0))
+    (λ (k : List (List ℕ)). Opened (roomToOpen k (a .book .now) (a .table .now)) k (a .book .now) (a .table .now) (a .counts) (w .sort-and-write .result) (w .sort-and-write .last .1 .1 .0) (w .sort-and-write .last .1 .1 .1 .0))
     r (w .sort-and-write .ensures)
 
 pub join-all-spec : {M : Type 1} → statement M
@@ -115,7 +115,7 @@ join-all-spec =
     book-room-requires
     fewer-requires
     join-requires
-    refused-requires
+    unchanged-requires
     same-length
     same-length-2
     returns

@@ -12,7 +12,7 @@ use Rattle.opening.proofs.join_fitting.Tie as tie
 mul-if1 : tie.Need-mul-if1
 mul-if1 c =
     let s = c .before .before .before .before in
-    let k = few-pairs (s .args .np) (s .args .nv) (s .pre .2) (s .pre .3) in
+    let k = few-pairs (s .args .times) (s .args .days) (s .pre .2) (s .pre .3) in
     omega arith
 
 -- ---- few pairs, each with room
@@ -23,7 +23,7 @@ slice-aggregate-join-all c = sym (length-replicate {A = ℕ} 42240 0)
 join-all-requires : tie.Need-join-all-requires
 join-all-requires c κs =
     let s = c .before .before .before .before .before .before .before .before in
-    let q = s .args .np * s .args .nv in
+    let q = s .args .times * s .args .days in
     (s .pre .0, s .pre .1, inl (made-room (q * 66) 42240 (few-fit q (c .before .before .before .if1 .taken))))
 
 same-length : tie.Need-same-length

@@ -4,7 +4,8 @@ use Prim.Native.Nat.{ℕ, _*_}
 use native.Mathlib.Omega.{arith}
 use lib.ListN.{length, length-replicate}
 use Rattle.reader.proofs.AnswerLaws.{planning-few, calendar-few}
-use Rattle.opening.specs.Steps.{HoldsPasses, HoldsValidities}
+use Rattle.calls.proofs.NumbersLaws.{open-told}
+use Rattle.opening.specs.inner.Steps.{HoldsPasses, HoldsValidities}
 use Rattle.lists.proofs.AreaLaws.{made-room}
 use Rattle.opening.proofs.AreaLaws.{both-within}
 use Rattle.opening.proofs.open.Statement.{statement}
@@ -49,7 +50,10 @@ same-length-2 : tie.Need-same-length-2
 same-length-2 c = c .before .before .before .before .before .before .open-by .kept .1 .1 .1 .1 .1 .0
 
 returns : tie.Need-returns
-returns c = c .before .before .before .before .before .before .open-by .ensures
+returns c =
+    let o = c .before .before .before .before .before .before in
+    let a = st (o .before .before .before .before .before) .args in
+    open-told (a .planning .now) (a .calendar .now) (a .book .now) (a .table .now) (a .counts) _ _ _ (o .open-by .ensures)
 
 -- ---- any dossiers
 
@@ -71,7 +75,10 @@ same-length-4 : tie.Need-same-length-4
 same-length-4 c = c .before .before .before .before .before .before .open-by2 .kept .1 .1 .1 .1 .1 .0
 
 returns-2 : tie.Need-returns-2
-returns-2 c = c .before .before .before .before .before .before .open-by2 .ensures
+returns-2 c =
+    let o = c .before .before .before .before .before .before in
+    let a = o .before .before .before .before .before .before .before .before .before .before .args in
+    open-told (a .planning .now) (a .calendar .now) (a .book .now) (a .table .now) (a .counts) _ _ _ (o .open-by2 .ensures)
 
 pub open-spec : {M : Type 1} → statement M
 open-spec =

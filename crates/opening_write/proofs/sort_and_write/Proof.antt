@@ -22,7 +22,7 @@ slice-aggregate-sort-keys : tie.Need-slice-aggregate-sort-keys
 slice-aggregate-sort-keys c = search needs
 
 -- the book has room for at most 4,401
-few : (s : tie.Start) → s .args .n ≤ 4401
+few : (s : tie.Start) → s .args .count ≤ 4401
 few s = let m = room-within (s .args .book .now) .1 in omega arith
 
 sort-keys-requires : tie.Need-sort-keys-requires
@@ -34,17 +34,17 @@ abbrev st : tie.After-order2 → tie.Start
 st o = o .before .before .before .before .before .before
 
 abbrev bodies : tie.Start → List (List ℕ)
-bodies s = rowsOf body-wide (s .args .n) (s .args .bodies .now)
+bodies s = rowsOf body-wide (s .args .count) (s .args .bodies .now)
 
-counted : (s : tie.Start) → length (bodies s) ≡ s .args .n
-counted s = length-rowsOf body-wide (s .args .n) (s .args .bodies .now)
+counted : (s : tie.Start) → length (bodies s) ≡ s .args .count
+counted s = length-rowsOf body-wide (s .args .count) (s .args .bodies .now)
 
 fits : (s : tie.Start) → length (bodies s) * plan-wide ≤ bookRoom (s .args .book .now)
 fits s = rw (counted s) (s .pre .1)
 
 -- how many keys there are
 distinct : (o : tie.After-order2) → o .before .sort-keys .result ≡ length (putAll (bodies (st o)) [])
-distinct o = o .before .sort-keys .ensures .0 ∙ distinct-count (st o .args .bodies .now) (st o .args .n)
+distinct o = o .before .sort-keys .ensures .0 ∙ distinct-count (st o .args .bodies .now) (st o .args .count)
 
 -- each key once
 abbrev sorted : tie.Else1 → tie.After-order2
@@ -53,14 +53,14 @@ sorted e = e .before .before .before
 all : (e : tie.Else1) → length (putAll (bodies (st (sorted e))) []) ≡ length (bodies (st (sorted e)))
 all e = sym (distinct (sorted e)) ∙ e .if1 .left ∙ sym (counted (st (sorted e)))
 
-all-places : (e : tie.Else1) → length (js (st (sorted e) .args .bodies .now) (st (sorted e) .args .n)) ≡ st (sorted e) .args .n
+all-places : (e : tie.Else1) → length (js (st (sorted e) .args .bodies .now) (st (sorted e) .args .count)) ≡ st (sorted e) .args .count
 all-places e = sym (sorted e .before .sort-keys .ensures .0) ∙ e .if1 .left
 
 rows-room-requires : tie.Need-rows-room-requires
 rows-room-requires c κs = search needs
 
-refused-requires : tie.Need-refused-requires
-refused-requires c κs = search needs
+unchanged-requires : tie.Need-unchanged-requires
+unchanged-requires c κs = search needs
 
 same-length : tie.Need-same-length
 same-length c = search needs
@@ -69,12 +69,12 @@ returns : tie.Need-returns
 returns c =
     let o = c .before .before .before .before in
     let a = st o .args in
-    let d : o .before .sort-keys .result ≡ a .n → ⊥ = c .before .if1 .taken in
-    refused-with (bodies (st o)) (a .book .now) (a .table .now) (a .c) KeyTwice _ refl
-    (key-twice (bodies (st o)) (a .book .now) (a .table .now) (a .c) (fits (st o)) (λ e. d (distinct o ∙ e ∙ counted (st o)))) (c .refused .result) (c .refused .ensures)
+    let d : o .before .sort-keys .result ≡ a .count → ⊥ = c .before .if1 .taken in
+    refused-with (bodies (st o)) (a .book .now) (a .table .now) (a .counts) KeyTwice _ refl
+    (key-twice (bodies (st o)) (a .book .now) (a .table .now) (a .counts) (fits (st o)) (λ e. d (distinct o ∙ e ∙ counted (st o)))) (c .unchanged .result) (c .unchanged .ensures)
 
-refused-requires-2 : tie.Need-refused-requires-2
-refused-requires-2 c κs = search needs
+unchanged-requires-2 : tie.Need-unchanged-requires-2
+unchanged-requires-2 c κs = search needs
 
 same-length-2 : tie.Need-same-length-2
 same-length-2 c = search needs
@@ -86,8 +86,8 @@ returns-2 c =
     let a = s .args in
     let k = counted s in
     let m = e .before .rows-room .ensures in
-    refused-with (bodies s) (a .book .now) (a .table .now) (a .c) TableShort _ refl
-    (table-short (bodies s) (a .book .now) (a .table .now) (a .c) (fits s) (all e) (omega arith)) (c .refused2 .result) (c .refused2 .ensures)
+    refused-with (bodies s) (a .book .now) (a .table .now) (a .counts) TableShort _ refl
+    (table-short (bodies s) (a .book .now) (a .table .now) (a .counts) (fits s) (all e) (omega arith)) (c .unchanged2 .result) (c .unchanged2 .ensures)
 
 slice-aggregate-write-plan : tie.Need-slice-aggregate-write-plan
 slice-aggregate-write-plan c = search needs
@@ -100,7 +100,7 @@ write-plan-requires c κs =
     let l = k .kept .1 .1 .1 .1 .0 in
     let f = few s in
     let m = room-within (s .args .book .now) .0 in
-    ((omega arith, s .pre .0, omega arith), places-each (s .args .bodies .now) (s .args .n) (all-places e) _ _ (k .ensures .1) f)
+    ((omega arith, s .pre .0, omega arith), places-each (s .args .bodies .now) (s .args .count) (all-places e) _ _ (k .ensures .1) f)
 
 slice-aggregate-write-rows : tie.Need-slice-aggregate-write-rows
 slice-aggregate-write-rows c = search needs
@@ -114,10 +114,13 @@ write-rows-requires c κs =
     let f = few s in
     let m = room-fits (s .args .table .now) in
     let r = e .before .rows-room .ensures in
-    ((omega arith, s .pre .0, omega arith), places-each (s .args .bodies .now) (s .args .n) (all-places e) _ _ (k .ensures .1) f)
+    ((omega arith, s .pre .0, omega arith), places-each (s .args .bodies .now) (s .args .count) (all-places e) _ _ (k .ensures .1) f)
 
-mul-used : tie.Need-mul-used
-mul-used c = search needs
+mul-accepted : tie.Need-mul-accepted
+mul-accepted c = search needs
+
+accepted-requires : tie.Need-accepted-requires
+accepted-requires c κs = search needs
 
 same-length-3 : tie.Need-same-length-3
 same-length-3 c = search needs
@@ -127,15 +130,15 @@ same-length-4 c = search needs
 
 returns-3 : tie.Need-returns-3
 returns-3 c =
-    let w = c .before .before .before .before .before .before .before in
+    let w = c .before .before .before .before .before .before .before .before in
     let e = w .before .before .before .before in
     let s = st (sorted e) in
     let a = s .args in
     let k = counted s in
     let r = e .before .rows-room .ensures in
-    accepted-with (bodies s) (a .book .now) (a .table .now) (a .c) _ (a .n) _ (w .write-plan .last .0) (c .before .before .write-rows .last .0)
-    (accepted (bodies s) (a .book .now) (a .table .now) (a .c) (fits s) (all e) (omega arith)) (all e ∙ k)
-    (plan-read (a .bodies .now) (a .n) (all-places e) _ _ (sorted e .before .sort-keys .ensures .1) (few s)) (w .write-plan .ensures) (c .before .before .write-rows .ensures)
+    accepted-with (bodies s) (a .book .now) (a .table .now) (a .counts) _ (a .count) _ (c .accepted .result) (w .write-plan .last .0) (c .before .before .before .write-rows .last .0)
+    (accepted (bodies s) (a .book .now) (a .table .now) (a .counts) (fits s) (all e) (omega arith)) (all e ∙ k)
+    (plan-read (a .bodies .now) (a .count) (all-places e) _ _ (sorted e .before .sort-keys .ensures .1) (few s)) (c .accepted .ensures) (w .write-plan .ensures) (c .before .before .before .write-rows .ensures)
 
 pub sort-and-write-spec : {M : Type 1} → statement M
 sort-and-write-spec =
@@ -144,17 +147,18 @@ sort-and-write-spec =
     slice-aggregate-sort-keys
     sort-keys-requires
     rows-room-requires
-    refused-requires
+    unchanged-requires
     same-length
     returns
-    refused-requires-2
+    unchanged-requires-2
     same-length-2
     returns-2
     slice-aggregate-write-plan
     write-plan-requires
     slice-aggregate-write-rows
     write-rows-requires
-    mul-used
+    mul-accepted
+    accepted-requires
     same-length-3
     same-length-4
     returns-3)

@@ -38,14 +38,14 @@ below c = place-below (started c .args .n) _ (started c .args .order .now) (star
 cast-j : tie.Need-cast-j Inv-loop μ-loop
 cast-j c = let b = below c in search needs
 
-mul-write-entry : tie.Need-mul-write-entry Inv-loop μ-loop
-mul-write-entry c = search needs
+mul-write-plan-entry : tie.Need-mul-write-plan-entry Inv-loop μ-loop
+mul-write-plan-entry c = search needs
 
-mul-write-entry-2 : tie.Need-mul-write-entry-2 Inv-loop μ-loop
-mul-write-entry-2 c = let b = below (c .before) in search needs
+mul-write-plan-entry-2 : tie.Need-mul-write-plan-entry-2 Inv-loop μ-loop
+mul-write-plan-entry-2 c = let b = below (c .before) in search needs
 
-write-entry-requires : tie.Need-write-entry-requires Inv-loop μ-loop
-write-entry-requires c κs = let b = below (c .before) in (search needs, search needs)
+write-plan-entry-requires : tie.Need-write-plan-entry-requires Inv-loop μ-loop
+write-plan-entry-requires c κs = let b = below (c .before) in (search needs, search needs)
 
 add-i : tie.Need-add-i Inv-loop μ-loop
 add-i c = search needs
@@ -60,7 +60,7 @@ loop-again c =
     let s = w .before .before .before .before .before .before .before .before in
     let a = s .args in
     let t =
-    w .write-entry .ensures ∙ write-turn planEntry _ length-entry (a .n) (a .bodies .now) (a .order .now) (s .pre .0 .1) (l .i) (a .book .now) (l .book) (l .inv .2) (omega arith) (s .pre .0 .2) (s .pre .1) in
+    w .write-plan-entry .ensures ∙ write-turn planEntry _ length-entry (a .n) (a .bodies .now) (a .order .now) (s .pre .0 .1) (l .i) (a .tail .now) (l .tail) (l .inv .2) (omega arith) (s .pre .0 .2) (s .pre .1) in
     (search needs, ap length t ∙ length-over _ _ _, t)
 
 same-length : tie.Need-same-length Inv-loop μ-loop
@@ -70,7 +70,7 @@ returns : tie.Need-returns Inv-loop μ-loop
 returns c =
     let a = c .before .before .before .before .before .args in
     let e : c .before .loop .i ≡ a .n = omega arith in
-    c .before .loop .inv .2 ∙ ap (λ (k : ℕ). over 0 (written planEntry (a .bodies .now) (take k (a .order .now))) (a .book .now)) e
+    c .before .loop .inv .2 ∙ ap (λ (k : ℕ). over 0 (written planEntry (a .bodies .now) (take k (a .order .now))) (a .tail .now)) e
 
 pub write-plan-spec : {M : Type 1} → statement M
 write-plan-spec =
@@ -82,9 +82,9 @@ write-plan-spec =
     mul-j
     shared-slice-read-j
     cast-j
-    mul-write-entry
-    mul-write-entry-2
-    write-entry-requires
+    mul-write-plan-entry
+    mul-write-plan-entry-2
+    write-plan-entry-requires
     add-i
     loop-less
     loop-again

@@ -3,6 +3,7 @@ use native.Mathlib.Omega.{arith}
 use mathlib.Core.Path.{_≡_}
 use mathlib.Core.Bool.{not}
 use lib.ListN.{take}
+use Rattle.plan.specs.inner.Look.{shared-wide}
 use borrow.Author.Needs.{needs}
 use Rattle.lists.specs.Text.{same}
 use Rattle.lists.specs.Part.{part}
@@ -11,13 +12,13 @@ use Rattle.plan.proofs.begins_with.Statement.{statement}
 use Rattle.plan.proofs.begins_with.Tie as tie
 
 abbrev Inv-loop : tie.InvT-loop
-Inv-loop shared validities q any₀ i₀ any i = (i ≤ 20) × (any ≡ not (same (take i shared) (part q i validities)))
+Inv-loop shared validities q any₀ i₀ any i = (i ≤ shared-wide) × (any ≡ not (same (take i shared) (part q i validities)))
 
 abbrev μ-loop : tie.MeasureT-loop
-μ-loop shared validities q any₀ i₀ any i = 20 - i
+μ-loop shared validities q any₀ i₀ any i = shared-wide - i
 
 loop-holds : tie.Need-loop-holds Inv-loop μ-loop
-loop-holds c = let a = c .args in (omega arith, differ-start (a .q) (a .shared .now) (a .validities .now))
+loop-holds c = let a = c .args in (omega arith, differ-start (a .validity) (a .shared .now) (a .validities .now))
 
 shared-slice-read-any : tie.Need-shared-slice-read-any Inv-loop μ-loop
 shared-slice-read-any c = search needs
@@ -38,13 +39,13 @@ loop-again : tie.Need-loop-again Inv-loop μ-loop
 loop-again c =
     let l = c .before .before .before .loop in
     let a = c .before .before .before .before .args in
-    (omega arith, differ-turn (a .q) (a .shared .now) (a .validities .now) (l .i) (l .any) (l .inv .1) (omega arith) (omega arith))
+    (omega arith, differ-turn (a .validity) (a .shared .now) (a .validities .now) (l .i) (l .any) (l .inv .1) (omega arith) (omega arith))
 
 returns : tie.Need-returns Inv-loop μ-loop
 returns c =
     let l = c .before .loop in
     let a = c .before .before .args in
-    differ-end (a .q) (a .shared .now) (a .validities .now) (l .i) 20 (l .any) (l .inv .1) (omega arith) (c .before .before .pre .0)
+    differ-end (a .validity) (a .shared .now) (a .validities .now) (l .i) shared-wide (l .any) (l .inv .1) (omega arith) (c .before .before .pre .0)
 
 pub begins-with-spec : {M : Type 1} → statement M
 begins-with-spec =

@@ -30,8 +30,8 @@ same-length c = search needs
 returns : tie.Need-returns
 returns c =
     let a = c .before .before .before .before .before .before .before .args in
-    let e : a .p + a .n - a .p ≡ a .n = omega arith in
-    c .before .before .copy-to .ensures ∙ ap (λ (l : List ℕ). over (a .at) l (a .out .now)) (ap (λ (k : ℕ). take k (drop (a .p) (a .s .now))) e ∙ sym (part-is (a .p) (a .n) (a .s .now)))
+    let e : a .from + a .count - a .from ≡ a .count = omega arith in
+    c .before .before .copy-to .ensures ∙ ap (λ (l : List ℕ). over (a .at) l (a .out .now)) (ap (λ (k : ℕ). take k (drop (a .from) (a .bytes .now))) e ∙ sym (part-is (a .from) (a .count) (a .bytes .now)))
 
 pub copy-part-spec : {M : Type 1} → statement M
 copy-part-spec =

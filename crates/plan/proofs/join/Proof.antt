@@ -16,7 +16,7 @@ abbrev μ-loop : tie.MeasureT-loop
 loop-holds : tie.Need-loop-holds Inv-loop μ-loop
 loop-holds c =
     let a = c .before .before .before .args in
-    (refl, omega arith, omega arith, plan-start (a .passes .now) (a .validities .now) (a .np) (a .nv) (a .most) (a .out .now))
+    (refl, omega arith, omega arith, plan-start (a .passes .now) (a .validities .now) (a .times) (a .days) (a .most) (a .out .now))
 
 mul-join-one : tie.Need-mul-join-one Inv-loop μ-loop
 mul-join-one c = search needs
@@ -33,7 +33,7 @@ returns c =
     let a = z .args in
     let l = c .before .before .before .before .before .before .loop in
     let j = c .before .before .before .join-one in
-    plan-full (a .passes .now) (a .validities .now) (a .np) (a .nv) (a .most) (a .out .now) (z .pre .0) (z .pre .1) (l .out) (l .k) (l .i) (l .inv .3) (c .before .before .before .before .before .loop-test .taken) (j .result) (j .last .1 .1 .1 .1 .0) (j .ensures .0) (j .ensures .1) (c .if1 .taken)
+    plan-full (a .passes .now) (a .validities .now) (a .times) (a .days) (a .most) (a .out .now) (z .pre .0) (z .pre .1) (l .out) (l .k) (l .i) (l .inv .3) (c .before .before .before .before .before .loop-test .taken) (j .result) (j .last .1 .1 .1 .1 .0) (j .ensures .0) (j .ensures .1) (c .if1 .taken)
 
 add-i : tie.Need-add-i Inv-loop μ-loop
 add-i c = search needs
@@ -48,7 +48,7 @@ loop-again c =
     let l = c .before .before .before .before .before .before .loop in
     let j = c .before .before .before .join-one in
     let g =
-    plan-turn (a .passes .now) (a .validities .now) (a .np) (a .nv) (a .most) (a .out .now) (z .pre .0) (z .pre .1) (l .out) (l .k) (l .i) (l .inv .3) (c .before .before .before .before .before .loop-test .taken) (j .result) (j .last .1 .1 .1 .1 .0) (j .ensures .0) (j .ensures .1) (c .if1 .left) in
+    plan-turn (a .passes .now) (a .validities .now) (a .times) (a .days) (a .most) (a .out .now) (z .pre .0) (z .pre .1) (l .out) (l .k) (l .i) (l .inv .3) (c .before .before .before .before .before .loop-test .taken) (j .result) (j .last .1 .1 .1 .1 .0) (j .ensures .0) (j .ensures .1) (c .if1 .left) in
     (j .kept .1 .1 .1 .1 .0 ∙ l .inv .0, g .within, g .few, g)
 
 same-length-2 : tie.Need-same-length-2 Inv-loop μ-loop
@@ -58,7 +58,7 @@ returns-2 : tie.Need-returns-2 Inv-loop μ-loop
 returns-2 c =
     let a = c .before .before .before .before .before .args in
     let l = c .before .loop in
-    plan-end (a .passes .now) (a .validities .now) (a .np) (a .nv) (a .most) (a .out .now) (l .out) (l .k) (l .i) (l .inv .3) (c .loop-test .left)
+    plan-end (a .passes .now) (a .validities .now) (a .times) (a .days) (a .most) (a .out .now) (l .out) (l .k) (l .i) (l .inv .3) (c .loop-test .left)
 
 pub join-spec : {M : Type 1} → statement M
 join-spec =

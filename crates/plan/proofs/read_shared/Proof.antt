@@ -19,7 +19,7 @@ returns : tie.Need-returns
 returns c =
     let z = c .before .before .before .before .before .before .before .before .before .before in
     let a = z .args in
-    shared-written (a .p) (a .passes .now) (a .shared .now) _ _ (z .pre .1) (z .pre .0) (c .before .before .before .before .before .before .copy-part .ensures) (c .before .before .copy-part2 .ensures)
+    shared-written (a .pass) (a .passes .now) (a .shared .now) _ _ (z .pre .1) (z .pre .0) (c .before .before .before .before .before .before .copy-part .ensures) (c .before .before .copy-part2 .ensures)
 
 pub read-shared-spec : {M : Type 1} → statement M
 read-shared-spec =

@@ -31,7 +31,7 @@ returns : tie.Need-returns
 returns c =
     let z = c .before .before .before .before .before .before .before .before .before .before .before .before .before .before .before in
     let a = z .args in
-    key-written (a .at) (a .p) (a .passes .now) (z .pre .1) (a .out .now) (a .q) (a .validities .now) (z .pre .2) _ _ _
+    key-written (a .at) (a .pass) (a .passes .now) (z .pre .1) (a .out .now) (a .validity) (a .validities .now) (z .pre .2) _ _ _
     (c .before .before .before .before .before .before .before .before .before .before .copy-part .ensures)
     (c .before .before .before .before .before .before .copy-part2 .ensures)
     (c .before .before .copy-part3 .ensures)

@@ -12,6 +12,9 @@ shared-slice-read-t8 c = search needs
 add-copy-part : tie.Need-add-copy-part
 add-copy-part c = search needs
 
+add-copy-part-2 : tie.Need-add-copy-part-2
+add-copy-part-2 c = search needs
+
 copy-part-requires : tie.Need-copy-part-requires
 copy-part-requires c κs = search needs
 
@@ -21,11 +24,11 @@ add-clear c = search needs
 clear-requires : tie.Need-clear-requires
 clear-requires c κs = search needs
 
-add-copy-part-2 : tie.Need-add-copy-part-2
-add-copy-part-2 c = search needs
-
 add-copy-part-3 : tie.Need-add-copy-part-3
 add-copy-part-3 c = search needs
+
+add-copy-part-4 : tie.Need-add-copy-part-4
+add-copy-part-4 c = search needs
 
 copy-part-requires-2 : tie.Need-copy-part-requires-2
 copy-part-requires-2 c κs = search needs
@@ -46,7 +49,7 @@ returns : tie.Need-returns
 returns c =
     let z = c .before .before .before .before .before .before .before .before .before .before .before .before .before .before .before .before .before .before .before .before in
     let a = z .args in
-    rest-written (a .at) (a .p) (a .passes .now) (z .pre .1) (a .out .now) _ _ _ _
+    rest-written (a .at) (a .pass) (a .passes .now) (z .pre .1) (a .out .now) _ _ _ _
     (c .before .before .before .before .before .before .before .before .before .before .before .before .before .before .before .copy-part .ensures)
     (c .before .before .before .before .before .before .before .before .before .before .before .clear .ensures)
     (c .before .before .before .before .before .before .before .copy-part2 .ensures)
@@ -59,11 +62,12 @@ write-rest-spec =
     add-t6
     shared-slice-read-t8
     add-copy-part
+    add-copy-part-2
     copy-part-requires
     add-clear
     clear-requires
-    add-copy-part-2
     add-copy-part-3
+    add-copy-part-4
     copy-part-requires-2
     add-copy-to
     slice-aggregate-copy-to

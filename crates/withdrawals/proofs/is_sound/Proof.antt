@@ -13,12 +13,12 @@ table-is-sound-requires c κs = search needs
 returns : tie.Need-returns
 returns c =
     let a = c .before .before .before .before .before .args in
-    sound-book (a .book .now) (a .table .now) (a .c) _ (sym (c .before .before .book-is-sound .ensures) ∙ c .before .if1 .taken) (c .table-is-sound .ensures)
+    sound-book (a .book .now) (a .table .now) (a .counts) _ (sym (c .before .before .book-is-sound .ensures) ∙ c .before .if1 .taken) (c .table-is-sound .ensures)
 
 returns-2 : tie.Need-returns-2
 returns-2 c =
     let a = c .before .before .before .before .args in
-    unsound-book (a .book .now) (a .table .now) (a .c) (sym (c .before .book-is-sound .ensures) ∙ c .if1 .left)
+    unsound-book (a .book .now) (a .table .now) (a .counts) (sym (c .before .book-is-sound .ensures) ∙ c .if1 .left)
 
 pub is-sound-spec : {M : Type 1} → statement M
 is-sound-spec =

@@ -1,7 +1,7 @@
 use Prim.Native.Nat.{_*_}
 use native.Mathlib.Omega.{arith}
 use borrow.Author.Needs.{needs}
-use Rattle.withdrawals_replay.specs.Slots.{slot-wide}
+use Rattle.withdrawals_replay.specs.inner.Slots.{slot-wide}
 use Rattle.withdrawals.proofs.RoomLaws.{sound-parts}
 use Rattle.withdrawals.proofs.WorkLaws.{few}
 use Rattle.withdrawals.proofs.rework_all.Statement.{statement}
@@ -11,7 +11,7 @@ rework-in-requires : tie.Need-rework-in-requires
 rework-in-requires c κs =
     let start = c .before .before .before .before .before .before in
     let a = start .args in
-    let k = few (a .c .used) (a .at) (a .m) (a .book .now) (sound-parts (a .book .now) (a .table .now) (a .c) (start .pre .0) .0) (start .pre .1 .within) in
+    let k = few (a .counts .used) (a .at) (a .count) (a .book .now) (sound-parts (a .book .now) (a .table .now) (a .counts) (start .pre .0) .0) (start .pre .1 .within) in
     let order = c .before .rework-in-arg3 .given in
     let slots = c .rework-in-arg4 .given in
     (start .pre .0, (start .pre .1, (omega arith, omega arith)))

@@ -1,7 +1,7 @@
 use Prim.Native.Nat.{_*_}
 use native.Mathlib.Omega.{arith}
 use borrow.Author.Needs.{needs}
-use Rattle.withdrawals_replay.specs.Slots.{slot-wide}
+use Rattle.withdrawals_replay.specs.inner.Slots.{slot-wide}
 use Rattle.lists.proofs.AreaLaws.{made-room}
 use Rattle.withdrawals.proofs.rework_few.Statement.{statement}
 use Rattle.withdrawals.proofs.rework_few.Tie as tie
@@ -17,7 +17,7 @@ rework-in-requires c κs =
     let start = c .before .before .before .before .before .before in
     let a = start .args in
     let few = start .pre .0 in
-    (start .pre .1 .0, (start .pre .1 .1, (made-room (a .m) 64 few, made-room (a .m * slot-wide) 4352 (omega arith))))
+    (start .pre .1 .0, (start .pre .1 .1, (made-room (a .count) 64 few, made-room (a .count * slot-wide) 4352 (omega arith))))
 
 same-length : tie.Need-same-length
 same-length c = search needs

@@ -12,16 +12,16 @@ work-out-requires : tie.Need-work-out-requires
 work-out-requires c κs =
     let start = c .before .before .before .before .before .before .before in
     let a = start .args in
-    (sound-parts (a .book .now) (a .table .now) (a .c) (start .pre .0) .0, (start .pre .1 .0 .within, start .pre .1 .1 .0, start .pre .1 .1 .1))
+    (sound-parts (a .book .now) (a .table .now) (a .counts) (start .pre .0) .0, (start .pre .1 .0 .within, start .pre .1 .1 .0, start .pre .1 .1 .1))
 
 -- the slots are worked out
 worked : (c : tie.After-work-out) →
     let a = c .before .before .before .before .before .before .before .before .args in
-    Worked (a .number) (a .c .used) (a .book .now) (a .at) (a .m) (a .c .rows) (a .table .now) (c .work-out .result) (c .work-out .last .1 .1 .1 .1 .1 .1 .0)
+    Worked (a .number) (a .counts .used) (a .book .now) (a .at) (a .count) (a .counts .rows) (a .table .now) (c .work-out .result) (c .work-out .last .1 .1 .1 .1 .1 .1 .0)
 worked c =
     let start = c .before .before .before .before .before .before .before .before in
     let a = start .args in
-    let sound = sound-parts (a .book .now) (a .table .now) (a .c) (start .pre .0) in
+    let sound = sound-parts (a .book .now) (a .table .now) (a .counts) (start .pre .0) in
     record {
       sound = sound .0;
       tables = sound .1;
@@ -35,23 +35,26 @@ fits-after-requires c κs =
     let a = c .before .before .before .before .before .before .before .before .before .before .before .before .before .before .args in
     let x = worked (c .before .before .before .before .before .before) in
     let k = names-most x in
-    ((sound-fits (a .c .rows) (a .table .now) (x .tables), omega arith, sound-most (a .c .rows) (a .table .now) (x .tables), names-few x), sound-sorted (a .c .rows) (a .table .now) (x .tables))
+    ((sound-fits (a .counts .rows) (a .table .now) (x .tables), omega arith, sound-most (a .counts .rows) (a .table .now) (x .tables), names-few x), sound-sorted (a .counts .rows) (a .table .now) (x .tables))
 
 settle-requires : tie.Need-settle-requires
 settle-requires c κs =
     let a = c .before .before .before .before .before .before .before .before .before .before .before .before .before .before .before .before .before .before .args in
     let x = worked (c .before .before .before .before .before .before .before .before .before .before) in
     let k = names-most x in
-    ((sound-fits (a .c .rows) (a .table .now) (x .tables), omega arith, rows-fit x (room-there x (sym (c .before .before .before .fits-after .ensures) ∙ c .before .before .if1 .taken))), sound-sorted (a .c .rows) (a .table .now) (x .tables))
+    ((sound-fits (a .counts .rows) (a .table .now) (x .tables), omega arith, rows-fit x (room-there x (sym (c .before .before .before .fits-after .ensures) ∙ c .before .before .if1 .taken))), sound-sorted (a .counts .rows) (a .table .now) (x .tables))
 
 mark-withdrawn-requires : tie.Need-mark-withdrawn-requires
 mark-withdrawn-requires c κs =
     let start = c .before .before .before .before .before .before .before .before .before .before .before .before .before .before .before .before .before .before .before .before .before .before in
     let a = start .args in
-    let sound = sound-parts (a .book .now) (a .table .now) (a .c) (start .pre .0) in
-    let u = used-within (a .c .used) (a .book .now) (sound-facts (a .c .used) (a .book .now) (sound .0)) .0 in
+    let sound = sound-parts (a .book .now) (a .table .now) (a .counts) (start .pre .0) in
+    let u = used-within (a .counts .used) (a .book .now) (sound-facts (a .counts .used) (a .book .now) (sound .0)) .0 in
     let w = start .pre .1 .0 .within in
     omega arith
+
+accepted-requires : tie.Need-accepted-requires
+accepted-requires c κs = search needs
 
 same-length : tie.Need-same-length
 same-length c = search needs
@@ -67,14 +70,17 @@ same-length-4 c = search needs
 
 returns : tie.Need-returns
 returns c =
-    let start = c .before .before .before .before .before .before .before .before .before .before .before .before .before .before .before .before .before .before .before .before .before .before .before .before .before in
+    let done = c .before .before .before .before .before .before .before in
+    let test = done .before .before .before .before in
+    let out = test .before .before .before .before .before .before .before in
+    let start = out .before .before .before .before .before .before .before .before in
     let a = start .args in
-    let x = worked (c .before .before .before .before .before .before .before .before .before .before .before .before .before .before .before .before .before) in
-    let settled = c .before .before .before .before .before .before .settle in
-    room-taken (a .number) (a .book .now) (a .table .now) (a .c) (settled .result) _ _ (room-there x (sym (c .before .before .before .before .before .before .before .before .before .before .fits-after .ensures) ∙ c .before .before .before .before .before .before .before .before .before .if1 .taken)) (rw (rows-are x) at (settled .ensures .0)) (c .before .before .mark-withdrawn .ensures ∙ start .pre .1 .0 .marks) (rows-stored x _ (settled .ensures .1))
+    let x = worked out in
+    room-taken (a .number) (a .book .now) (a .table .now) (a .counts) _ (done .settle .result) _ _ (room-there x (sym (test .fits-after .ensures) ∙ done .before .before .before .if1 .taken))
+    (c .accepted .ensures) (rw (rows-are x) at (done .settle .ensures .0)) (c .before .before .before .mark-withdrawn .ensures ∙ start .pre .1 .0 .marks) (rows-stored x _ (done .settle .ensures .1))
 
-refused-requires : tie.Need-refused-requires
-refused-requires c κs = search needs
+unchanged-requires : tie.Need-unchanged-requires
+unchanged-requires c κs = search needs
 
 same-length-5 : tie.Need-same-length-5
 same-length-5 c = search needs
@@ -91,7 +97,7 @@ same-length-8 c = search needs
 returns-2 : tie.Need-returns-2
 returns-2 c =
     let a = c .before .before .before .before .before .before .before .before .before .before .before .before .before .before .before .before .before .args in
-    room-refused (a .number) (a .book .now) (a .table .now) (a .c) _ (room-short (worked (c .before .before .before .before .before .before .before .before .before)) (sym (c .before .before .fits-after .ensures) ∙ c .before .if1 .left)) (c .refused .ensures)
+    room-refused (a .number) (a .book .now) (a .table .now) (a .counts) _ (room-short (worked (c .before .before .before .before .before .before .before .before .before)) (sym (c .before .before .fits-after .ensures) ∙ c .before .if1 .left)) (c .unchanged .ensures)
 
 pub rework-in-spec : {M : Type 1} → statement M
 rework-in-spec =
@@ -101,12 +107,13 @@ rework-in-spec =
     fits-after-requires
     settle-requires
     mark-withdrawn-requires
+    accepted-requires
     same-length
     same-length-2
     same-length-3
     same-length-4
     returns
-    refused-requires
+    unchanged-requires
     same-length-5
     same-length-6
     same-length-7

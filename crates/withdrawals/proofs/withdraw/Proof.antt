@@ -1,5 +1,6 @@
 use mathlib.Core.Path.{refl, sym, _∙_}
 use borrow.Author.Needs.{needs}
+use Rattle.calls.proofs.NumbersLaws.{withdraw-told}
 use Rattle.calls.specs.declared.Answer.the-variants.{Unsound}
 use Rattle.withdrawals.proofs.AnswerLaws.{refused-all, not-sound}
 use Rattle.withdrawals.proofs.withdraw.Statement.{statement}
@@ -18,10 +19,13 @@ same-length-2 : tie.Need-same-length-2
 same-length-2 c = search needs
 
 returns : tie.Need-returns
-returns c = search needs
+returns c =
+    let w = c .before .before .before .before in
+    let a = w .before .before .before .before .before .before .before .before .before .args in
+    withdraw-told (a .number) (a .sender) (a .book .now) (a .table .now) (a .counts) _ _ _ (w .withdraw-sound .ensures)
 
-refused-requires : tie.Need-refused-requires
-refused-requires c κs = search needs
+unchanged-requires : tie.Need-unchanged-requires
+unchanged-requires c κs = search needs
 
 same-length-3 : tie.Need-same-length-3
 same-length-3 c = search needs
@@ -32,9 +36,10 @@ same-length-4 c = search needs
 returns-2 : tie.Need-returns-2
 returns-2 c =
     let a = c .before .before .before .before .before .before .before .args in
-    refused-all (a .number) (a .sender) (a .book .now) (a .table .now) (a .c) Unsound _
-    (not-sound (a .number) (a .sender) (a .book .now) (a .table .now) (a .c) (sym (c .before .before .is-sound .ensures) ∙ c .before .if1 .left))
-    refl (c .refused .ensures)
+    withdraw-told (a .number) (a .sender) (a .book .now) (a .table .now) (a .counts) _ _ _
+    (refused-all (a .number) (a .sender) (a .book .now) (a .table .now) (a .counts) Unsound _
+    (not-sound (a .number) (a .sender) (a .book .now) (a .table .now) (a .counts) (sym (c .before .before .is-sound .ensures) ∙ c .before .if1 .left))
+    refl (c .unchanged .ensures))
 
 pub withdraw-spec : {M : Type 1} → statement M
 withdraw-spec =
@@ -45,7 +50,7 @@ withdraw-spec =
     same-length
     same-length-2
     returns
-    refused-requires
+    unchanged-requires
     same-length-3
     same-length-4
     returns-2)

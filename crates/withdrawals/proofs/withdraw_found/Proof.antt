@@ -16,7 +16,7 @@ slice-read-own : tie.Need-slice-read-own
 slice-read-own c =
     let start = c .before .before .before in
     let a = start .args in
-    let u = used-within (a .c .used) (a .book .now) (sound-facts (a .c .used) (a .book .now) (sound-parts (a .book .now) (a .table .now) (a .c) (start .pre .0) .0)) .0 in
+    let u = used-within (a .counts .used) (a .book .now) (sound-facts (a .counts .used) (a .book .now) (sound-parts (a .book .now) (a .table .now) (a .counts) (start .pre .0) .0)) .0 in
     let w = start .pre .1 .within in
     let s = start .pre .1 .some in
     omega arith
@@ -25,21 +25,21 @@ slice-read-kind : tie.Need-slice-read-kind
 slice-read-kind c =
     let start = c .before .before .before .before in
     let a = start .args in
-    let u = used-within (a .c .used) (a .book .now) (sound-facts (a .c .used) (a .book .now) (sound-parts (a .book .now) (a .table .now) (a .c) (start .pre .0) .0)) .0 in
+    let u = used-within (a .counts .used) (a .book .now) (sound-facts (a .counts .used) (a .book .now) (sound-parts (a .book .now) (a .table .now) (a .counts) (start .pre .0) .0)) .0 in
     let w = start .pre .1 .within in
     let s = start .pre .1 .some in
     omega arith
 
-refused-requires : tie.Need-refused-requires
-refused-requires c κs = search needs
+unchanged-requires : tie.Need-unchanged-requires
+unchanged-requires c κs = search needs
 
 returns : tie.Need-returns
 returns c =
     let start = c .before .before .before .before .before .before .before in
     let a = start .args in
-    refused-all (a .number) (a .sender) (a .book .now) (a .table .now) (a .c) AlreadyWithdrawn _
-    (already (a .number) (a .sender) (a .book .now) (a .table .now) (a .c) (start .pre .0) (a .at) (a .m) (start .pre .1) (c .before .before .if1 .taken) (eq-eqb _ _ (c .before .if2 .taken)))
-    refl (c .refused .ensures)
+    refused-all (a .number) (a .sender) (a .book .now) (a .table .now) (a .counts) AlreadyWithdrawn _
+    (already (a .number) (a .sender) (a .book .now) (a .table .now) (a .counts) (start .pre .0) (a .at) (a .count) (start .pre .1) (c .before .before .if1 .taken) (eq-eqb _ _ (c .before .if2 .taken)))
+    refl (c .unchanged .ensures)
 
 rework-few-requires : tie.Need-rework-few-requires
 rework-few-requires c κs = search needs
@@ -54,7 +54,7 @@ returns-2 : tie.Need-returns-2
 returns-2 c =
     let start = c .before .before .before .before .before .before .before .before .before .before .before .before .before .before in
     let a = start .args in
-    goes-on (a .number) (a .sender) (a .book .now) (a .table .now) (a .c) (start .pre .0) (a .at) (a .m) (start .pre .1) (c .before .before .before .before .before .before .before .before .before .if1 .taken) (ne-eqb _ _ (c .before .before .before .before .before .before .before .before .if2 .left)) _ _ _ (c .before .before .before .before .rework-few .ensures)
+    goes-on (a .number) (a .sender) (a .book .now) (a .table .now) (a .counts) (start .pre .0) (a .at) (a .count) (start .pre .1) (c .before .before .before .before .before .before .before .before .before .if1 .taken) (ne-eqb _ _ (c .before .before .before .before .before .before .before .before .if2 .left)) _ _ _ (c .before .before .before .before .rework-few .ensures)
 
 rework-many-requires : tie.Need-rework-many-requires
 rework-many-requires c κs = search needs
@@ -69,18 +69,18 @@ returns-3 : tie.Need-returns-3
 returns-3 c =
     let start = c .before .before .before .before .before .before .before .before .before .before .before .before .before .before in
     let a = start .args in
-    goes-on (a .number) (a .sender) (a .book .now) (a .table .now) (a .c) (start .pre .0) (a .at) (a .m) (start .pre .1) (c .before .before .before .before .before .before .before .before .before .if1 .taken) (ne-eqb _ _ (c .before .before .before .before .before .before .before .before .if2 .left)) _ _ _ (c .before .before .before .before .rework-many .ensures)
+    goes-on (a .number) (a .sender) (a .book .now) (a .table .now) (a .counts) (start .pre .0) (a .at) (a .count) (start .pre .1) (c .before .before .before .before .before .before .before .before .before .if1 .taken) (ne-eqb _ _ (c .before .before .before .before .before .before .before .before .if2 .left)) _ _ _ (c .before .before .before .before .rework-many .ensures)
 
-refused-requires-2 : tie.Need-refused-requires-2
-refused-requires-2 c κs = search needs
+unchanged-requires-2 : tie.Need-unchanged-requires-2
+unchanged-requires-2 c κs = search needs
 
 returns-4 : tie.Need-returns-4
 returns-4 c =
     let start = c .before .before .before .before .before .before in
     let a = start .args in
-    refused-all (a .number) (a .sender) (a .book .now) (a .table .now) (a .c) OtherSender _
-    (other-sender (a .number) (a .sender) (a .book .now) (a .table .now) (a .c) (start .pre .0) (a .at) (a .m) (start .pre .1) (c .before .if1 .left))
-    refl (c .refused2 .ensures)
+    refused-all (a .number) (a .sender) (a .book .now) (a .table .now) (a .counts) OtherSender _
+    (other-sender (a .number) (a .sender) (a .book .now) (a .table .now) (a .counts) (start .pre .0) (a .at) (a .count) (start .pre .1) (c .before .if1 .left))
+    refl (c .unchanged2 .ensures)
 
 pub withdraw-found-spec : {M : Type 1} → statement M
 withdraw-found-spec =
@@ -89,7 +89,7 @@ withdraw-found-spec =
     add-own
     slice-read-own
     slice-read-kind
-    refused-requires
+    unchanged-requires
     returns
     rework-few-requires
     same-length
@@ -99,5 +99,5 @@ withdraw-found-spec =
     same-length-3
     same-length-4
     returns-3
-    refused-requires-2
+    unchanged-requires-2
     returns-4)

@@ -7,7 +7,7 @@ use Rattle.book.specs.Entries.{plan-wide, entry-wide}
 use Rattle.book.proofs.SoundLaws.{sound-facts, used-within}
 use Rattle.book_find.proofs.HeldLaws.{missing-message}
 use Rattle.calls.specs.declared.Answer.the-variants.{NoMessage}
-use Rattle.withdrawals.specs.Steps.{Stands}
+use Rattle.withdrawals.specs.inner.Steps.{MessageAt}
 use Rattle.withdrawals.proofs.RoomLaws.{sound-parts}
 use Rattle.withdrawals.proofs.AnswerLaws.{refused-all, not-there}
 use Rattle.withdrawals.proofs.StandsLaws.{stands}
@@ -18,13 +18,13 @@ find-message-requires : tie.Need-find-message-requires
 find-message-requires c κs =
     let start = c .before .before .before in
     let a = start .args in
-    sound-parts (a .book .now) (a .table .now) (a .c) (start .pre) .0
+    sound-parts (a .book .now) (a .table .now) (a .counts) (start .pre) .0
 
 enum-told : tie.Need-enum-told
 enum-told c = search needs
 
-refused-requires : tie.Need-refused-requires
-refused-requires c κs = search needs
+unchanged-requires : tie.Need-unchanged-requires
+unchanged-requires c κs = search needs
 
 enum-known-h : tie.Need-enum-known-h
 enum-known-h c = search needs
@@ -33,23 +33,23 @@ count-plans-requires : tie.Need-count-plans-requires
 count-plans-requires c κs =
     let start = c .before .before .before .before .before .before .before .before in
     let a = start .args in
-    used-within (a .c .used) (a .book .now) (sound-facts (a .c .used) (a .book .now) (sound-parts (a .book .now) (a .table .now) (a .c) (start .pre) .0)) .0
+    used-within (a .counts .used) (a .book .now) (sound-facts (a .counts .used) (a .book .now) (sound-parts (a .book .now) (a .table .now) (a .counts) (start .pre) .0)) .0
 
 -- the message stands from there on
-found : (c : tie.After-count-plans) → let a = c .before .before .before .before .before .before .before .before .before .args in Stands (a .number) (a .c .used) (a .book .now) (c .count-plans .result * plan-wide + c .before .before .before .h .given .0 .0 * entry-wide) (c .before .before .before .h .given .0 .1 .0)
+found : (c : tie.After-count-plans) → let a = c .before .before .before .before .before .before .before .before .before .args in MessageAt (a .number) (a .counts .used) (a .book .now) (c .count-plans .result * plan-wide + c .before .before .before .h .given .0 .0 * entry-wide) (c .before .before .before .h .given .0 .1 .0)
 found c =
     let start = c .before .before .before .before .before .before .before .before .before in
     let a = start .args in
-    let sound = sound-parts (a .book .now) (a .table .now) (a .c) (start .pre) .0 in
+    let sound = sound-parts (a .book .now) (a .table .now) (a .counts) (start .pre) .0 in
     let h = c .before .before .before .h .given in
-    rw (c .count-plans .ensures) (stands (a .number) (a .c .used) (a .book .now) sound (h .0 .0) (h .0 .1 .0) (sym (c .before .before .before .before .before .find-message .ensures) ∙ h .1))
+    rw (c .count-plans .ensures) (stands (a .number) (a .counts .used) (a .book .now) sound (h .0 .0) (h .0 .1 .0) (sym (c .before .before .before .before .before .find-message .ensures) ∙ h .1))
 
 -- so its place is a number that fits
 fits : (c : tie.After-count-plans) → c .count-plans .result * plan-wide + c .before .before .before .h .given .0 .0 * entry-wide ≤ length (c .before .before .before .before .before .before .before .before .before .args .book .now)
 fits c =
     let start = c .before .before .before .before .before .before .before .before .before in
     let a = start .args in
-    let u = used-within (a .c .used) (a .book .now) (sound-facts (a .c .used) (a .book .now) (sound-parts (a .book .now) (a .table .now) (a .c) (start .pre) .0)) .0 in
+    let u = used-within (a .counts .used) (a .book .now) (sound-facts (a .counts .used) (a .book .now) (sound-parts (a .book .now) (a .table .now) (a .counts) (start .pre) .0)) .0 in
     let w = found c .within in
     omega arith
 
@@ -72,10 +72,10 @@ returns : tie.Need-returns
 returns c =
     let start = c .before .before .before .before .before .before .before in
     let a = start .args in
-    let sound = sound-parts (a .book .now) (a .table .now) (a .c) (start .pre) in
-    refused-all (a .number) (a .sender) (a .book .now) (a .table .now) (a .c) NoMessage _
-    (not-there (a .number) (a .sender) (a .book .now) (a .table .now) (a .c) (start .pre) (missing-message (a .c .used) (a .book .now) (a .number) (sound .0) (sym (c .before .before .before .find-message .ensures) ∙ c .before .enum-told .given .1)))
-    refl (c .refused .ensures)
+    let sound = sound-parts (a .book .now) (a .table .now) (a .counts) (start .pre) in
+    refused-all (a .number) (a .sender) (a .book .now) (a .table .now) (a .counts) NoMessage _
+    (not-there (a .number) (a .sender) (a .book .now) (a .table .now) (a .counts) (start .pre) (missing-message (a .counts .used) (a .book .now) (a .number) (sound .0) (sym (c .before .before .before .find-message .ensures) ∙ c .before .enum-told .given .1)))
+    refl (c .unchanged .ensures)
 
 same-length-2 : tie.Need-same-length-2
 same-length-2 c = search needs
@@ -92,7 +92,7 @@ withdraw-sound-spec =
     (tie.spec
     find-message-requires
     enum-told
-    refused-requires
+    unchanged-requires
     enum-known-h
     count-plans-requires
     mul-at

@@ -20,28 +20,28 @@ part-e-end : tie.Need-part-e-end
 part-e-end c =
     let start = c .before .before .before in
     let a = start .args in
-    let u = used-fits (a .used) (a .at) (a .m) (a .book .now) (start .pre .0) (start .pre .1 .0) in
+    let u = used-fits (a .used) (a .at) (a .count) (a .book .now) (start .pre .0) (start .pre .1 .0) in
     search needs
 
 sort-keys-requires : tie.Need-sort-keys-requires
 sort-keys-requires c κs =
     let start = c .before .before .before .before .before in
     let a = start .args in
-    let k = few (a .used) (a .at) (a .m) (a .book .now) (start .pre .0) (start .pre .1 .0) in
-    (omega arith, lent-long (a .used) (a .at) (a .m) (a .book .now) (start .pre .0) (start .pre .1 .0), omega arith, omega arith)
+    let k = few (a .used) (a .at) (a .count) (a .book .now) (start .pre .0) (start .pre .1 .0) in
+    (omega arith, lent-long (a .used) (a .at) (a .count) (a .book .now) (start .pre .0) (start .pre .1 .0), omega arith, omega arith)
 
 -- the names are sorted
-sorted : (c : tie.After-sort-keys) → let a = c .before .before .before .before .before .before .args in Sorted (a .used) (a .at) (a .m) (a .book .now) (c .sort-keys .result) (c .sort-keys .last .1 .1 .1 .1 .0)
+sorted : (c : tie.After-sort-keys) → let a = c .before .before .before .before .before .before .args in Sorted (a .used) (a .at) (a .count) (a .book .now) (c .sort-keys .result) (c .sort-keys .last .1 .1 .1 .1 .0)
 sorted c =
     let start = c .before .before .before .before .before .before in
     let a = start .args in
-    sorted-into (a .used) (a .at) (a .m) (a .book .now) (start .pre .0) (start .pre .1 .0) (a .order .now) (start .pre .1 .1) _ _ (c .sort-keys .ensures .0) (c .sort-keys .ensures .1)
+    sorted-into (a .used) (a .at) (a .count) (a .book .now) (start .pre .0) (start .pre .1 .0) (a .order .now) (start .pre .1 .1) _ _ (c .sort-keys .ensures .0) (c .sort-keys .ensures .1)
 
 count-plans-requires : tie.Need-count-plans-requires
 count-plans-requires c κs =
     let start = c .before .before .before .before .before .before .before .before in
     let a = start .args in
-    used-fits (a .used) (a .at) (a .m) (a .book .now) (start .pre .0) (start .pre .1 .0)
+    used-fits (a .used) (a .at) (a .count) (a .book .now) (start .pre .0) (start .pre .1 .0)
 
 begin-slots-requires : tie.Need-begin-slots-requires
 begin-slots-requires c κs =

@@ -9,7 +9,7 @@ use Rattle.book.proofs.WriteLaws.{lent-part}
 use Rattle.lists.specs.Part.{part}
 use Rattle.lists.proofs.PartLaws.{length-part}
 use Rattle.passage.specs.Layout.{key-wide}
-use Rattle.withdrawals_replay.specs.Worked.{begunSlot}
+use Rattle.withdrawals_replay.specs.inner.Worked.{begunSlot}
 use Rattle.withdrawals_replay.proofs.SlotLaws.{planned-whole}
 use Rattle.withdrawals_replay.proofs.SlotWriteLaws.{slot-planned, slot-bare}
 use Rattle.withdrawals_replay.proofs.begin_slot.Statement.{statement}
@@ -37,7 +37,7 @@ copy-to-requires : tie.Need-copy-to-requires
 copy-to-requires c κs =
     let a = c .before .before .before .before .before .args in
     let l = length-set (a .slots .now) (a .at) 0 in
-    rw (lent-part (a .q) key-wide (a .e .now), length-part (a .q) key-wide (a .e .now) (omega arith)) (omega arith)
+    rw (lent-part (a .from) key-wide (a .message .now), length-part (a .from) key-wide (a .message .now) (omega arith)) (omega arith)
 
 add-clear : tie.Need-add-clear
 add-clear c = search needs
@@ -81,10 +81,10 @@ unfolding begunSlot
 returns c =
     let start = c .before .before .before .before .before .before .before .before .before .before .before .before .before .before .before .before .before in
     let a = start .args in
-    let k = part (a .q) key-wide (a .e .now) in
+    let k = part (a .from) key-wide (a .message .now) in
     let plan = c .before .before .before .plan-row in
-    slot-planned (a .at) k (a .slots .now) _ _ (length-part (a .q) key-wide (a .e .now) (start .pre .0 .1)) (rw (lent-part (a .q) key-wide (a .e .now)) at (c .before .before .before .before .before .before .before .before .before .before .before .copy-to .ensures)) (c .before .before .before .before .before .before .before .clear .ensures)
-    (get k (planRows (bodies (a .n) (a .b .now)))) _ (plan .ensures .1) (planned-whole (bodies (a .n) (a .b .now)) (wide-bodies (a .n) (a .b .now) (start .pre .0 .0)) k) (sym (plan .ensures .0) ∙ c .if1 .taken)
+    slot-planned (a .at) k (a .slots .now) _ _ (length-part (a .from) key-wide (a .message .now) (start .pre .0 .1)) (rw (lent-part (a .from) key-wide (a .message .now)) at (c .before .before .before .before .before .before .before .before .before .before .before .copy-to .ensures)) (c .before .before .before .before .before .before .before .clear .ensures)
+    (get k (planRows (bodies (a .plans) (a .book .now)))) _ (plan .ensures .1) (planned-whole (bodies (a .plans) (a .book .now)) (wide-bodies (a .plans) (a .book .now) (start .pre .0 .0)) k) (sym (plan .ensures .0) ∙ c .if1 .taken)
 
 same-length-2 : tie.Need-same-length-2
 same-length-2 c =
@@ -97,10 +97,10 @@ unfolding begunSlot
 returns-2 c =
     let start = c .before .before .before .before .before .before .before .before .before .before .before .before .before .before .before .before .before in
     let a = start .args in
-    let k = part (a .q) key-wide (a .e .now) in
+    let k = part (a .from) key-wide (a .message .now) in
     let plan = c .before .before .before .plan-row in
-    slot-bare (a .at) k (a .slots .now) _ _ (length-part (a .q) key-wide (a .e .now) (start .pre .0 .1)) (rw (lent-part (a .q) key-wide (a .e .now)) at (c .before .before .before .before .before .before .before .before .before .before .before .copy-to .ensures)) (c .before .before .before .before .before .before .before .clear .ensures)
-    (get k (planRows (bodies (a .n) (a .b .now)))) _ (plan .ensures .1) (sym (plan .ensures .0) ∙ c .if1 .left)
+    slot-bare (a .at) k (a .slots .now) _ _ (length-part (a .from) key-wide (a .message .now) (start .pre .0 .1)) (rw (lent-part (a .from) key-wide (a .message .now)) at (c .before .before .before .before .before .before .before .before .before .before .before .copy-to .ensures)) (c .before .before .before .before .before .before .before .clear .ensures)
+    (get k (planRows (bodies (a .plans) (a .book .now)))) _ (plan .ensures .1) (sym (plan .ensures .0) ∙ c .if1 .left)
 
 pub begin-slot-spec : {M : Type 1} → statement M
 begin-slot-spec =

@@ -9,7 +9,7 @@ use Rattle.passage.specs.Layout.{key-wide}
 use Rattle.book.proofs.PlanLaws.{bodies}
 use Rattle.lists.specs.Part.{over}
 use Rattle.lists.specs.Rows.{flat}
-use Rattle.withdrawals_replay.specs.Worked.{begunSlot, namesAt}
+use Rattle.withdrawals_replay.specs.inner.Worked.{begunSlot, namesAt}
 use Rattle.withdrawals_replay.proofs.BeginLaws.{spot-fits, begin-start, begin-turn, begin-end}
 use Rattle.withdrawals_replay.proofs.begin_slots.Statement.{statement}
 use Rattle.withdrawals_replay.proofs.begin_slots.Tie as tie
@@ -24,7 +24,7 @@ loop-holds : tie.Need-loop-holds Inv-loop μ-loop
 loop-holds c =
     let start = c .before .before .before .before in
     let a = start .args in
-    (search needs, refl, begin-start (a .n) (a .b .now) (a .e .now) (a .m) (a .order .now) (a .c) (start .pre .0 .0) (start .pre .0 .1) (start .pre .0 .2) (start .pre .1 .1) (a .slots .now))
+    (search needs, refl, begin-start (a .plans) (a .book .now) (a .message .now) (a .entries) (a .order .now) (a .named) (start .pre .0 .0) (start .pre .0 .1) (start .pre .0 .2) (start .pre .1 .1) (a .slots .now))
 
 mul-p : tie.Need-mul-p Inv-loop μ-loop
 mul-p c = search needs
@@ -35,11 +35,11 @@ shared-slice-read-p c = search needs
 -- the key of the name in turn is there
 spot : (c : tie.In-loop Inv-loop μ-loop) →
     let a = c .before .before .before .before .before .before .args in
-    getD (a .order .now) (c .before .loop .i) 0 * entry-wide + body-at + key-wide ≤ length (a .e .now)
+    getD (a .order .now) (c .before .loop .i) 0 * entry-wide + body-at + key-wide ≤ length (a .message .now)
 spot c =
     let start = c .before .before .before .before .before .before in
     let a = start .args in
-    spot-fits (a .n) (a .b .now) (a .e .now) (a .m) (a .order .now) (a .c) (start .pre .0 .0) (start .pre .0 .1) (start .pre .0 .2) (start .pre .1 .1) (c .before .loop .i) (c .loop-test .taken)
+    spot-fits (a .plans) (a .book .now) (a .message .now) (a .entries) (a .order .now) (a .named) (start .pre .0 .0) (start .pre .0 .1) (start .pre .0 .2) (start .pre .1 .1) (c .before .loop .i) (c .loop-test .taken)
 
 cast-p : tie.Need-cast-p Inv-loop μ-loop
 cast-p c = omega (arith, spot (c .before))
@@ -71,7 +71,7 @@ loop-again c =
     let loop = c .before .before .before .before .before .before .loop in (
       omega arith,
       omega arith,
-      begin-turn (a .n) (a .b .now) (a .e .now) (a .m) (a .order .now) (a .c) (start .pre .0 .0) (start .pre .0 .1) (start .pre .0 .2) (start .pre .1 .1) (a .slots .now) (loop .i) (loop .slots) _ (c .before .before .before .before .before .loop-test .taken)
+      begin-turn (a .plans) (a .book .now) (a .message .now) (a .entries) (a .order .now) (a .named) (start .pre .0 .0) (start .pre .0 .1) (start .pre .0 .2) (start .pre .1 .1) (a .slots .now) (loop .i) (loop .slots) _ (c .before .before .before .before .before .loop-test .taken)
           (loop .inv .2) (c .before .before .begin-slot .ensures),
     )
 
@@ -83,7 +83,7 @@ returns c =
     let start = c .before .before .before .before .before .before in
     let a = start .args in
     let loop = c .before .loop in
-    begin-end (a .n) (a .b .now) (a .e .now) (a .m) (a .order .now) (a .c) (start .pre .0 .0) (start .pre .0 .1) (start .pre .0 .2) (start .pre .1 .1) (a .slots .now) (loop .i) (loop .slots) (omega arith) (loop .inv .2)
+    begin-end (a .plans) (a .book .now) (a .message .now) (a .entries) (a .order .now) (a .named) (start .pre .0 .0) (start .pre .0 .1) (start .pre .0 .2) (start .pre .1 .1) (a .slots .now) (loop .i) (loop .slots) (omega arith) (loop .inv .2)
 
 pub begin-slots-spec : {M : Type 1} → statement M
 begin-slots-spec =

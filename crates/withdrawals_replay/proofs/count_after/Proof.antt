@@ -16,7 +16,7 @@ loop-holds : tie.Need-loop-holds Inv-loop μ-loop
 loop-holds c =
     let start = c .before .before in
     let a = start .args in
-    (search needs, sum-start (rows (a .n) (a .t .now)) (a .c) (a .slots .now) (a .n))
+    (search needs, sum-start (rows (a .count) (a .table .now)) (a .named) (a .slots .now) (a .count))
 
 mul-weigh : tie.Need-mul-weigh Inv-loop μ-loop
 mul-weigh c = search needs
@@ -32,7 +32,7 @@ add-sum c =
     let a = start .args in
     let loop = c .before .before .before .loop in
     let s = loop .inv .1 .small in
-    let t = sum-turn (rows (a .n) (a .t .now)) (a .c) (a .slots .now) (a .n) (loop .i) (loop .sum) (c .weigh .result) (c .before .before .loop-test .taken) (loop .inv .1) (c .weigh .ensures) .small in
+    let t = sum-turn (rows (a .count) (a .table .now)) (a .named) (a .slots .now) (a .count) (loop .i) (loop .sum) (c .weigh .result) (c .before .before .loop-test .taken) (loop .inv .1) (c .weigh .ensures) .small in
     omega arith
 
 add-i : tie.Need-add-i Inv-loop μ-loop
@@ -46,14 +46,14 @@ loop-again c =
     let start = c .before .before .before .before .before .before in
     let a = start .args in
     let loop = c .before .before .before .loop in
-    (omega arith, sum-turn (rows (a .n) (a .t .now)) (a .c) (a .slots .now) (a .n) (loop .i) (loop .sum) (c .weigh .result) (c .before .before .loop-test .taken) (loop .inv .1) (c .weigh .ensures))
+    (omega arith, sum-turn (rows (a .count) (a .table .now)) (a .named) (a .slots .now) (a .count) (loop .i) (loop .sum) (c .weigh .result) (c .before .before .loop-test .taken) (loop .inv .1) (c .weigh .ensures))
 
 returns : tie.Need-returns Inv-loop μ-loop
 returns c =
     let start = c .before .before .before .before in
     let a = start .args in
     let loop = c .before .loop in
-    sum-end (rows (a .n) (a .t .now)) (a .c) (a .slots .now) (a .n) (loop .i) (loop .sum) (c .loop-test .left) (loop .inv .1)
+    sum-end (rows (a .count) (a .table .now)) (a .named) (a .slots .now) (a .count) (loop .i) (loop .sum) (c .loop-test .left) (loop .inv .1)
 
 pub count-after-spec : {M : Type 1} → statement M
 count-after-spec =

@@ -15,14 +15,14 @@ returns : tie.Need-returns
 returns c =
     let a = c .before .before .before .before .args in
     let e = c .before .rows-room .ensures in
-    all-fit (a .n) (a .c) _ (a .t .now) (a .slots .now) (rw (← e) (c .if1 .taken))
+    all-fit (a .count) (a .named) _ (a .table .now) (a .slots .now) (rw (← e) (c .if1 .taken))
 
 count-after-requires : tie.Need-count-after-requires
 count-after-requires c κs = search needs
 
 add-result : tie.Need-add-result
 add-result c =
-    let r = room-most (c .before .before .before .before .before .args .t .now) in
+    let r = room-most (c .before .before .before .before .before .args .table .now) in
     let e = c .before .before .rows-room .ensures in
     omega arith
 

@@ -21,35 +21,35 @@ enum-known-f c = search needs
 -- what find gave
 found : (c : tie.After-f) →
     let s = c .before .before .before .before .before .before .before .args in
-    lookup (keyOf (s .r .now)) (rows (s .n) (s .t .now)) ≡ At (c .f .given .0 .0)
+    lookup (keyOf (s .row .now)) (rows (s .count) (s .table .now)) ≡ At (c .f .given .0 .0)
 found c = sym (c .before .before .find-near .ensures) ∙ c .f .given .1
 
 absent : (c : tie.After-f2) →
     let s = c .before .before .before .before .before .before .before .args in
-    lookup (keyOf (s .r .now)) (rows (s .n) (s .t .now)) ≡ Missing (c .f2 .given .0 .0)
+    lookup (keyOf (s .row .now)) (rows (s .count) (s .table .now)) ≡ Missing (c .f2 .given .0 .0)
 absent c = sym (c .before .before .find-near .ensures) ∙ c .f2 .given .1
 
 -- a row with a new key is one more
 grown : (c : tie.After-f2) →
     let s = c .before .before .before .before .before .before .before .args in
-    length (put (s .r .now) (rows (s .n) (s .t .now))) ≡ s .n + 1
+    length (put (s .row .now) (rows (s .count) (s .table .now))) ≡ s .count + 1
 grown c =
     let s = c .before .before .before .before .before .before .before in
     let a = s .args in
     let i = c .f2 .given .0 .0 in
-    let h = missing-within row-wide (a .n) i (keyOf (a .r .now)) (a .t .now) (absent c) in
-    ap length (put-at (a .r .now) (rows (a .n) (a .t .now)) (Missing i) (absent c)) ∙ length-insertAt row-wide (a .n) i (a .t .now) (s .pre .0 .0) (a .r .now) h
+    let h = missing-within row-wide (a .count) i (keyOf (a .row .now)) (a .table .now) (absent c) in
+    ap length (put-at (a .row .now) (rows (a .count) (a .table .now)) (Missing i) (absent c)) ∙ length-insertAt row-wide (a .count) i (a .table .now) (s .pre .0 .0) (a .row .now) h
 
 add-near : tie.Need-add-near
 add-near c =
     let a = c .before .before .before .before .before .before .before .before .args in
-    let h = found-below row-wide (a .n) _ (keyOf (a .r .now)) (a .t .now) (found (c .before)) in
+    let h = found-below row-wide (a .count) _ (keyOf (a .row .now)) (a .table .now) (found (c .before)) in
     search needs
 
 replace-row-requires : tie.Need-replace-row-requires
 replace-row-requires c κs =
     let s = c .before .before .before .before .before .before .before .before .before in
-    (found-below row-wide (s .args .n) _ (keyOf (s .args .r .now)) (s .args .t .now) (found (c .before .before)), s .pre .0 .0, s .pre .0 .2)
+    (found-below row-wide (s .args .count) _ (keyOf (s .args .row .now)) (s .args .table .now) (found (c .before .before)), s .pre .0 .0, s .pre .0 .2)
 
 enum-known-f-2 : tie.Need-enum-known-f-2
 enum-known-f-2 c = search needs
@@ -57,14 +57,14 @@ enum-known-f-2 c = search needs
 add-near-2 : tie.Need-add-near-2
 add-near-2 c =
     let a = c .before .before .before .before .before .before .before .before .args in
-    let h = missing-within row-wide (a .n) _ (keyOf (a .r .now)) (a .t .now) (absent (c .before)) in
+    let h = missing-within row-wide (a .count) _ (keyOf (a .row .now)) (a .table .now) (absent (c .before)) in
     search needs
 
 insert-row-requires : tie.Need-insert-row-requires
 insert-row-requires c κs =
     let s = c .before .before .before .before .before .before .before .before .before in
     let l = grown (c .before .before) in
-    (missing-within row-wide (s .args .n) _ (keyOf (s .args .r .now)) (s .args .t .now) (absent (c .before .before)), rw l at (s .pre .0 .1), s .pre .0 .2)
+    (missing-within row-wide (s .args .count) _ (keyOf (s .args .row .now)) (s .args .table .now) (absent (c .before .before)), rw l at (s .pre .0 .1), s .pre .0 .2)
 
 add-result : tie.Need-add-result
 add-result c = search needs
@@ -76,7 +76,7 @@ returns : tie.Need-returns
 returns c =
     let d = c .before .before .before .before .before in
     let s = d .before .before .before .before .before .before .before in
-    let e = put-at (s .args .r .now) (rows (s .args .n) (s .args .t .now)) _ (found d) in
+    let e = put-at (s .args .row .now) (rows (s .args .count) (s .args .table .now)) _ (found d) in
     (rw (e, length-set, length-rowsOf), rw e (c .before .before .replace-row .ensures))
 
 same-length-2 : tie.Need-same-length-2
@@ -86,7 +86,7 @@ returns-2 : tie.Need-returns-2
 returns-2 c =
     let d = c .before .before .before .before .before in
     let s = d .before .before .before .before .before .before .before in
-    let e = put-at (s .args .r .now) (rows (s .args .n) (s .args .t .now)) _ (absent d) in
+    let e = put-at (s .args .row .now) (rows (s .args .count) (s .args .table .now)) _ (absent d) in
     (sym (grown d), rw e (c .before .before .insert-row .ensures))
 
 pub put-near-spec : {M : Type 1} → statement M

@@ -43,7 +43,7 @@ returns c =
 returns-2 : tie.Need-returns-2
 returns-2 c =
     let a = c .before .before .before .before .args in
-    rw (has-none (a .at) (a .slots .now) (c .if1 .left)) (sym (length-rowsOf row-wide (a .n) (a .t .now)), sym (store-same row-wide (a .n) (a .t .now)))
+    rw (has-none (a .at) (a .slots .now) (c .if1 .left)) (sym (length-rowsOf row-wide (a .count) (a .table .now)), sym (store-same row-wide (a .count) (a .table .now)))
 
 pub put-one-spec : {M : Type 1} → statement M
 put-one-spec =

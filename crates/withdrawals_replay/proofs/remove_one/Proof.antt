@@ -13,7 +13,7 @@ shared-slice-read-if1 c = search needs
 returns : tie.Need-returns
 returns c =
     let a = c .before .before .before .before .args in
-    rw (has-one (a .at) (a .slots .now) (c .if1 .taken)) (sym (length-rowsOf row-wide (a .n) (a .t .now)), sym (store-same row-wide (a .n) (a .t .now)))
+    rw (has-one (a .at) (a .slots .now) (c .if1 .taken)) (sym (length-rowsOf row-wide (a .count) (a .table .now)), sym (store-same row-wide (a .count) (a .table .now)))
 
 add-remove-key : tie.Need-add-remove-key
 add-remove-key c = search needs

@@ -3,8 +3,8 @@ use Prim.Native.Nat.{_*_, _-_, _≤_}
 use native.Mathlib.Omega.{arith}
 use borrow.Author.Needs.{needs}
 use lib.ListN.{length, take, drop}
-use Rattle.withdrawals_replay.specs.Slots.{slot-wide, slotsOf}
-use Rattle.withdrawals_replay.specs.Worked.{namesAt}
+use Rattle.withdrawals_replay.specs.inner.Slots.{slot-wide, slotsOf}
+use Rattle.withdrawals_replay.specs.inner.Worked.{namesAt}
 use Rattle.withdrawals_replay.proofs.HeardLaws.{Heard, heard-start, heard-turn, heard-end}
 use Rattle.withdrawals_replay.proofs.replay.Statement.{statement}
 use Rattle.withdrawals_replay.proofs.replay.Tie as tie
@@ -19,7 +19,7 @@ loop-holds : tie.Need-loop-holds Inv-loop μ-loop
 loop-holds c =
     let start = c .before .before .before .before in
     let a = start .args in
-    (search needs, refl, refl, heard-start (a .number) (a .b .now) (a .at) (a .k) _ _ (start .pre .1 .1 .1))
+    (search needs, refl, refl, heard-start (a .number) (a .book .now) (a .at) (a .updates) _ _ (start .pre .1 .1 .1))
 
 mul-replay-one : tie.Need-mul-replay-one Inv-loop μ-loop
 mul-replay-one c = search needs
@@ -43,7 +43,7 @@ loop-again c =
     let start = c .before .before .before .before .before .before .before .before .before .before in
     let a = start .args in
     let loop = c .before .before .before .before .before .loop in
-    (omega arith, omega arith, c .before .before .replay-one .ensures .1 ∙ loop .inv .2, heard-turn (a .number) (a .b .now) (a .at) (a .k) _ _ (loop .i) (slotsOf (a .c) (loop .slots)) _ (start .pre .0 .0) (c .before .before .before .before .loop-test .taken) (loop .inv .3) (c .before .before .replay-one .ensures .0))
+    (omega arith, omega arith, c .before .before .replay-one .ensures .1 ∙ loop .inv .2, heard-turn (a .number) (a .book .now) (a .at) (a .updates) _ _ (loop .i) (slotsOf (a .named) (loop .slots)) _ (start .pre .0 .0) (c .before .before .before .before .loop-test .taken) (loop .inv .3) (c .before .before .replay-one .ensures .0))
 
 same-length : tie.Need-same-length Inv-loop μ-loop
 same-length c = search needs
@@ -53,7 +53,7 @@ returns c =
     let start = c .before .before .before .before .before .before in
     let a = start .args in
     let loop = c .before .loop in
-    (heard-end (a .number) (a .b .now) (a .at) (a .k) _ _ (loop .i) (slotsOf (a .c) (loop .slots)) (c .loop-test .left) (loop .inv .3), loop .inv .2)
+    (heard-end (a .number) (a .book .now) (a .at) (a .updates) _ _ (loop .i) (slotsOf (a .named) (loop .slots)) (c .loop-test .left) (loop .inv .3), loop .inv .2)
 
 pub replay-spec : {M : Type 1} → statement M
 replay-spec =

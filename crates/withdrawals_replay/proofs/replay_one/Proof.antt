@@ -1,7 +1,7 @@
 use mathlib.Core.Path.{refl, sym, _∙_}
 use native.Mathlib.Omega.{arith}
 use borrow.Author.Needs.{needs}
-use Rattle.withdrawals_replay.specs.Slots.{slotsOf}
+use Rattle.withdrawals_replay.specs.inner.Slots.{slotsOf}
 use Rattle.withdrawals_replay.proofs.HeardLaws.{entry-own, entry-fallen, entry-other}
 use Rattle.withdrawals_replay.proofs.replay_one.Statement.{statement}
 use Rattle.withdrawals_replay.proofs.replay_one.Tie as tie
@@ -13,7 +13,7 @@ returns : tie.Need-returns
 returns c =
     let start = c .before .before .before .before .before .before in
     let a = start .args in
-    (entry-fallen (a .number) (a .p) (a .b .now) _ (start .pre .0 .0) (c .if1 .taken), refl)
+    (entry-fallen (a .number) (a .at) (a .book .now) _ (start .pre .0 .0) (c .if1 .taken), refl)
 
 add-get-number : tie.Need-add-get-number
 add-get-number c = search needs
@@ -25,7 +25,7 @@ returns-2 : tie.Need-returns-2
 returns-2 c =
     let start = c .before .before .before .before .before .before .before .before in
     let a = start .args in
-    (entry-own (a .number) (a .p) (a .b .now) _ (start .pre .0 .0) (sym (c .before .get-number .ensures) ∙ c .if2 .taken), refl)
+    (entry-own (a .number) (a .at) (a .book .now) _ (start .pre .0 .0) (sym (c .before .get-number .ensures) ∙ c .if2 .taken), refl)
 
 add-take-update : tie.Need-add-take-update
 add-take-update c = search needs
@@ -42,7 +42,7 @@ returns-3 : tie.Need-returns-3
 returns-3 c =
     let start = c .before .before .before .before .before .before .before .before .before .before .before .before in
     let a = start .args in
-    (c .before .before .take-update .ensures .0 ∙ entry-other (a .number) (a .p) (a .b .now) (slotsOf (a .c) (a .slots .now)) (start .pre .0 .0) (c .before .before .before .before .before .before .if1 .left) (λ e. c .before .before .before .before .if2 .left (c .before .before .before .before .before .get-number .ensures ∙ e)), c .before .before .take-update .ensures .1)
+    (c .before .before .take-update .ensures .0 ∙ entry-other (a .number) (a .at) (a .book .now) (slotsOf (a .named) (a .slots .now)) (start .pre .0 .0) (c .before .before .before .before .before .before .if1 .left) (λ e. c .before .before .before .before .if2 .left (c .before .before .before .before .before .get-number .ensures ∙ e)), c .before .before .take-update .ensures .1)
 
 pub replay-one-spec : {M : Type 1} → statement M
 replay-one-spec =

@@ -13,11 +13,11 @@ put-all-requires c κs =
     let p = start .pre in
     let gone = c .before .before .before .remove-all .ensures in (
       (
-        left-fits (a .n) (a .t .now) (a .c) (a .slots .now) (p .0 .0) (p .0 .1) (p .1) _ _ (gone .0) (gone .1),
+        left-fits (a .count) (a .table .now) (a .named) (a .slots .now) (p .0 .0) (p .0 .1) (p .1) _ _ (gone .0) (gone .1),
         p .0 .1,
-        puts-fit (a .n) (a .t .now) (a .c) (a .slots .now) (p .0 .0) (p .0 .1) (p .1) _ _ (gone .0) (gone .1) (p .0 .2),
+        puts-fit (a .count) (a .table .now) (a .named) (a .slots .now) (p .0 .0) (p .0 .1) (p .1) _ _ (gone .0) (gone .1) (p .0 .2),
       ),
-      left-sorted (a .n) (a .t .now) (a .c) (a .slots .now) (p .0 .0) (p .0 .1) (p .1) _ _ (gone .0) (gone .1),
+      left-sorted (a .count) (a .table .now) (a .named) (a .slots .now) (p .0 .0) (p .0 .1) (p .1) _ _ (gone .0) (gone .1),
     )
 
 same-length : tie.Need-same-length
@@ -30,8 +30,8 @@ returns c =
     let p = start .pre in
     let gone = c .before .before .before .before .before .before .remove-all .ensures in
     let put = c .before .before .put-all in (
-      puts-count (a .n) (a .t .now) (a .c) (a .slots .now) (p .0 .0) (p .0 .1) (p .1) _ _ (gone .0) (gone .1) (put .result) (put .ensures .0),
-      puts-stored (a .n) (a .t .now) (a .c) (a .slots .now) (p .0 .0) (p .0 .1) (p .1) _ _ (gone .0) (gone .1) _ (put .ensures .1),
+      puts-count (a .count) (a .table .now) (a .named) (a .slots .now) (p .0 .0) (p .0 .1) (p .1) _ _ (gone .0) (gone .1) (put .result) (put .ensures .0),
+      puts-stored (a .count) (a .table .now) (a .named) (a .slots .now) (p .0 .0) (p .0 .1) (p .1) _ _ (gone .0) (gone .1) _ (put .ensures .1),
     )
 
 pub settle-spec : {M : Type 1} → statement M

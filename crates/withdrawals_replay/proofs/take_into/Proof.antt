@@ -22,7 +22,7 @@ returns : tie.Need-returns
 returns c =
     let start = c .before .before .before .before .before .before .before .before in
     let a = start .args in
-    held-taken (a .at) (a .slots .now) _ (start .pre .0) (length-part (a .p) body-wide (a .b .now) (start .pre .1)) _ (c .before .before .before .before .if1 .taken) (c .before .before .apply-row .ensures)
+    held-taken (a .at) (a .slots .now) _ (start .pre .0) (length-part (a .from) body-wide (a .bodies .now) (start .pre .1)) _ (c .before .before .before .before .if1 .taken) (c .before .before .apply-row .ensures)
 
 add-begin-row : tie.Need-add-begin-row
 add-begin-row c = search needs
@@ -48,7 +48,7 @@ returns-2 c =
     let a = start .args in
     let begin = c .before .before .before .before .before .before .begin-row in
     let apply = c .before .before .apply-row2 in
-    new-taken (a .at) (a .slots .now) _ (start .pre .0) (length-part (a .p) body-wide (a .b .now) (start .pre .1)) _ _ (c .before .before .before .before .before .before .before .before .if1 .left) (begin .ensures) (apply .ensures)
+    new-taken (a .at) (a .slots .now) _ (start .pre .0) (length-part (a .from) body-wide (a .bodies .now) (start .pre .1)) _ _ (c .before .before .before .before .before .before .before .before .if1 .left) (begin .ensures) (apply .ensures)
 
 pub take-into-spec : {M : Type 1} → statement M
 take-into-spec =

@@ -15,11 +15,11 @@ enum-known-f : tie.Need-enum-known-f
 enum-known-f c = search needs
 
 -- the slot that was found is one of them
-below : (c : tie.After-f) → c .f .given .0 .0 < c .before .before .before .before .before .before .before .args .c
+below : (c : tie.After-f) → c .f .given .0 .0 < c .before .before .before .before .before .before .before .args .named
 below c =
     let start = c .before .before .before .before .before .before .before in
     let a = start .args in
-    update-below (a .c) (a .p) (a .b .now) (a .slots .now) _ (start .pre .0 .3) (start .pre .0 .0) (start .pre .1 .1 .0) (start .pre .1 .1 .1) _ (sym (c .f .given .1) ∙ c .before .before .find-place .ensures)
+    update-below (a .named) (a .from) (a .book .now) (a .slots .now) _ (start .pre .0 .3) (start .pre .0 .0) (start .pre .1 .1 .0) (start .pre .1 .1 .1) _ (sym (c .f .given .1) ∙ c .before .before .find-place .ensures)
 
 mul-take-into : tie.Need-mul-take-into
 mul-take-into c =
@@ -39,8 +39,8 @@ returns c =
     let start = c .before .before .before .before .before .before .before .before .before .before .before .before in
     let a = start .args in
     let found = sym (c .before .before .before .before .before .f .given .1) ∙ c .before .before .before .before .before .before .before .find-place .ensures in (
-      update-taken (a .c) (a .p) (a .b .now) (a .slots .now) _ (start .pre .0 .3) (start .pre .0 .0) (start .pre .1 .1 .0) (start .pre .1 .1 .1) _ _ found (c .before .before .take-into .ensures),
-      update-rest (a .c) (a .p) (a .b .now) (a .slots .now) _ (start .pre .0 .3) (start .pre .0 .0) (start .pre .1 .1 .0) (start .pre .1 .1 .1) _ _ found (c .before .before .take-into .ensures),
+      update-taken (a .named) (a .from) (a .book .now) (a .slots .now) _ (start .pre .0 .3) (start .pre .0 .0) (start .pre .1 .1 .0) (start .pre .1 .1 .1) _ _ found (c .before .before .take-into .ensures),
+      update-rest (a .named) (a .from) (a .book .now) (a .slots .now) _ (start .pre .0 .3) (start .pre .0 .0) (start .pre .1 .1 .0) (start .pre .1 .1 .1) _ _ found (c .before .before .take-into .ensures),
     )
 
 enum-told : tie.Need-enum-told
@@ -50,7 +50,7 @@ returns-2 : tie.Need-returns-2
 returns-2 c =
     let start = c .before .before .before .before .before .before .before in
     let a = start .args in
-    (update-missing (a .c) (a .p) (a .b .now) (a .slots .now) _ (start .pre .0 .3) (start .pre .0 .0) (start .pre .1 .1 .0) (start .pre .1 .1 .1) _ (sym (c .enum-told .given .1) ∙ c .before .before .find-place .ensures), refl)
+    (update-missing (a .named) (a .from) (a .book .now) (a .slots .now) _ (start .pre .0 .3) (start .pre .0 .0) (start .pre .1 .1 .0) (start .pre .1 .1 .1) _ (sym (c .enum-told .given .1) ∙ c .before .before .find-place .ensures), refl)
 
 pub take-update-spec : {M : Type 1} → statement M
 take-update-spec =

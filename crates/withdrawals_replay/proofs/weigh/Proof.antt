@@ -24,20 +24,20 @@ add-near : tie.Need-add-near
 add-near c =
     let start = c .before .before .before .before .before .before .before .before in
     let a = start .args in
-    let h = found-below row-wide (a .n) _ (part (a .at + 1) key-wide (a .slots .now)) (a .t .now) (sym (c .before .before .before .find-near .ensures) ∙ c .before .f .given .1) in
+    let h = found-below row-wide (a .count) _ (part (a .at + 1) key-wide (a .slots .now)) (a .table .now) (sym (c .before .before .before .find-near .ensures) ∙ c .before .f .given .1) in
     search needs
 
 returns : tie.Need-returns
 returns c =
     let start = c .before .before .before .before .before .before .before .before .before in
     let a = start .args in
-    weigh-both (a .n) (a .at) _ (a .t .now) (a .slots .now) (start .pre .0 .0) (start .pre .0 .1) (sym (c .before .before .f .given .1) ∙ c .before .before .before .before .find-near .ensures) (c .if1 .taken)
+    weigh-both (a .count) (a .at) _ (a .table .now) (a .slots .now) (start .pre .0 .0) (start .pre .0 .1) (sym (c .before .before .f .given .1) ∙ c .before .before .before .before .find-near .ensures) (c .if1 .taken)
 
 returns-2 : tie.Need-returns-2
 returns-2 c =
     let start = c .before .before .before .before .before .before .before .before .before in
     let a = start .args in
-    weigh-gone (a .n) (a .at) _ (a .t .now) (a .slots .now) (start .pre .0 .0) (start .pre .0 .1) (sym (c .before .before .f .given .1) ∙ c .before .before .before .before .find-near .ensures) (c .if1 .left)
+    weigh-gone (a .count) (a .at) _ (a .table .now) (a .slots .now) (start .pre .0 .0) (start .pre .0 .1) (sym (c .before .before .f .given .1) ∙ c .before .before .before .before .find-near .ensures) (c .if1 .left)
 
 enum-known-f-2 : tie.Need-enum-known-f-2
 enum-known-f-2 c = search needs
@@ -46,13 +46,13 @@ returns-3 : tie.Need-returns-3
 returns-3 c =
     let start = c .before .before .before .before .before .before .before .before .before in
     let a = start .args in
-    weigh-come (a .n) (a .at) _ (a .t .now) (a .slots .now) (start .pre .0 .0) (start .pre .0 .1) (sym (c .before .before .f2 .given .1) ∙ c .before .before .before .before .find-near .ensures) (c .if2 .taken)
+    weigh-come (a .count) (a .at) _ (a .table .now) (a .slots .now) (start .pre .0 .0) (start .pre .0 .1) (sym (c .before .before .f2 .given .1) ∙ c .before .before .before .before .find-near .ensures) (c .if2 .taken)
 
 returns-4 : tie.Need-returns-4
 returns-4 c =
     let start = c .before .before .before .before .before .before .before .before .before in
     let a = start .args in
-    weigh-neither (a .n) (a .at) _ (a .t .now) (a .slots .now) (start .pre .0 .0) (start .pre .0 .1) (sym (c .before .before .f2 .given .1) ∙ c .before .before .before .before .find-near .ensures) (c .if2 .left)
+    weigh-neither (a .count) (a .at) _ (a .table .now) (a .slots .now) (start .pre .0 .0) (start .pre .0 .1) (sym (c .before .before .f2 .given .1) ∙ c .before .before .before .before .find-near .ensures) (c .if2 .left)
 
 pub weigh-spec : {M : Type 1} → statement M
 weigh-spec =

@@ -1,0 +1,68 @@
+-- Document 01's table for each call, by numbers as `numbers` has them: of the lines that hold, the first is given. Assumes nothing.
+use Prim.Native.Nat.{ℕ, _+_, _*_}
+use mathlib.Core.Bool.{Bool, true, false, not, _||_}
+use mathlib.Core.List.{List, [], _∷_}
+use lib.Dec.{eqb, ltb}
+use lib.ListN.{length, getD}
+use Rattle.lists.specs.Logic.{Line, firstHeld}
+use Rattle.columns.specs.declared.Table.the-variants as Tables
+use Rattle.reader.specs.Numbers.{readingTable}
+use Rattle.keys.specs.Sorted.{putAll}
+use Rattle.table.specs.Rules.{tableRoom}
+use Rattle.book.specs.Entries.{plan-wide, entry-wide, kindOf, senderOf, updatesIn}
+use Rattle.book.specs.Rules.{bookRoom, messageEntries}
+use Rattle.calls.specs.declared.Counts.{Counts}
+use Rattle.calls.specs.Message.{messageSound, messageRows, numberFor, rowsTaken}
+use Rattle.calls.specs.Withdraw.{withdrawSound, rowsWithout}
+use Rattle.calls.specs.Open.{passagesOf, planOf}
+
+-- a line that returns its number n and nothing besides
+abbrev pub line : ℕ → Bool → Line (ℕ × ℕ × ℕ × ℕ)
+line n holds = (holds, (n, 0, 0, 0))
+
+-- the lines 2 to 6 of dossier w, by its three numbers: number, and two values that say where
+abbrev pub dossierLines : ℕ → ℕ × ℕ × ℕ → Line (ℕ × ℕ × ℕ × ℕ)
+dossierLines w n = (not (eqb (n .0) 0), (n .0, n .1, n .2, w))
+
+-- there are no entries
+abbrev pub none : List (List ℕ) → Bool
+none [] = true
+none (e ∷ es) = false
+
+-- a message: 1, then 2 to 6 of its dossier, then 7, then 8; else 0 and its number
+unfoldable pub messageNumbers : List ℕ → ℕ → List ℕ → List ℕ → List ℕ → Counts → ℕ × ℕ × ℕ × ℕ
+messageNumbers dossier sender register book table c =
+    let bodies = messageRows dossier in
+    firstHeld
+    (line 1 (not (messageSound register book table c))
+    ∷ dossierLines 0 (readingTable Tables.Message register sender dossier)
+    ∷ line 7 (ltb (bookRoom book) (c .used + length bodies * entry-wide))
+    ∷ line 8 (ltb (tableRoom table) (length (rowsTaken bodies table (c .rows))))
+    ∷ [])
+    (0, numberFor bodies (c .used) book, 0, 0)
+
+-- a withdrawal: 1, 10 where no entry has the number, 12 where the sender is neither 0 nor the first entry's, 11 where that has kind 3, 8; else 0
+unfoldable pub withdrawNumbers : ℕ → ℕ → List ℕ → List ℕ → Counts → ℕ × ℕ × ℕ × ℕ
+withdrawNumbers number sender book table c =
+    let entries = messageEntries number (updatesIn (c .used) book) in
+    firstHeld
+    (line 1 (not (withdrawSound book table c))
+    ∷ line 10 (none entries)
+    ∷ line 12 (not (eqb sender 0 || eqb sender (senderOf (getD entries 0 []))))
+    ∷ line 11 (eqb (kindOf (getD entries 0 [])) 3)
+    ∷ line 8 (ltb (tableRoom table) (length (rowsWithout number book (c .used) table (c .rows))))
+    ∷ [])
+    (0, 0, 0, 0)
+
+-- open: 2 to 5 of the planning, then of the calendar, then 7 by the joined pairs, 9 where a key arises twice, 8; else 0
+unfoldable pub openNumbers : List ℕ → List ℕ → List ℕ → List ℕ → ℕ × ℕ × ℕ × ℕ
+openNumbers planning calendar book table =
+    let pairs = length (passagesOf planning calendar) in
+    firstHeld
+    (dossierLines 1 (readingTable Tables.Planning [] 0 planning)
+    ∷ dossierLines 2 (readingTable Tables.Calendar [] 0 calendar)
+    ∷ line 7 (ltb (bookRoom book) (pairs * plan-wide))
+    ∷ line 9 (not (eqb (length (planOf planning calendar)) pairs))
+    ∷ line 8 (ltb (tableRoom table) pairs)
+    ∷ [])
+    (0, 0, 0, 0)

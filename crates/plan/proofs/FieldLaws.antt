@@ -1,0 +1,112 @@
+-- The fields of updates and of plan passages are the cells of the columns of their names. Assumes nothing.
+use Prim.Native.Nat.{ℕ, zero, suc, _≤_, _<_}
+use native.Mathlib.Omega.{arith}
+use mathlib.Core.Path.{_≡_, refl, ap, subst, _∙_}
+use mathlib.Core.Bool.{true}
+use mathlib.Core.List.{List, [], _∷_}
+use lib.ListN.{getD, replicate}
+use Rattle.lists.specs.Text.{same}
+use Rattle.lists.specs.Part.{part}
+use Rattle.lists.specs.BigEndian.{number}
+use Rattle.lists.proofs.LogicLaws.{and-pass}
+use Rattle.lists.proofs.TextLaws.{same-refl, same-equal}
+use Rattle.turbo_labels.specs.Columns.{columnOf}
+use Rattle.columns.specs.Cell.{width}
+use Rattle.columns.specs.Tables.{columnsIn, messageColumns, planningColumns, calendarColumns, names, rowWidth}
+use Rattle.columns.specs.Layout.{columnAt, kindAt, widths, total, offset}
+use Rattle.passage.specs.Layout.{ownerOf}
+use Rattle.passage.specs.Facts.{TimeFacts}
+use Rattle.plan.specs.Passes.{passLevel, validityLevel, planBody}
+use Rattle.plan.specs.Rules.{matches}
+use Rattle.plan.specs.Claims.{UpdateIsRow, PassByName, ValidityByName, MatchExactly, PlanFields}
+use Rattle.plan.proofs.RangeLaws.{piece, of-pass, byte-of, byte-of-pass, no-stamp}
+
+-- a byte is the number of a part of one byte
+byte-number : (at : ℕ) (l : List ℕ) → getD l at 0 ≡ number (part at 1 l)
+unfolding number part
+byte-number zero [] = refl
+byte-number (suc at) [] = refl
+byte-number zero (x ∷ l) = omega arith
+byte-number (suc at) (x ∷ l) = byte-number at l
+
+pub update-is-row : UpdateIsRow
+unfolding columnOf same names rowWidth columnsIn messageColumns width columnAt kindAt widths total offset
+update-is-row = (
+  refl,
+  λ b. (
+    refl,
+    refl,
+    refl,
+    refl,
+    byte-number 28 b,
+    refl,
+    refl,
+    refl,
+    refl,
+    byte-number 55 b,
+    refl,
+    refl,
+    byte-number 62 b,
+    byte-number 63 b,
+    byte-number 64 b,
+    byte-number 65 b,
+  ),
+)
+
+pub pass-by-name : PassByName
+unfolding columnOf same names columnsIn planningColumns width columnAt kindAt widths total offset
+pass-by-name p f = (
+  f .owner,
+  f .line,
+  f .journey,
+  subst (λ (n : ℕ). n < 100) (byte-number 24 p) (f .fortify),
+  f .stop,
+  f .order,
+  f .level,
+  f .destination,
+  subst (λ (n : ℕ). TimeFacts 0 n (number (part 57 3 p))) (byte-number 63 p) (f .arrival),
+  subst (λ (n : ℕ). TimeFacts 2 n (number (part 60 3 p))) (byte-number 63 p) (f .departure),
+  subst (λ (n : ℕ). n ≤ 2) (byte-number 63 p) (f .stop-type),
+  subst (λ (n : ℕ). n ≤ 3) (byte-number 64 p) (f .flexible),
+)
+
+pub validity-by-name : ValidityByName
+unfolding columnOf same names columnsIn calendarColumns width columnAt kindAt widths total offset
+validity-by-name v f = (f .owner, f .level, f .date)
+
+pub match-exactly : MatchExactly
+unfolding matches columnOf same names columnsIn planningColumns calendarColumns width columnAt kindAt widths total offset
+match-exactly p v = (to, λ e. rw (e .0, e .1, same-refl (ownerOf v), same-refl (validityLevel v)))
+  where
+    to : matches p v ≡ true → (ownerOf p ≡ ownerOf v) × (passLevel p ≡ validityLevel v)
+    to e =
+        let b = and-pass (same (ownerOf p) (ownerOf v)) (same (passLevel p) (validityLevel v)) e in
+        (same-equal (ownerOf p) (ownerOf v) (b .0), same-equal (passLevel p) (validityLevel v) (b .1))
+
+pub plan-fields : PlanFields
+unfolding columnOf same names rowWidth columnsIn planningColumns calendarColumns width columnAt kindAt widths total offset
+plan-fields p v h k =
+    let piece-of = piece p v h k in
+    let key : part 14 27 (planBody p v) ≡ part 10 27 p = piece-of 2 (omega arith) in
+    let times : part 56 7 (planBody p v) ≡ part 57 7 p = piece-of 5 (omega arith) in
+    let parted = of-pass p v h k in
+    let byte-in = byte-of-pass p v h k in
+    let unheard = piece-of 4 (omega arith) in
+    let flags = byte-of p v h k 63 3 (1 ∷ getD p 64 0 ∷ 0 ∷ []) (piece-of 6 (omega arith)) in (
+      piece-of 0 (omega arith),
+      ap number (piece-of 1 (omega arith)),
+      parted 14 10 27 key 0 10 (omega arith),
+      ap number (parted 14 10 27 key 10 4 (omega arith)),
+      byte-in 14 10 27 key 14 (omega arith) ∙ byte-number 24 p,
+      parted 14 10 27 key 15 10 (omega arith),
+      ap number (parted 14 10 27 key 25 2 (omega arith)),
+      piece-of 3 (omega arith),
+      no-stamp p v h k unheard,
+      byte-of p v h k 51 5 (replicate 5 0) unheard 4 (omega arith),
+      ap number (parted 56 57 7 times 0 3 (omega arith)),
+      ap number (parted 56 57 7 times 3 3 (omega arith)),
+      byte-in 56 57 7 times 6 (omega arith) ∙ byte-number 63 p,
+      flags 0 (omega arith),
+      flags 1 (omega arith) ∙ byte-number 64 p,
+      flags 2 (omega arith),
+    )

@@ -1,0 +1,68 @@
+-- How pass times and validities lie in bytes, and the plan passage that the two give. Assumes nothing.
+use Prim.Native.Nat.{ℕ, _+_, _-_}
+use mathlib.Core.List.{List, [], _∷_, _++_}
+use lib.ListN.{getD, replicate}
+use Rattle.lists.specs.Part.{part}
+use Rattle.passage.specs.Layout.{text-wide, date-wide, stamp-wide, line-at, key-wide, arrival-at, show-cancelled-at, ownerOf}
+
+-- ---- a pass time: owner, line to order number, service level, destination, times and stop type, flexible
+
+-- line, journey, fortify, stop and order number stand side by side, as in a key
+abbrev pub trip-wide : ℕ
+trip-wide = key-wide - line-at
+
+-- arrival, departure and stop type stand side by side, as in a body
+abbrev pub times-wide : ℕ
+times-wide = show-cancelled-at - arrival-at
+
+abbrev pub pass-trip-at : ℕ
+pass-trip-at = text-wide
+
+abbrev pub pass-level-at : ℕ
+pass-level-at = pass-trip-at + trip-wide
+
+abbrev pub pass-destination-at : ℕ
+pass-destination-at = pass-level-at + text-wide
+
+abbrev pub pass-times-at : ℕ
+pass-times-at = pass-destination-at + text-wide
+
+abbrev pub pass-flexible-at : ℕ
+pass-flexible-at = pass-times-at + times-wide
+
+abbrev pub pass-wide : ℕ
+pass-wide = pass-flexible-at + 1
+
+abbrev pub passLevel : List ℕ → List ℕ
+passLevel p = part pass-level-at text-wide p
+
+-- ---- a validity: owner, service level, date
+
+abbrev pub validity-level-at : ℕ
+validity-level-at = text-wide
+
+abbrev pub validity-date-at : ℕ
+validity-date-at = validity-level-at + text-wide
+
+abbrev pub validity-wide : ℕ
+validity-wide = validity-date-at + date-wide
+
+abbrev pub validityLevel : List ℕ → List ℕ
+validityLevel v = part validity-level-at text-wide v
+
+-- ---- the plan passage of a pass time on the validity's date
+
+-- its key: owner, date, line to order number
+abbrev pub planKey : List ℕ → List ℕ → List ℕ
+planKey p v = ownerOf p ++ part validity-date-at date-wide v ++ part pass-trip-at trip-wide p
+
+-- what follows: destination, timestamp 0 and PLANNED, times and stop type, show cancelled 1, flexible as given, monitored 0
+abbrev pub planRest : List ℕ → List ℕ
+planRest p =
+    part pass-destination-at text-wide p
+    ++ replicate (stamp-wide + 1) 0
+    ++ part pass-times-at times-wide p
+    ++ 1 ∷ getD p pass-flexible-at 0 ∷ 0 ∷ []
+
+unfoldable pub planBody : List ℕ → List ℕ → List ℕ
+planBody p v = planKey p v ++ planRest p
