@@ -24,7 +24,7 @@ use Rattle.keys.proofs.KeyLaws.{tri, byByte-eq, byByte-gt, cmp-same, cmp-trans,
 use Rattle.keys.proofs.SortedLaws.{sorted-pair}
 use Rattle.table.specs.Rules.{rows, tableSound}
 use Rattle.table.proofs.SoundLaws.{sound-sorted, sound-fits}
-use Rattle.board.specs.First.{placed, firstOf}
+use Rattle.board.specs.inner.First.{placeFound, firstOwned}
 
 -- ---- keys that begin alike
 
@@ -64,46 +64,46 @@ between (v ∷ o) x z (y ∷ b) e f = go (between o x z b) (tri v y)
 
 -- ---- the place of a key
 
-place-before : (i : ℕ) (k : List ℕ) (rs : List (List ℕ)) (j : ℕ) → i + j < placed (lookupFrom i k rs) → cmp (keyOf (getD rs j [])) k ≡ Less
+place-before : (i : ℕ) (k : List ℕ) (rs : List (List ℕ)) (j : ℕ) → i + j < placeFound (lookupFrom i k rs) → cmp (keyOf (getD rs j [])) k ≡ Less
 unfolding lookupFrom
 place-before i k [] j h = absurd (omega arith)
 place-before i k (r ∷ rs) j h = go (cmp (keyOf r) k) refl j (place-before (suc i) k rs) h
   where
-    go : (o : Order) → cmp (keyOf r) k ≡ o → (j : ℕ) → ((j : ℕ) → suc i + j < placed (lookupFrom (suc i) k rs) → cmp (keyOf (getD rs j [])) k ≡ Less)
-        → i + j < placed (byOrder o (lookupFrom (suc i) k rs) (At i) (Missing i)) → cmp (keyOf (getD (r ∷ rs) j [])) k ≡ Less
+    go : (o : Order) → cmp (keyOf r) k ≡ o → (j : ℕ) → ((j : ℕ) → suc i + j < placeFound (lookupFrom (suc i) k rs) → cmp (keyOf (getD rs j [])) k ≡ Less)
+        → i + j < placeFound (byOrder o (lookupFrom (suc i) k rs) (At i) (Missing i)) → cmp (keyOf (getD (r ∷ rs) j [])) k ≡ Less
     go Less e zero ih l = e
     go Less e (suc j) ih l = ih j (omega arith)
     go Same e j ih l = absurd (omega arith)
     go More e j ih l = absurd (omega arith)
 
-place-least : (i : ℕ) (k : List ℕ) (rs : List (List ℕ)) → i ≤ placed (lookupFrom i k rs)
+place-least : (i : ℕ) (k : List ℕ) (rs : List (List ℕ)) → i ≤ placeFound (lookupFrom i k rs)
 unfolding lookupFrom
 place-least i k [] = omega arith
 place-least i k (r ∷ rs) = go (cmp (keyOf r) k) (place-least (suc i) k rs)
   where
-    go : (o : Order) → suc i ≤ placed (lookupFrom (suc i) k rs) → i ≤ placed (byOrder o (lookupFrom (suc i) k rs) (At i) (Missing i))
+    go : (o : Order) → suc i ≤ placeFound (lookupFrom (suc i) k rs) → i ≤ placeFound (byOrder o (lookupFrom (suc i) k rs) (At i) (Missing i))
     go Less ih = omega arith
     go Same ih = omega arith
     go More ih = omega arith
 
-place-most : (i : ℕ) (k : List ℕ) (rs : List (List ℕ)) → placed (lookupFrom i k rs) ≤ i + length rs
+place-most : (i : ℕ) (k : List ℕ) (rs : List (List ℕ)) → placeFound (lookupFrom i k rs) ≤ i + length rs
 unfolding lookupFrom
 place-most i k [] = omega arith
 place-most i k (r ∷ rs) = go (cmp (keyOf r) k) (place-most (suc i) k rs)
   where
-    go : (o : Order) → placed (lookupFrom (suc i) k rs) ≤ suc i + length rs → placed (byOrder o (lookupFrom (suc i) k rs) (At i) (Missing i)) ≤ i + length (r ∷ rs)
+    go : (o : Order) → placeFound (lookupFrom (suc i) k rs) ≤ suc i + length rs → placeFound (byOrder o (lookupFrom (suc i) k rs) (At i) (Missing i)) ≤ i + length (r ∷ rs)
     go Less ih = omega arith
     go Same ih = omega arith
     go More ih = omega arith
 
-place-here : (i : ℕ) (k : List ℕ) (rs : List (List ℕ)) (j : ℕ) → placed (lookupFrom i k rs) ≡ i + j → j < length rs → cmp (keyOf (getD rs j [])) k ≡ Less → ⊥
+place-here : (i : ℕ) (k : List ℕ) (rs : List (List ℕ)) (j : ℕ) → placeFound (lookupFrom i k rs) ≡ i + j → j < length rs → cmp (keyOf (getD rs j [])) k ≡ Less → ⊥
 unfolding lookupFrom
 place-here i k [] j h l e = absurd (omega arith)
 place-here i k (r ∷ rs) j h l e = go (cmp (keyOf r) k) refl j (place-here (suc i) k rs) (place-least (suc i) k rs) h l e
   where
-    go : (o : Order) → cmp (keyOf r) k ≡ o → (j : ℕ) → ((j : ℕ) → placed (lookupFrom (suc i) k rs) ≡ suc i + j → j < length rs → cmp (keyOf (getD rs j [])) k ≡ Less → ⊥)
-        → suc i ≤ placed (lookupFrom (suc i) k rs)
-        → placed (byOrder o (lookupFrom (suc i) k rs) (At i) (Missing i)) ≡ i + j → j < length (r ∷ rs) → cmp (keyOf (getD (r ∷ rs) j [])) k ≡ Less → ⊥
+    go : (o : Order) → cmp (keyOf r) k ≡ o → (j : ℕ) → ((j : ℕ) → placeFound (lookupFrom (suc i) k rs) ≡ suc i + j → j < length rs → cmp (keyOf (getD rs j [])) k ≡ Less → ⊥)
+        → suc i ≤ placeFound (lookupFrom (suc i) k rs)
+        → placeFound (byOrder o (lookupFrom (suc i) k rs) (At i) (Missing i)) ≡ i + j → j < length (r ∷ rs) → cmp (keyOf (getD (r ∷ rs) j [])) k ≡ Less → ⊥
     go Less q zero ih m h l e = absurd (omega arith)
     go Less q (suc j) ih m h l e = ih j (omega arith) (omega arith) e
     go Same q zero ih m h l e = let z : _≡_ {A = ℕ} 0 1 = cc in absurd (omega arith)
@@ -135,9 +135,9 @@ least-key owner =
     let l : length (over 0 owner (replicate key-wide 0)) ≡ key-wide = length-over 0 owner (replicate key-wide 0) ∙ length-replicate {A = ℕ} key-wide 0 in
     ap (λ (m : ℕ). part 0 m (over 0 owner (replicate key-wide 0))) (sym l) ∙ part-all (over 0 owner (replicate key-wide 0))
 
-pub first-is : (owner k : List ℕ) (rs : List (List ℕ)) (f : Found) → k ≡ over 0 owner (replicate key-wide 0) → f ≡ lookup (part 0 key-wide k) rs → placed f ≡ firstOf owner rs
-unfolding firstOf
-first-is owner k rs f e g = ap placed (g ∙ ap (λ (x : List ℕ). lookup (part 0 key-wide x) rs) e ∙ ap (λ (x : List ℕ). lookup x rs) (least-key owner))
+pub first-is : (owner k : List ℕ) (rs : List (List ℕ)) (f : Found) → k ≡ over 0 owner (replicate key-wide 0) → f ≡ lookup (part 0 key-wide k) rs → placeFound f ≡ firstOwned owner rs
+unfolding firstOwned
+first-is owner k rs f e g = ap placeFound (g ∙ ap (λ (x : List ℕ). lookup (part 0 key-wide x) rs) e ∙ ap (λ (x : List ℕ). lookup x rs) (least-key owner))
 
 module _ (owner t : List ℕ) (n : ℕ) (s : tableSound n t ≡ true) (w : length owner ≡ text-wide) where
   abbrev row : ℕ → List ℕ
@@ -175,39 +175,39 @@ module _ (owner t : List ℕ) (n : ℕ) (s : tableSound n t ≡ true) (w : lengt
       let m : length (owner ++ rest j) ≡ key-wide = ap length (sym k) ∙ l in
       least-start owner (rest j) key-wide (omega arith) (rw k at f)
 
-  pub first-most : firstOf owner (rows n t) ≤ n
-  unfolding firstOf lookup
+  pub first-most : firstOwned owner (rows n t) ≤ n
+  unfolding firstOwned lookup
   first-most = let l = length-rowsOf row-wide n t in let m = place-most 0 least (rows n t) in omega arith
 
-  below : (j : ℕ) → j < firstOf owner (rows n t) → cmp (keyOf (row j)) least ≡ Less
-  unfolding firstOf lookup
+  below : (j : ℕ) → j < firstOwned owner (rows n t) → cmp (keyOf (row j)) least ≡ Less
+  unfolding firstOwned lookup
   below j h = let m = first-most in rw (row-at row-wide n j t (omega arith)) at (place-before 0 least (rows n t) j (omega arith))
 
   -- no row before the first is the owner's
-  pub first-before : (j : ℕ) → j < firstOf owner (rows n t) → same (ownerOf (row j)) owner ≡ false
+  pub first-before : (j : ℕ) → j < firstOwned owner (rows n t) → same (ownerOf (row j)) owner ≡ false
   first-before j h = go (same (ownerOf (row j)) owner) refl
     where
       go : (b : Bool) → same (ownerOf (row j)) owner ≡ b → b ≡ false
       go true e = let m = first-most in absurd (not-below j (omega arith) e (below j h))
       go false e = refl
 
-  first-here : firstOf owner (rows n t) < n → cmp (keyOf (row (firstOf owner (rows n t)))) least ≡ Less → ⊥
-  unfolding firstOf lookup
+  first-here : firstOwned owner (rows n t) < n → cmp (keyOf (row (firstOwned owner (rows n t)))) least ≡ Less → ⊥
+  unfolding firstOwned lookup
   first-here h e =
       let l = length-rowsOf row-wide n t in
-      let a = firstOf owner (rows n t) in
+      let a = firstOwned owner (rows n t) in
       place-here 0 least (rows n t) a (omega arith) (omega arith) (rw (row-at row-wide n a t h) e)
 
-  above : (i : ℕ) → firstOf owner (rows n t) ≤ i → i < n → cmp (keyOf (row i)) least ≡ Less → ⊥
-  above i h k e = go (tri (firstOf owner (rows n t)) i)
+  above : (i : ℕ) → firstOwned owner (rows n t) ≤ i → i < n → cmp (keyOf (row i)) least ≡ Less → ⊥
+  above i h k e = go (tri (firstOwned owner (rows n t)) i)
     where
-      go : (firstOf owner (rows n t) < i) ⊎ ((firstOf owner (rows n t) ≡ i) ⊎ (i < firstOf owner (rows n t))) → ⊥
-      go (inl l) = first-here (omega arith) (cmp-trans _ (keyOf (row i)) _ (keys-rise n t (firstOf owner (rows n t)) i s l k) e)
+      go : (firstOwned owner (rows n t) < i) ⊎ ((firstOwned owner (rows n t) ≡ i) ⊎ (i < firstOwned owner (rows n t))) → ⊥
+      go (inl l) = first-here (omega arith) (cmp-trans _ (keyOf (row i)) _ (keys-rise n t (firstOwned owner (rows n t)) i s l k) e)
       go (inr (inl l)) = first-here (omega arith) (rw l e)
       go (inr (inr l)) = absurd (omega arith)
 
   -- a row between the first and a row of the owner is the owner's
-  within : (i j : ℕ) → firstOf owner (rows n t) ≤ i → i < j → j < n → same (ownerOf (row j)) owner ≡ true → same (ownerOf (row i)) owner ≡ true
+  within : (i j : ℕ) → firstOwned owner (rows n t) ≤ i → i < j → j < n → same (ownerOf (row j)) owner ≡ true → same (ownerOf (row i)) owner ≡ true
   within i j h k l e = starts-same i (go (cases (cmp least (keyOf (row i)))))
     where
       go : (cmp least (keyOf (row i)) ≡ Less) ⊎ ((cmp least (keyOf (row i)) ≡ Same) ⊎ (cmp least (keyOf (row i)) ≡ More)) → part 0 (length owner) (keyOf (row i)) ≡ owner
@@ -220,7 +220,7 @@ module _ (owner t : List ℕ) (n : ℕ) (s : tableSound n t ≡ true) (w : lengt
       go (inr (inr f)) = absurd (above i h (omega arith) (flipped least (keyOf (row i)) More f))
 
   -- from a row behind the first that is not the owner's, no row is
-  pub first-behind : (i j : ℕ) → firstOf owner (rows n t) ≤ i → same (ownerOf (row i)) owner ≡ false → i ≤ j → j < n → same (ownerOf (row j)) owner ≡ false
+  pub first-behind : (i j : ℕ) → firstOwned owner (rows n t) ≤ i → same (ownerOf (row i)) owner ≡ false → i ≤ j → j < n → same (ownerOf (row j)) owner ≡ false
   first-behind i j h d k l = go (same (ownerOf (row j)) owner) refl (tri i j)
     where
       go : (b : Bool) → same (ownerOf (row j)) owner ≡ b → (i < j) ⊎ ((i ≡ j) ⊎ (j < i)) → b ≡ false

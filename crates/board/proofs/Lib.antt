@@ -3,7 +3,5 @@ pub mod FirstLaws
 pub mod PassLaws
 pub mod BoardLaws
 pub mod OrderLaws
-pub mod Determined
 pub mod Claims
-pub mod PlacesPlaceLaws
-pub mod PlacesDetermined
+pub mod Determined

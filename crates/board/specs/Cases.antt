@@ -2,14 +2,15 @@
 use mathlib.Core.Path.{_≡_, refl}
 use mathlib.Core.Bool.{Bool, true, false}
 use mathlib.Core.List.{List, [], _∷_, _++_}
-use Prim.Native.Nat.{ℕ, _+_}
+use Prim.Native.Nat.{ℕ}
 use Rattle.lists.specs.BigEndian.{number, spelled}
 use Rattle.lists.specs.Part.{part}
 use Rattle.lists.specs.Text.{bytes, same}
 use Rattle.clock.specs.Date.{daysIn}
-use Rattle.clock.specs.Moment.{monthStart, dayCount}
+use Rattle.clock.specs.Moment.{monthStart, dayCount, momentOf}
 use Rattle.texts.specs.Texts.{padded}
-use Rattle.board_show.specs.Show.{departs, momentAt, atStop, mayShow, shows}
+use Rattle.board_show.specs.Ask.{asked}
+use Rattle.board_show.specs.Show.{departs, atStop, mayShow, shows}
 use Rattle.board.specs.Rules.{placeIn, listFrom, listed}
 
 -- a passage of CXX at S1, of a date and a departure: stop type, status, show cancelled, flexible, monitored
@@ -46,7 +47,7 @@ before = passage 20160301 86100 1 0 1 0 0
 
 -- shown at S1 of CXX at 23:50:00 on 2016-03-01, for a number of seconds
 abbrev pub shownFor : ℕ → List ℕ → Bool
-shownFor horizon = shows (bytes "CXX") (bytes "S1") (momentAt 20160301 85800) (momentAt 20160301 85800 + horizon)
+shownFor horizon = shows (asked (bytes "CXX") (bytes "S1") 20160301 85800 horizon)
 
 -- P8: a departure at now + horizon is shown, a second later not
 pub at-the-end : shownFor 1200 late ≡ true
@@ -58,7 +59,7 @@ unfolding shows atStop mayShow same part number spelled dayCount monthStart days
 past-the-end = refl
 
 -- 25:20:00 on 2017-01-01 is 01:20:00 on 2017-01-02
-pub past-midnight : departs (passage 20170101 91200 1 0 1 0 0) ≡ momentAt 20170102 4800
+pub past-midnight : departs (passage 20170101 91200 1 0 1 0 0) ≡ momentOf 20170102 (record { 0 = 4800 })
 unfolding part number spelled dayCount monthStart daysIn
 past-midnight = refl
 

@@ -2,7 +2,7 @@
 use mathlib.Core.Path.{_≡_}
 use mathlib.Core.Bool.{true, false}
 use mathlib.Core.List.{List, [], _∷_}
-use mathlib.Core.Logic.{_⊎_}
+use mathlib.Core.Logic.{_⊎_, _↔_}
 use Prim.Native.Nat.{ℕ, _+_, _*_, _≤_, _<_}
 use lib.Dec.{eqb}
 use lib.ListN.{length, getD}
@@ -13,30 +13,27 @@ use Rattle.passage.specs.Layout.{keyOf, ownerOf, stopOf, statusOf, stopTypeOf, 
 use Rattle.keys.specs.declared.Order.the-variants.{Less}
 use Rattle.keys.specs.Keys.{cmp}
 use Rattle.table.specs.Rules.{tableSound}
-use Rattle.board.specs.declared.Answer.the-variants.{Listed, Unsound, OutOfRange}
-use Rattle.board_show.specs.Show.{departs, momentAt, shows}
-use Rattle.board_show.specs.Ask.{asksInRange}
-use Rattle.board.specs.Rules.{boardOf, boardAnswer, boardPlaces}
+use Rattle.board.specs.declared.Listing.the-variants.{Listed, Unsound, OutOfRange}
+use Rattle.board_show.specs.Ask.{Question, asksInRange, nowOf}
+use Rattle.board_show.specs.Show.{departs, shows}
+use Rattle.board.specs.Rules.{boardOf, boardWith, boardLeaves, boardNumbers, boardGives}
 
 -- ---- which rows
 
 -- document 01's conditions, each by name
-pub record ShowFacts (owner stop : List ℕ) (from till : ℕ) (r : List ℕ) : Type 0 where
-  pub owner-equal : ownerOf r ≡ padded owner
-  pub stop-equal : stopOf r ≡ padded stop
+pub record ShowFacts (q : Question) (r : List ℕ) : Type 0 where
+  pub owner-equal : ownerOf r ≡ padded (q .owner)
+  pub stop-equal : stopOf r ≡ padded (q .stop)
   pub not-last : stopTypeOf r ≡ 2 → ⊥
   pub not-passed : statusOf r ≡ 5 → ⊥
-  pub from-now : from ≤ departs r
-  pub to-horizon : departs r ≤ till
+  pub from-now : nowOf q .0 ≤ departs r .0
+  pub to-horizon : departs r .0 ≤ nowOf q .0 + q .horizon
   pub cancel-shown : statusOf r ≡ 1 → showCancelledOf r ≡ 1
   pub flexible-shown : (flexibleOf r ≤ 1) ⊎ ((flexibleOf r ≡ 3) × (monitoredOf r ≡ 1))
 
 -- a row is shown exactly where they all hold
 abbrev pub ShowsExactly : Type 0
-ShowsExactly =
-    (owner stop : List ℕ) (from till : ℕ) (r : List ℕ)
-    → (shows owner stop from till r ≡ true → ShowFacts owner stop from till r)
-    × (ShowFacts owner stop from till r → shows owner stop from till r ≡ true)
+ShowsExactly = (q : Question) (r : List ℕ) → (shows q r ≡ true) ↔ ShowFacts q r
 
 -- how often place i stands in a list
 unfoldable pub times : ℕ → List ℕ → ℕ
@@ -50,9 +47,9 @@ rowAt table i = part (i * row-wide) row-wide table
 -- the place of each row that is shown stands in the list once, and no other
 abbrev pub ListsExactly : Type 0
 ListsExactly =
-    (owner stop : List ℕ) (date second horizon : ℕ) (table : List ℕ) (n i : ℕ)
-    → let shown = shows owner stop (momentAt date second) (momentAt date second + horizon) (rowAt table i) in
-    let found = times i (boardOf owner stop date second horizon table n) in
+    (q : Question) (table : List ℕ) (n i : ℕ)
+    → let shown = shows q (rowAt table i) in
+    let found = times i (boardOf q table n) in
     (i < n → shown ≡ true → found ≡ 1) × (i < n → shown ≡ false → found ≡ 0) × (n ≤ i → found ≡ 0)
 
 -- ---- their order
@@ -60,12 +57,13 @@ ListsExactly =
 -- of two neighbours the first departs earlier, or at the same moment with the lower place
 abbrev pub InOrder : Type 0
 InOrder =
-    (owner stop : List ℕ) (date second horizon : ℕ) (table : List ℕ) (n k : ℕ)
-    → let l = boardOf owner stop date second horizon table n in
+    (q : Question) (table : List ℕ) (n k : ℕ)
+    → let l = boardOf q table n in
     let i = getD l k 0 in
     let j = getD l (k + 1) 0 in
-    k + 1 < length l
-    → (departs (rowAt table i) < departs (rowAt table j)) ⊎ ((departs (rowAt table i) ≡ departs (rowAt table j)) × (i < j))
+    let a = departs (rowAt table i) .0 in
+    let b = departs (rowAt table j) .0 in
+    k + 1 < length l → (a < b) ⊎ ((a ≡ b) × (i < j))
 
 -- the lower place has the lower key
 abbrev pub PlacesRiseAsKeys : Type 0
@@ -78,13 +76,13 @@ PlacesRiseAsKeys =
 -- as many places as fit, from the list's first; the others keep their contents; and the number shown in all is the list's
 abbrev pub CutOnlyWhereFull : Type 0
 CutOnlyWhereFull =
-    (owner stop : List ℕ) (date second horizon : ℕ) (table : List ℕ) (n : ℕ) (places : List ℕ)
-    → let l = boardOf owner stop date second horizon table n in
-    let after = boardPlaces owner stop date second horizon table n places in
+    (q : Question) (table : List ℕ) (n : ℕ) (places : List ℕ)
+    → let l = boardOf q table n in
+    let after = boardLeaves q table n places .places in
     tableSound n table ≡ true
-    → asksInRange owner stop date second horizon ≡ true
+    → asksInRange q ≡ true
     → (w : ℕ)
-    × (boardAnswer owner stop date second horizon table n places ≡ Listed w (length l))
+    × (boardLeaves q table n places .answer ≡ Listed w (length l))
     × (length l ≤ length places → w ≡ length l)
     × (length places ≤ length l → w ≡ length places)
     × ((k : ℕ) → k < w → getD after k 0 ≡ getD l k 0)
@@ -93,12 +91,16 @@ CutOnlyWhereFull =
 -- 1 exactly where the table is not sound, then 13 exactly where the question is out of its range; both leave the places
 abbrev pub RefusesExactly : Type 0
 RefusesExactly =
-    (owner stop : List ℕ) (date second horizon : ℕ) (table : List ℕ) (n : ℕ) (places : List ℕ)
-    → let answer = boardAnswer owner stop date second horizon table n places in
-    let after = boardPlaces owner stop date second horizon table n places in
-    (tableSound n table ≡ false → (answer ≡ Unsound) × (after ≡ places))
-    × (tableSound n table ≡ true → asksInRange owner stop date second horizon ≡ false → (answer ≡ OutOfRange) × (after ≡ places))
+    (q : Question) (table : List ℕ) (n : ℕ) (places : List ℕ)
+    → (tableSound n table ≡ false → boardLeaves q table n places ≡ boardWith Unsound places)
+    × (tableSound n table ≡ true → asksInRange q ≡ false → boardLeaves q table n places ≡ boardWith OutOfRange places)
+
+-- the numbers of what is answered are those due by document 01's order
+abbrev pub NumbersDue : Type 0
+NumbersDue =
+    (q : Question) (table : List ℕ) (n : ℕ) (places : List ℕ)
+    → boardNumbers (boardLeaves q table n places .answer) ≡ boardGives q table n (length places)
 
 -- all of these
 abbrev pub All : Type 0
-All = ShowsExactly × ListsExactly × InOrder × PlacesRiseAsKeys × CutOnlyWhereFull × RefusesExactly
+All = ShowsExactly × ListsExactly × InOrder × PlacesRiseAsKeys × CutOnlyWhereFull × RefusesExactly × NumbersDue

@@ -1,5 +1,4 @@
 pub mod Rules
-pub mod First
 pub mod Claims
 pub mod Cases
-pub mod Places
+pub mod inner

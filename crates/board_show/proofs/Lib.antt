@@ -1,5 +1,5 @@
+pub mod AskLaws
 pub mod TextLaws
 pub mod ShowLaws
+pub mod Claims
 pub mod Determined
-pub mod AskLaws
-pub mod AsksDetermined

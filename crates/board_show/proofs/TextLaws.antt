@@ -17,7 +17,7 @@ use Rattle.lists.proofs.PartLaws.{part-add, part-all, part-part, length-part}
 use Rattle.lists.proofs.TextLaws.{same-refl, same-equal}
 use Rattle.lists.proofs.BigEndianLaws.{number-same}
 use Rattle.passage.specs.Layout.{text-wide}
-use Rattle.passage.proofs.TestLaws.{tests-equal, all-pass}
+use Rattle.lists.proofs.LogicLaws.{all-pass, tests-equal}
 
 -- ten bytes are four, four and two
 ten : (l : List ℕ) (p : ℕ) → part p text-wide l ≡ part p 4 l ++ (part (p + 4) 4 l ++ part (p + 8) 2 l)

@@ -1,3 +1,4 @@
-pub mod Show
-pub mod Look
 pub mod Ask
+pub mod Show
+pub mod Claims
+pub mod inner

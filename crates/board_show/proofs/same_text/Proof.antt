@@ -44,8 +44,8 @@ returns c =
       g .get-number .ensures,
     )
     (sym
-    (same-numbers (s .args .t .now) (s .args .text .now) (s .args .at) (s .pre .0) (s .pre .1)
-    (bytes-known (s .args .t .now) (λ (i : ℕ). omega (arith, g .before .before .shared-slice-known .given i)))
+    (same-numbers (s .args .table .now) (s .args .text .now) (s .args .at) (s .pre .0) (s .pre .1)
+    (bytes-known (s .args .table .now) (λ (i : ℕ). omega (arith, g .before .before .shared-slice-known .given i)))
     (bytes-known (s .args .text .now) (λ (i : ℕ). omega (arith, g .before .shared-slice-known2 .given i)))))
 
 pub same-text-spec : {M : Type 1} → statement M

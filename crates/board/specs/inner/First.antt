@@ -9,10 +9,10 @@ use Rattle.keys.specs.declared.Found.the-variants.{At, Missing}
 use Rattle.keys.specs.Sorted.{lookup}
 
 -- the place of a key that was looked up, there or missing
-abbrev pub placed : Found → ℕ
-placed (At i) = i
-placed (Missing i) = i
+abbrev pub placeFound : Found → ℕ
+placeFound (At i) = i
+placeFound (Missing i) = i
 
 -- the place of the least key that an owner, padded, can have
-unfoldable pub firstOf : List ℕ → List (List ℕ) → ℕ
-firstOf owner rs = placed (lookup (over 0 owner (replicate key-wide 0)) rs)
+unfoldable pub firstOwned : List ℕ → List (List ℕ) → ℕ
+firstOwned owner rs = placeFound (lookup (over 0 owner (replicate key-wide 0)) rs)
