@@ -1,0 +1,2 @@
+pub mod LeavesLaws
+pub mod Claims

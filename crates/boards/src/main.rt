@@ -1,18 +1,17 @@
 // The correction desk's program: does what a script says, a command a line, and prints each answer and each board.
+mod files;
 mod script;
-mod text;
 
+use files::Loaded;
 use script::Held;
-use text::Loaded;
 
 // The script's lines, one after the other.
 fn lines(s: &[u8], register: &mut [u8], book: &mut [u8], table: &mut [u8]) -> Held {
     let mut h = script::nothing();
     let mut rest = s;
     while 0 < rest.len() {
-        let n = turbo::find(rest, 10);
-        h = script::line(&rest[0..n], register, book, table, h);
-        let next = text::after(rest, n);
+        h = script::line(script_text::first_line(rest), register, book, table, h);
+        let next = script_text::rest_after_line(rest);
         rest = next;
     }
     h
@@ -26,7 +25,7 @@ fn size(paper: &mut [u8]) -> usize {
     }
     let mut path = io::buffer();
     let n = os::arg(1, &mut path);
-    match text::load(&path[..n], paper) {
+    match files::load(&path[..n], paper) {
         Loaded::Bytes(k) => k,
         Loaded::Unreadable => {
             boards_words::say(b"the script cannot be read\n");
@@ -57,7 +56,7 @@ fn run(
         boards_words::say(b"script over 65,536 bytes: nothing done\n");
         return;
     }
-    let h = lines(text::front(paper, n), register, book, table);
+    let h = lines(script_text::front(paper, n), register, book, table);
     report(h.bad);
 }
 

@@ -3,9 +3,8 @@ mod listing;
 
 use libc::STDOUT_FILENO;
 pub use listing::print_board;
-ghost use Prim.Native.Nat.{_-_, _≤_};
-ghost use lib.ListN.{length};
 
+// Words as they stand.
 pub fn say(words: &[u8]) {
     io::write_all(STDOUT_FILENO, words);
 }
@@ -14,27 +13,11 @@ fn number(n: usize) {
     io::print_decimal(STDOUT_FILENO, n as u64);
 }
 
-// What stands behind byte n.
-fn after(s: &[u8], n: usize) -> &[u8]
-    ensures { λ r. ⌜ length (now r) ≤ length (now (s .entry)) - 1 ⌝ }
-{
-    if n < s.len() {
-        let a = n + 1;
-        return &s[a..];
-    }
-    &s[0..0]
-}
-
-// The k-th part of words that bars part, from 0.
-fn nth(all: &[u8], k: usize) -> &[u8] {
-    turbo::first_field(turbo::rest_after_bars(all, k))
-}
-
 // The words up to the mark %, and there a number.
 fn piece(words: &[u8], n: usize) {
-    let k = turbo::find(words, b'%');
-    say(&words[0..k]);
-    if k < words.len() {
+    let front = script_text::before(words, b'%');
+    say(front);
+    if front.len() < words.len() {
         number(n);
     }
 }
@@ -46,7 +29,7 @@ pub fn tell(words: &[u8], a: usize, b: usize) {
     while 0 < rest.len() {
         piece(rest, n);
         n = b;
-        let next = after(rest, turbo::find(rest, b'%'));
+        let next = script_text::behind(rest, b'%');
         rest = next;
     }
 }
@@ -68,36 +51,27 @@ pub fn refusal(n: usize, a: usize, b: usize, dossier: usize) {
         message of another sender|\
         owner, stop, date, time or horizon outside its range";
     tell(b"refused, %: ", n, 0);
-    tell(nth(all, n), a, b);
-    say(nth(b"| of the planning| of the calendar", dossier));
+    tell(turbo::field_of(all, n), a, b);
+    say(turbo::field_of(b"| of the planning| of the calendar", dossier));
     say(b"; nothing changed\n");
 }
 
-// Why a line is not done. At 0 it is no command, at 1 to 5 its command wants other words.
-pub const UNREADABLE: usize = 6;
-
-pub const NO_NUMBER: usize = 7;
-
-pub const NO_OWNER: usize = 8;
-
-pub const FULL: usize = 9;
-
-// A line that is not done: the word that is wrong, and why.
+// A line that is not done: the word that is wrong, and why, by the numbers of `boards_orders`.
 pub fn bad(line: u32, word: &[u8], why: usize) {
     let all = b"\
-        : no command|\
         : wants planning-file calendar-file|\
         : wants sender owner|\
         : wants sender dossier-file|\
         : wants number sender|\
         : wants owner stop date time horizon [places]|\
+        : no command|\
         : cannot be read|\
         : no number in its range|\
         : no owner, over 10 bytes|\
         : register full, 64 pairs";
     tell(b"line %: ", line as usize, 0);
     say(word);
-    say(nth(all, why));
+    say(turbo::field_of(all, why));
     say(b"; nothing changed\n");
 }
 
@@ -120,6 +94,7 @@ pub fn heading(owner: &[u8], stop: &[u8], day: &[u8], time: &[u8], horizon: usiz
     tell(b" %\n", horizon, 0);
 }
 
+// How the program is called, and its commands.
 pub fn usage() {
     say(
         b"\

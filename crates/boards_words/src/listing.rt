@@ -1,10 +1,12 @@
 // Boards as they are printed.
-use crate::nth;
 use crate::number;
 use crate::refusal;
 use crate::say;
 use crate::tell;
-use board::Answer;
+use board::Listing;
+use clock::ClockSeconds;
+use clock::OperatingSeconds;
+ghost use Prim.Native.Nat.{_*_, _<_};
 
 // A mark, then a number of two digits.
 fn two(mark: &[u8], n: u32) {
@@ -22,8 +24,12 @@ fn kept(padded: &[u8]) {
     say(&padded[0..n]);
 }
 
-// A date YYYYMMDD and a second of it.
-fn moment(date: u32, second: u32) {
+// A moment, as the clock shows it.
+fn clock_time(m: ClockSeconds)
+    requires { ⌜ m .0 < 36526 * 86400 ⌝ }
+{
+    let date = clock::date_at(m);
+    let second = clock::second_at(m);
     number((date / 10000) as usize);
     two(b"-", date / 100 % 100);
     two(b"-", date % 100);
@@ -32,34 +38,18 @@ fn moment(date: u32, second: u32) {
     two(b":", second % 60);
 }
 
-// The date after a date.
-fn next_day(date: u32) -> u32 {
-    if 20991231 <= date {
-        return 21000101;
-    }
-    let day = date + 1;
-    if clock::is_date(day) {
-        return day;
-    }
-    let month = date / 100 * 100 + 101;
-    if clock::is_date(month) {
-        return month;
-    }
-    date / 10000 * 10000 + 10101
-}
-
-// A time of an operating day as the clock shows it: from 24:00:00 on it is the next day.
+// A time of an operating day, as the clock shows it: from 24:00:00 on it is the next day. Every row of a board has one.
 fn departure(date: u32, time: u32) {
-    if time < 86400 {
-        moment(date, time);
-        return;
+    if clock::is_date(date) {
+        if time < 115200 {
+            clock_time(clock::moment(date, OperatingSeconds(time)));
+        }
     }
-    moment(next_day(date), time - 86400);
 }
 
 fn status(code: u8) {
     let all = b" PLANNED\n| CANCEL\n| UNKNOWN\n| DRIVING\n| ARRIVED\n| PASSED\n";
-    say(nth(all, code as usize));
+    say(turbo::field_of(all, code as usize));
 }
 
 // A row of the table.
@@ -97,14 +87,14 @@ fn rows(table: &[u8], places: &[u32], n: usize) {
 }
 
 // What a board wrote and how many passages it shows.
-fn listed(a: Answer, table: &[u8], places: &[u32]) {
+fn listed(a: Listing, table: &[u8], places: &[u32]) {
     match a {
-        Answer::Listed(written, shown) => {
+        Listing::Listed(written, shown) => {
             rows(table, places, written);
             tell(b"END % %\n", written, shown);
         }
-        Answer::Unsound => refusal(1, 0, 0, 0),
-        Answer::OutOfRange => refusal(13, 0, 0, 0),
+        Listing::Unsound => refusal(1, 0, 0, 0),
+        Listing::OutOfRange => refusal(13, 0, 0, 0),
     }
 }
 

@@ -7,28 +7,27 @@ use mathlib.Core.List.{List, [], _∷_, _++_}
 use lib.ListN.{length}
 use Rattle.lists.specs.Text.{bytes}
 use Rattle.lists.proofs.RowLaws.{length-rowsOf}
-use Rattle.syntax.specs.Machine.{field, escape, firstEscape, nul, ret, opened, marked, step, accepting, run, fault}
+use Rattle.syntax.specs.Machine.{fieldStep, escapeStep, firstEscapeStep, nullStep, returnStep, startStep, markStep, step, accepting, run, fault}
 use Rattle.syntax.specs.Cases as Syntax
 use Rattle.turbo.specs.Split.{until, past}
 use Rattle.turbo_lines.specs.Lines.{linesFrom, markOf, afterMark}
 use Rattle.turbo.specs.Cases as Turbo
 use Rattle.field_types.specs.Cases as Fields
-use Rattle.field_types.specs.StampsCases as Stamps
 use Rattle.passage.specs.Layout.{row-wide}
 use Rattle.columns.specs.declared.Table.the-variants as Tables
-use Rattle.reader.specs.declared.Answer.the-variants.{Rows, Syntax as SyntaxAt}
+use Rattle.reader.specs.declared.Reading.the-variants.{Rows, Syntax as SyntaxAt}
 use Rattle.reader.specs.Items.{items}
-use Rattle.reader.specs.Rules.{firstLine, firstColumn, rowsUpTo, answerTo, readingOf, itemsOf}
+use Rattle.reader.specs.Rules.{firstLine, firstColumn, dataRows, answerTo, readingOf, itemsOf}
 use Rattle.keys.specs.Replay.{takenAll}
 use Rattle.update.specs.Moves.{mayMove, table17}
-use Rattle.table.specs.Rules.{room}
+use Rattle.table.specs.Rules.{tableRoom}
 use Rattle.table.proofs.SoundLaws.{sound-within}
 use Rattle.book.specs.Entries.{entry-wide}
 use Rattle.book.specs.Rules.{bookRoom}
 use Rattle.book.proofs.SoundLaws.{sound-facts}
 use Rattle.calls.specs.declared.Counts.{Counts}
 use Rattle.calls.specs.Answers.{numbers}
-use Rattle.calls.specs.Message.{messageSound, messageBodies, rowsTaken, roomFor, messageAnswer}
+use Rattle.calls.specs.Message.{messageSound, messageRows, rowsTaken, roomFor, messageAnswer}
 use Rattle.calls.proofs.AcceptedLaws.{sound-parts, passes}
 use Rattle.runs.specs.Cases as Runs
 use Rattle.board.specs.Cases as Board
@@ -54,32 +53,31 @@ abbrev group : List ℕ
 group = bytes "\\G" ++ 13 ∷ 10 ∷ []
 
 group-read : (register : List ℕ) (sender : ℕ) → readingOf Tables.Message register sender group ≡ Rows 0
-unfolding readingOf fault run accepting step marked opened ret nul firstEscape escape field answerTo firstLine firstColumn rowsUpTo items linesFrom markOf afterMark until past
+unfolding readingOf fault run accepting step markStep startStep returnStep nullStep firstEscapeStep escapeStep fieldStep answerTo firstLine firstColumn dataRows items linesFrom markOf afterMark until past
 group-read register sender = refl
 
-group-bodies : (register : List ℕ) (sender : ℕ) → messageBodies register sender group ≡ []
-unfolding messageBodies rowsUpTo items linesFrom markOf afterMark until past
-group-bodies register sender = refl
+group-rows : messageRows group ≡ []
+unfolding messageRows dataRows items linesFrom markOf afterMark until past
+group-rows = refl
 
-none-taken : (t : List ℕ) (n : ℕ) → n ≤ room t → length (rowsTaken [] t n) ≤ room t
+none-taken : (t : List ℕ) (n : ℕ) → n ≤ tableRoom t → length (rowsTaken [] t n) ≤ tableRoom t
 unfolding takenAll
 none-taken t n h = rw (length-rowsOf row-wide n t) h
 
 p11 : P11
 p11 register book table sender c s =
     let parts = sound-parts group register book table sender c s in
-    let bodies = group-bodies register sender in
     let used = sound-facts (c .used) book (parts .1) .room in
     let rows = sound-within (c .rows) table (parts .2) in
     ap numbers (
     passes group register book table sender c record {
       sound = s;
       rows = (0, group-read register sender);
-      in-book = rw bodies (omega arith);
-      in-table = rw bodies (none-taken table (c .rows) rows);
+      in-book = rw group-rows (omega arith);
+      in-table = rw group-rows (none-taken table (c .rows) rows);
     }
     )
-    ∙ rw bodies
+    ∙ rw group-rows
 
 pub cases : All
-cases = (Fields.P1, Fields.P2, Stamps.P3, (Turbo.P4, Syntax.P4), p5, Runs.P6, Runs.P7, (Board.at-the-end, Board.past-the-end), Runs.P9, p10, p11)
+cases = (Fields.P1, Fields.P2, Fields.P3, (Turbo.P4, Syntax.P4), p5, Runs.P6, Runs.P7, (Board.at-the-end, Board.past-the-end), Runs.P9, p10, p11)

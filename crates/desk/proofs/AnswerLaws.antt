@@ -1,15 +1,46 @@
--- Numbers told of a call's outcome are told of what the call promised it to be; P is what it promised besides. Assumes nothing.
+-- Numbers told of a call's outcome are told of what the call promised it to be. Assumes nothing.
 use Prim.Native.Nat.{ℕ}
-use mathlib.Core.Path.{_≡_, ap, _∙_}
-use mathlib.Core.List.{List}
+use mathlib.Core.Path.{_≡_, refl, ap, _∙_}
+use mathlib.Core.List.{List, [], _∷_}
+use lib.ListN.{take}
+use Rattle.calls.specs.declared.Four.{Four}
 use Rattle.calls.specs.declared.Outcome.{Outcome}
-use Rattle.board.specs.declared.Answer.{Answer as Board}
-use Rattle.desk.specs.Answered.{numberOf, answered, boardNumber, boardAnswered}
+use Rattle.calls.specs.Answers.{numbers}
+use Rattle.calls.specs.Leaves.{Leaves, leaves}
+use Rattle.calls.specs.inner.Steps.{fourOf}
+use Rattle.board.specs.declared.Listing.{Listing}
+use Rattle.board.specs.Rules.{Board, boardWith, boardNumbers}
+use Rattle.desk.specs.Answered.{outcomeNumber, answered, four, told, toldOf, boardNumber, boardAnswered}
 
-pub of-call : {P : Type 0} (o o′ : Outcome) (r : ℕ) (l : List ℕ)
-    → (r ≡ numberOf o) × (l ≡ answered o) → (o ≡ o′) × P → (r ≡ numberOf o′) × ((l ≡ answered o′) × P)
-of-call o o′ r l told called = (told .0 ∙ ap numberOf (called .0), (told .1 ∙ ap answered (called .0), called .1))
+-- ---- the six numbers as they are written
 
-pub of-board : {P : Type 0} (a a′ : Board) (r : ℕ) (l : List ℕ)
-    → (r ≡ boardNumber a) × (l ≡ boardAnswered a) → (a ≡ a′) × P → (r ≡ boardNumber a′) × ((l ≡ boardAnswered a′) × P)
-of-board a a′ r l told called = (told .0 ∙ ap boardNumber (called .0), (told .1 ∙ ap boardAnswered (called .0), called .1))
+pub written : (o : Outcome) (n : Four) (r : ℕ) (l : List ℕ) → n ≡ fourOf (numbers (o .answer))
+    → (r ≡ n .number) × (l ≡ n .number ∷ n .value ∷ n .second ∷ n .dossier ∷ o .counts .used ∷ o .counts .rows ∷ [])
+    → (r ≡ outcomeNumber o) × (l ≡ answered o)
+unfolding outcomeNumber answered
+written o n r l e p = (p .0 ∙ ap (λ (x : Four). x .number) e, p .1 ∙ ap (λ (x : Four). x .number ∷ x .value ∷ x .second ∷ x .dossier ∷ o .counts .used ∷ o .counts .rows ∷ []) e)
+
+pub board-written : (o a : Listing) (r : ℕ) (l : List ℕ) → o ≡ a
+    → (r ≡ boardNumbers a .0) × (l ≡ boardNumbers a .0 ∷ boardNumbers a .1 ∷ boardNumbers a .2 ∷ 0 ∷ 0 ∷ 0 ∷ [])
+    → (r ≡ boardNumber o) × (l ≡ boardAnswered o)
+unfolding boardNumber boardAnswered
+board-written o a r l e p = rw e p
+
+-- ---- and told of a call
+
+first-four : (o : Outcome) → take 4 (answered o) ≡ four (numbers (o .answer))
+unfolding answered
+first-four o = refl
+
+pub of-call : (left : Leaves) (table : ℕ × ℕ × ℕ × ℕ) (o : Outcome) (r : ℕ) (l b t : List ℕ)
+    → (r ≡ outcomeNumber o) × (l ≡ answered o) → (leaves o b t ≡ left) × (numbers (o .answer) ≡ table)
+    → (told r l b t ≡ toldOf left) × (take 4 l ≡ four table)
+of-call left table o r l b t said called =
+    ((λ i. told (said .0 i) (said .1 i) b t) ∙ ap toldOf (called .0), ap (take 4) (said .1) ∙ first-four o ∙ ap four (called .1))
+
+-- P is what the board promised besides
+pub of-board : {P : Type 0} (a : Listing) (b : Board) (r : ℕ) (l places : List ℕ)
+    → (r ≡ boardNumber a) × (l ≡ boardAnswered a) → (boardWith a places ≡ b) × P → (r ≡ boardNumber (b .answer)) × ((l ≡ boardAnswered (b .answer)) × (places ≡ b .places))
+of-board a b r l places said called =
+    let e : a ≡ b .answer = ap (λ (x : Board). x .answer) (called .0) in
+    (said .0 ∙ ap boardNumber e, (said .1 ∙ ap boardAnswered e, ap (λ (x : Board). x .places) (called .0)))

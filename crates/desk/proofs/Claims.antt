@@ -4,24 +4,25 @@ use mathlib.Core.Path.{_≡_, refl}
 use mathlib.Core.Bool.{Bool, true, false}
 use mathlib.Core.List.{List, [], _∷_}
 use Rattle.calls.specs.declared.Answer.{Answer}
-use Rattle.calls.specs.declared.Outcome.{Outcome}
 use Rattle.calls.specs.Answers.{numbers, isAccepted}
 use Rattle.calls.specs.Claims.{GivesBack as CallGivesBack}
-use Rattle.calls.specs.Message.{messageOutcome}
-use Rattle.calls.specs.Withdraw.{withdrawOutcome}
-use Rattle.calls.specs.Open.{openOutcome}
+use Rattle.calls.specs.Leaves.{Leaves, countsOf}
+use Rattle.calls.specs.Message.{takenBy, messageLeaves}
+use Rattle.calls.specs.Withdraw.{withoutBy, withdrawLeaves}
+use Rattle.calls.specs.Open.{openedBy, openLeaves}
 use Rattle.calls.proofs.RefusalLaws.{acceptance-is-zero, refusals-give-back, numbers-listed}
-use Rattle.board.specs.declared.Answer.{Answer as Board}
-use Rattle.board.specs.declared.Answer.the-variants.{Listed, Unsound, OutOfRange}
+use Rattle.board.specs.declared.Listing.{Listing as Board}
+use Rattle.board.specs.declared.Listing.the-variants.{Listed, Unsound, OutOfRange}
 use Rattle.board_show.specs.Ask.{asksInRange}
-use Rattle.board.specs.Rules.{numbers as boardNumbers, byAnswer, boardAnswer, boardPlaces}
+use Rattle.board.specs.Rules.{boardOf, boardWith, fitted, boardLeaves, boardNumbers}
+use Rattle.lists.specs.Logic.{on}
 use Rattle.table.specs.Rules.{tableSound}
-use Rattle.desk.specs.Answered.{counted, numberOf, answered, boardNumber, boardAnswered}
-use Rattle.desk.specs.Claims.{SixNumbers, GivesBack, OpenGivesBack, MessageGivesBack, WithdrawGivesBack, BoardGivesBack, NumbersListed, BoardNumbersListed, All}
+use Rattle.desk.specs.Answered.{outcomeNumber, answered, toldOf, boardNumber, boardAnswered}
+use Rattle.desk.specs.Claims.{SixNumbers, FaceGivesBack, OpenGivesBack, MessageGivesBack, WithdrawGivesBack, BoardGivesBack, FaceNumbersListed, BoardNumbersListed, All}
 use Rattle.desk.proofs.DossierLaws.{dossier-named}
 
 six-numbers : SixNumbers
-unfolding answered boardAnswered
+unfolding answered outcomeNumber boardAnswered
 six-numbers o b = (refl, refl, refl, refl)
 
 -- ---- refusals
@@ -35,47 +36,43 @@ refused-by a h = go (isAccepted a) (acceptance-is-zero a .0)
     go false f = refl
 
 -- what the calls claim of counts, book and table is what is claimed of the six numbers
-gives-back : (o : Outcome) (used rows : ℕ) (book book′ table table′ : List ℕ)
-    → CallGivesBack (o .answer) (counted used rows) (o .counts) book book′ table table′
-    → GivesBack o used rows book book′ table table′
-unfolding numberOf answered
-gives-back o used rows book book′ table table′ f h =
-    let g = f (refused-by (o .answer) h) in
+gives-back : (left : Leaves) (used rows : ℕ) (book table : List ℕ) → CallGivesBack left (countsOf used rows) book table → FaceGivesBack (toldOf left) used rows book table
+unfolding outcomeNumber answered
+gives-back left used rows book table f h =
+    let g = f (refused-by (left .outcome .answer) h) in
     (rw (g .0) refl, rw (g .0) refl, g .1, g .2)
 
 open-gives-back : OpenGivesBack
-unfolding openOutcome
 open-gives-back planning calendar book table used rows =
-    gives-back _ used rows book _ table _ (refusals-give-back planning calendar planning planning book table 0 0 (counted used rows) .0)
+    gives-back _ used rows book table (refusals-give-back planning calendar planning planning book table 0 0 (countsOf used rows) .0)
 
 message-gives-back : MessageGivesBack
-unfolding messageOutcome
-message-gives-back d register book table sender used rows =
-    gives-back _ used rows book _ table _ (refusals-give-back d d d register book table 0 sender (counted used rows) .1)
+message-gives-back dossier register book table sender used rows =
+    gives-back _ used rows book table (refusals-give-back dossier dossier dossier register book table 0 sender (countsOf used rows) .1)
 
 withdraw-gives-back : WithdrawGivesBack
-unfolding withdrawOutcome
 withdraw-gives-back book table number sender used rows =
-    gives-back _ used rows book _ table _ (refusals-give-back book book book book book table number sender (counted used rows) .2)
+    gives-back _ used rows book table (refusals-give-back book book book book book table number sender (countsOf used rows) .2)
 
 board-gives-back : BoardGivesBack
-unfolding boardAnswer boardPlaces boardNumber boardAnswered
-board-gives-back owner stop date second horizon table rows places = go (tableSound rows table) (asksInRange owner stop date second horizon) _ _ _
+unfolding boardLeaves boardNumber boardAnswered
+board-gives-back q table rows places = go (tableSound rows table) (asksInRange q) (boardOf q table rows)
   where
-    go : (p q : Bool) (w s : ℕ) (after : List ℕ)
-        → let ns = boardNumbers (byAnswer p q Unsound OutOfRange (Listed w s)) in
+    go : (s a : Bool) (l : List ℕ)
+        → let b = on s (on a (fitted l places) (boardWith OutOfRange places)) (boardWith Unsound places) in
+        let ns = boardNumbers (b .answer) in
         (ns .0 ≡ 0 → ⊥)
         → (_≡_ {A = List ℕ} (ns .0 ∷ ns .1 ∷ ns .2 ∷ 0 ∷ 0 ∷ 0 ∷ []) (ns .0 ∷ 0 ∷ 0 ∷ 0 ∷ 0 ∷ 0 ∷ []))
-        × (byAnswer p q places places after ≡ places)
-    go true true w s after h = absurd (h refl)
-    go true false w s after h = (refl, refl)
-    go false q w s after h = (refl, refl)
+        × (b .places ≡ places)
+    go true true l h = absurd (h refl)
+    go true false l h = (refl, refl)
+    go false a l h = (refl, refl)
 
 -- ---- numbers
 
-listed : NumbersListed
-unfolding numberOf openOutcome messageOutcome withdrawOutcome
-listed planning calendar d register book table number sender used rows = numbers-listed planning calendar d register book table number sender (counted used rows)
+listed : FaceNumbersListed
+unfolding outcomeNumber openLeaves openedBy messageLeaves takenBy withdrawLeaves withoutBy
+listed planning calendar dossier register book table number sender used rows = numbers-listed planning calendar dossier register book table number sender (countsOf used rows)
 
 board-listed : BoardNumbersListed
 unfolding boardNumber

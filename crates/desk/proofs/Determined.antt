@@ -1,4 +1,4 @@
--- The promise of each call allows one outcome: the number returned, the six numbers, and every lent byte or place afterwards. Assumes nothing.
+-- Each promise allows one outcome: the number returned, the six numbers, and every lent byte or place afterwards. Assumes nothing.
 use mathlib.Core.Path.{sym, _∙_}
 use denote.Ref.{now}
 use Rattle.lists.proofs.Promise.{Determined, OneResult}
@@ -10,42 +10,20 @@ use Rattle.desk.proofs.desk_withdraw.Kinds as withdraw
 use Rattle.desk.proofs.desk_withdraw.Reads as withdraw-reads
 use Rattle.desk.proofs.desk_board.Kinds as board
 use Rattle.desk.proofs.desk_board.Reads as board-reads
+use Rattle.desk.proofs.set_answer.Kinds as of-call
+use Rattle.desk.proofs.set_answer.Reads as of-call-reads
+use Rattle.desk.proofs.set_board.Kinds as of-board
+use Rattle.desk.proofs.set_board.Reads as of-board-reads
+use Rattle.desk.specs.Answered.{told}
 
-pub open-determined : OneResult 5 opens.ps opens.r opens-reads.Post
+pub open-determined : Determined 5 opens.ps opens.r opens-reads.Post (λ κs x s. told x (now (s .1 .1 .1 .1 .1 .1 .0)) (now (s .1 .1 .0)) (now (s .1 .1 .1 .0)))
 open-determined κs a x y s t p q = p .0 ∙ sym (q .0)
 
-pub open-answer-determined : Determined 5 opens.ps opens.r opens-reads.Post (λ κs x s. now (s .1 .1 .1 .1 .1 .1 .0))
-open-answer-determined κs a x y s t p q = p .1 .0 ∙ sym (q .1 .0)
-
-pub open-book-determined : Determined 5 opens.ps opens.r opens-reads.Post (λ κs x s. now (s .1 .1 .0))
-open-book-determined κs a x y s t p q = p .1 .1 .0 ∙ sym (q .1 .1 .0)
-
-pub open-table-determined : Determined 5 opens.ps opens.r opens-reads.Post (λ κs x s. now (s .1 .1 .1 .0))
-open-table-determined κs a x y s t p q = p .1 .1 .1 ∙ sym (q .1 .1 .1)
-
-pub message-determined : OneResult 5 message.ps message.r message-reads.Post
+pub message-determined : Determined 5 message.ps message.r message-reads.Post (λ κs x s. told x (now (s .1 .1 .1 .1 .1 .1 .1 .0)) (now (s .1 .1 .1 .0)) (now (s .1 .1 .1 .1 .0)))
 message-determined κs a x y s t p q = p .0 ∙ sym (q .0)
 
-pub message-answer-determined : Determined 5 message.ps message.r message-reads.Post (λ κs x s. now (s .1 .1 .1 .1 .1 .1 .1 .0))
-message-answer-determined κs a x y s t p q = p .1 .0 ∙ sym (q .1 .0)
-
-pub message-book-determined : Determined 5 message.ps message.r message-reads.Post (λ κs x s. now (s .1 .1 .1 .0))
-message-book-determined κs a x y s t p q = p .1 .1 .0 ∙ sym (q .1 .1 .0)
-
-pub message-table-determined : Determined 5 message.ps message.r message-reads.Post (λ κs x s. now (s .1 .1 .1 .1 .0))
-message-table-determined κs a x y s t p q = p .1 .1 .1 ∙ sym (q .1 .1 .1)
-
-pub withdraw-determined : OneResult 3 withdraw.ps withdraw.r withdraw-reads.Post
+pub withdraw-determined : Determined 3 withdraw.ps withdraw.r withdraw-reads.Post (λ κs x s. told x (now (s .1 .1 .1 .1 .1 .1 .0)) (now (s .1 .1 .0)) (now (s .1 .1 .1 .0)))
 withdraw-determined κs a x y s t p q = p .0 ∙ sym (q .0)
-
-pub withdraw-answer-determined : Determined 3 withdraw.ps withdraw.r withdraw-reads.Post (λ κs x s. now (s .1 .1 .1 .1 .1 .1 .0))
-withdraw-answer-determined κs a x y s t p q = p .1 .0 ∙ sym (q .1 .0)
-
-pub withdraw-book-determined : Determined 3 withdraw.ps withdraw.r withdraw-reads.Post (λ κs x s. now (s .1 .1 .0))
-withdraw-book-determined κs a x y s t p q = p .1 .1 .0 ∙ sym (q .1 .1 .0)
-
-pub withdraw-table-determined : Determined 3 withdraw.ps withdraw.r withdraw-reads.Post (λ κs x s. now (s .1 .1 .1 .0))
-withdraw-table-determined κs a x y s t p q = p .1 .1 .1 ∙ sym (q .1 .1 .1)
 
 pub board-determined : OneResult 5 board.ps board.r board-reads.Post
 board-determined κs a x y s t p q = p .0 ∙ sym (q .0)
@@ -55,3 +33,15 @@ board-answer-determined κs a x y s t p q = p .1 .0 ∙ sym (q .1 .0)
 
 pub board-places-determined : Determined 5 board.ps board.r board-reads.Post (λ κs x s. now (s .1 .1 .1 .1 .1 .1 .1 .0))
 board-places-determined κs a x y s t p q = p .1 .1 ∙ sym (q .1 .1)
+
+pub set-answer-determined : OneResult 1 of-call.ps of-call.r of-call-reads.Post
+set-answer-determined κs a x y s t p q = p .0 ∙ sym (q .0)
+
+pub set-answer-numbers-determined : Determined 1 of-call.ps of-call.r of-call-reads.Post (λ κs x s. now (s .0))
+set-answer-numbers-determined κs a x y s t p q = p .1 ∙ sym (q .1)
+
+pub set-board-determined : OneResult 1 of-board.ps of-board.r of-board-reads.Post
+set-board-determined κs a x y s t p q = p .0 ∙ sym (q .0)
+
+pub set-board-numbers-determined : Determined 1 of-board.ps of-board.r of-board-reads.Post (λ κs x s. now (s .0))
+set-board-numbers-determined κs a x y s t p q = p .1 ∙ sym (q .1)

@@ -1,6 +1,4 @@
 pub mod AnswerLaws
+pub mod DossierLaws
 pub mod Claims
 pub mod Determined
-pub mod DossierLaws
-pub mod AnswersAnswerLaws
-pub mod AnswersDetermined

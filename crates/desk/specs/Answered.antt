@@ -1,30 +1,37 @@
 -- The six numbers of an answer: number, value, second value, which dossier, used, rows; 0 where there is none. Assumes nothing.
 use Prim.Native.Nat.{ℕ}
-use mathlib.Core.List.{List, [], _∷_}
-use Rattle.calls.specs.declared.Counts.{Counts}
+use mathlib.Core.List.{List, [], _∷_, _++_}
 use Rattle.calls.specs.declared.Outcome.{Outcome}
 use Rattle.calls.specs.Answers.{numbers}
-use Rattle.board.specs.declared.Answer.{Answer as Board}
-use Rattle.board.specs.Rules.{numbers as boardNumbers}
-
--- counts, as the calls take them
-abbrev pub counted : ℕ → ℕ → Counts
-counted used rows = record { used = used; rows = rows }
+use Rattle.calls.specs.Leaves.{Leaves}
+use Rattle.board.specs.declared.Listing.{Listing as Board}
+use Rattle.board.specs.Rules.{boardNumbers}
 
 -- document 01's number of an outcome
-unfoldable pub numberOf : Outcome → ℕ
-numberOf o = numbers (o .answer) .0
+unfoldable pub outcomeNumber : Outcome → ℕ
+outcomeNumber o = numbers (o .answer) .0
+
+-- number, value, second value, which dossier
+abbrev pub four : ℕ × ℕ × ℕ × ℕ → List ℕ
+four n = n .0 ∷ n .1 ∷ n .2 ∷ n .3 ∷ []
 
 -- the answer's numbers, then the counts to pass on
 unfoldable pub answered : Outcome → List ℕ
-answered o =
-    numberOf o
-    ∷ numbers (o .answer) .1
-    ∷ numbers (o .answer) .2
-    ∷ numbers (o .answer) .3
-    ∷ o .counts .used
-    ∷ o .counts .rows
-    ∷ []
+answered o = four (numbers (o .answer)) ++ o .counts .used ∷ o .counts .rows ∷ []
+
+-- all that the face gives back of a call: the number returned, the six numbers, and book and table afterwards
+pub record Told : Type 0 where
+  pub number : ℕ
+  pub answer : List ℕ
+  pub book : List ℕ
+  pub table : List ℕ
+
+abbrev pub told : ℕ → List ℕ → List ℕ → List ℕ → Told
+told number answer book table = record { number = number; answer = answer; book = book; table = table }
+
+-- of what the call leaves
+abbrev pub toldOf : Leaves → Told
+toldOf left = told (outcomeNumber (left .outcome)) (answered (left .outcome)) (left .book) (left .table)
 
 -- document 01's number of a board
 unfoldable pub boardNumber : Board → ℕ

@@ -2,22 +2,23 @@
 use mathlib.Core.Path.{_≡_, refl}
 use mathlib.Core.List.{[], _∷_}
 use Rattle.calls.specs.declared.Answer.the-variants.{Accepted, Field, Owner}
-use Rattle.board.specs.declared.Answer.the-variants.{Listed, OutOfRange}
-use Rattle.desk.specs.Answered.{counted, numberOf, answered, boardNumber, boardAnswered}
+use Rattle.board.specs.declared.Listing.the-variants.{Listed, OutOfRange}
+use Rattle.calls.specs.Leaves.{countsOf, outcomeOf}
+use Rattle.desk.specs.Answered.{outcomeNumber, answered, boardNumber, boardAnswered}
 
 -- message 7 is taken: 402 bytes of the book are used now, and 5 rows of the table
-message-taken : answered (record { answer = Accepted 7; counts = counted 402 5 }) ≡ 0 ∷ 7 ∷ 0 ∷ 0 ∷ 402 ∷ 5 ∷ []
-unfolding numberOf answered
+message-taken : answered (outcomeOf (Accepted 7) (countsOf 402 5)) ≡ 0 ∷ 7 ∷ 0 ∷ 0 ∷ 402 ∷ 5 ∷ []
+unfolding outcomeNumber answered
 message-taken = refl
 
 -- line 4, column 9 of the calendar is outside its type
-calendar-refused : answered (record { answer = Field 4 9 2; counts = counted 0 0 }) ≡ 5 ∷ 4 ∷ 9 ∷ 2 ∷ 0 ∷ 0 ∷ []
-unfolding numberOf answered
+calendar-refused : answered (outcomeOf (Field 4 9 2) (countsOf 0 0)) ≡ 5 ∷ 4 ∷ 9 ∷ 2 ∷ 0 ∷ 0 ∷ []
+unfolding outcomeNumber answered
 calendar-refused = refl
 
 -- line 4 of a message has an owner that the sender does not send for; the counts are those given
-owner-refused : answered (record { answer = Owner 4; counts = counted 402 5 }) ≡ 6 ∷ 4 ∷ 0 ∷ 0 ∷ 402 ∷ 5 ∷ []
-unfolding numberOf answered
+owner-refused : answered (outcomeOf (Owner 4) (countsOf 402 5)) ≡ 6 ∷ 4 ∷ 0 ∷ 0 ∷ 402 ∷ 5 ∷ []
+unfolding outcomeNumber answered
 owner-refused = refl
 
 -- 8 places written of 12 that are shown

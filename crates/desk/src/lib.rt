@@ -1,14 +1,17 @@
 // The C face: the four calls over plain numbers and lent memory. Each answer is six numbers; include/desk.h says which.
 use calls::Counts;
-use calls::Answer;
 use calls::Outcome;
 ghost use mathlib.Core.Path.{_≡_};
-ghost use Rattle.calls.specs.Open.{openOutcome, openBook, openTable};
-ghost use Rattle.calls.specs.Message.{messageOutcome, messageBook, messageTable};
-ghost use Rattle.calls.specs.Withdraw.{withdrawOutcome, withdrawBook, withdrawTable};
-ghost use Rattle.board.specs.Rules.{boardAnswer, boardPlaces};
-ghost use Rattle.desk.specs.Answered.{counted, numberOf, answered, boardNumber, boardAnswered};
 ghost use mathlib.Core.List.{[], _∷_};
+ghost use lib.ListN.{take};
+ghost use Rattle.calls.specs.Leaves.{countsOf};
+ghost use Rattle.calls.specs.Open.{openLeaves};
+ghost use Rattle.calls.specs.Message.{messageLeaves};
+ghost use Rattle.calls.specs.Withdraw.{withdrawLeaves};
+ghost use Rattle.calls.specs.Numbers.{openNumbers, messageNumbers, withdrawNumbers};
+ghost use Rattle.board_show.specs.Ask.{asked};
+ghost use Rattle.board.specs.Rules.{boardLeaves};
+ghost use Rattle.desk.specs.Answered.{outcomeNumber, answered, four, told, toldOf, boardNumber, boardAnswered};
 
 // A planning and a calendar become the plan. The counts are only given back on a refusal.
 #[no_mangle]
@@ -21,17 +24,17 @@ pub extern "C" fn desk_open(
     rows: u64,
     answer: &mut [u64; 6],
 ) -> u32
-    ensures number { λ r. ⌜ r ≡ numberOf (openOutcome (now (planning .entry)) (now (calendar .entry)) (now (book .entry)) (now (table .entry)) (counted used rows)) ⌝ }
-    ensures answer { λ _. ⌜ now (answer .exit) ≡ answered (openOutcome (now (planning .entry)) (now (calendar .entry)) (now (book .entry)) (now (table .entry)) (counted used rows)) ⌝ }
-    ensures entries { λ _. ⌜ now (book .exit) ≡ openBook (now (planning .entry)) (now (calendar .entry)) (now (book .entry)) (now (table .entry)) ⌝ }
-    ensures rows { λ _. ⌜ now (table .exit) ≡ openTable (now (planning .entry)) (now (calendar .entry)) (now (book .entry)) (now (table .entry)) ⌝ }
+    ensures told { λ r. ⌜ told r (now (answer .exit)) (now (book .exit)) (now (table .exit))
+        ≡ toldOf (openLeaves (now (planning .entry)) (now (calendar .entry)) (now (book .entry)) (now (table .entry)) (countsOf used rows)) ⌝ }
+    ensures numbers { λ _. ⌜ take 4 (now (answer .exit))
+        ≡ four (openNumbers (now (planning .entry)) (now (calendar .entry)) (now (book .entry)) (now (table .entry))) ⌝ }
 {
-    let c = Counts {
+    let counts = Counts {
         used: used as usize,
         rows: rows as usize,
     };
-    let o = opening::open(planning, calendar, book, table, c);
-    set_answer(answer, o)
+    let outcome = opening::open(planning, calendar, book, table, counts);
+    set_answer(answer, outcome)
 }
 
 // A message from a sender is taken whole or refused whole.
@@ -46,17 +49,17 @@ pub extern "C" fn desk_message(
     rows: u64,
     answer: &mut [u64; 6],
 ) -> u32
-    ensures number { λ r. ⌜ r ≡ numberOf (messageOutcome (now (dossier .entry)) sender (now (register .entry)) (now (book .entry)) (now (table .entry)) (counted used rows)) ⌝ }
-    ensures answer { λ _. ⌜ now (answer .exit) ≡ answered (messageOutcome (now (dossier .entry)) sender (now (register .entry)) (now (book .entry)) (now (table .entry)) (counted used rows)) ⌝ }
-    ensures entries { λ _. ⌜ now (book .exit) ≡ messageBook (now (dossier .entry)) sender (now (register .entry)) (now (book .entry)) (now (table .entry)) (counted used rows) ⌝ }
-    ensures rows { λ _. ⌜ now (table .exit) ≡ messageTable (now (dossier .entry)) sender (now (register .entry)) (now (book .entry)) (now (table .entry)) (counted used rows) ⌝ }
+    ensures told { λ r. ⌜ told r (now (answer .exit)) (now (book .exit)) (now (table .exit))
+        ≡ toldOf (messageLeaves (now (dossier .entry)) sender (now (register .entry)) (now (book .entry)) (now (table .entry)) (countsOf used rows)) ⌝ }
+    ensures numbers { λ _. ⌜ take 4 (now (answer .exit))
+        ≡ four (messageNumbers (now (dossier .entry)) sender (now (register .entry)) (now (book .entry)) (now (table .entry)) (countsOf used rows)) ⌝ }
 {
-    let c = Counts {
+    let counts = Counts {
         used: used as usize,
         rows: rows as usize,
     };
-    let o = messages::message(dossier, sender, register, book, table, c);
-    set_answer(answer, o)
+    let outcome = messages::message(dossier, sender, register, book, table, counts);
+    set_answer(answer, outcome)
 }
 
 // A message is withdrawn: as if it had never been.
@@ -70,17 +73,17 @@ pub extern "C" fn desk_withdraw(
     rows: u64,
     answer: &mut [u64; 6],
 ) -> u32
-    ensures number { λ r. ⌜ r ≡ numberOf (withdrawOutcome number sender (now (book .entry)) (now (table .entry)) (counted used rows)) ⌝ }
-    ensures answer { λ _. ⌜ now (answer .exit) ≡ answered (withdrawOutcome number sender (now (book .entry)) (now (table .entry)) (counted used rows)) ⌝ }
-    ensures entries { λ _. ⌜ now (book .exit) ≡ withdrawBook number sender (now (book .entry)) (now (table .entry)) (counted used rows) ⌝ }
-    ensures rows { λ _. ⌜ now (table .exit) ≡ withdrawTable number sender (now (book .entry)) (now (table .entry)) (counted used rows) ⌝ }
+    ensures told { λ r. ⌜ told r (now (answer .exit)) (now (book .exit)) (now (table .exit))
+        ≡ toldOf (withdrawLeaves number sender (now (book .entry)) (now (table .entry)) (countsOf used rows)) ⌝ }
+    ensures numbers { λ _. ⌜ take 4 (now (answer .exit))
+        ≡ four (withdrawNumbers number sender (now (book .entry)) (now (table .entry)) (countsOf used rows)) ⌝ }
 {
-    let c = Counts {
+    let counts = Counts {
         used: used as usize,
         rows: rows as usize,
     };
-    let o = withdrawals::withdraw(number, sender, book, table, c);
-    set_answer(answer, o)
+    let outcome = withdrawals::withdraw(number, sender, book, table, counts);
+    set_answer(answer, outcome)
 }
 
 // The board of a stop from a second of a date on: places of rows by departure moment, then key, as many as fit.
@@ -96,9 +99,12 @@ pub extern "C" fn desk_board(
     places: &mut [u32],
     answer: &mut [u64; 6],
 ) -> u32
-    ensures number { λ r. ⌜ r ≡ boardNumber (boardAnswer (now (owner .entry)) (now (stop .entry)) date second horizon (now (table .entry)) rows (now (places .entry))) ⌝ }
-    ensures answer { λ _. ⌜ now (answer .exit) ≡ boardAnswered (boardAnswer (now (owner .entry)) (now (stop .entry)) date second horizon (now (table .entry)) rows (now (places .entry))) ⌝ }
-    ensures places { λ _. ⌜ now (places .exit) ≡ boardPlaces (now (owner .entry)) (now (stop .entry)) date second horizon (now (table .entry)) rows (now (places .entry)) ⌝ }
+    ensures number { λ r. ⌜ r
+        ≡ boardNumber (boardLeaves (asked (now (owner .entry)) (now (stop .entry)) date second horizon) (now (table .entry)) rows (now (places .entry)) .answer) ⌝ }
+    ensures answer { λ _. ⌜ now (answer .exit)
+        ≡ boardAnswered (boardLeaves (asked (now (owner .entry)) (now (stop .entry)) date second horizon) (now (table .entry)) rows (now (places .entry)) .answer) ⌝ }
+    ensures places { λ _. ⌜ now (places .exit)
+        ≡ boardLeaves (asked (now (owner .entry)) (now (stop .entry)) date second horizon) (now (table .entry)) rows (now (places .entry)) .places ⌝ }
 {
     let n = rows as usize;
     let a = board::board(owner, stop, date, second, horizon, table, n, places);
@@ -125,38 +131,29 @@ fn write_answer(
 }
 
 // What a call of the day came to.
-pub fn set_answer(answer: &mut [u64; 6], o: Outcome) -> u32
-    ensures { λ r. ⌜ r ≡ numberOf o ⌝ }
-    ensures { λ _. ⌜ now (answer .exit) ≡ answered o ⌝ }
+pub fn set_answer(answer: &mut [u64; 6], outcome: Outcome) -> u32
+    ensures { λ r. ⌜ r ≡ outcomeNumber outcome ⌝ }
+    ensures { λ _. ⌜ now (answer .exit) ≡ answered outcome ⌝ }
 {
-    let a = o.answer;
-    let u = o.counts.used as u64;
-    let n = o.counts.rows as u64;
-    match a {
-        Answer::Accepted(m) => write_answer(answer, 0, m as u64, 0, 0, u, n),
-        Answer::Unsound => write_answer(answer, 1, 0, 0, 0, u, n),
-        Answer::TooLong(w) => write_answer(answer, 2, 0, 0, w as u64, u, n),
-        Answer::Syntax(i, w) => write_answer(answer, 3, i as u64, 0, w as u64, u, n),
-        Answer::Form(l, w) => write_answer(answer, 4, l as u64, 0, w as u64, u, n),
-        Answer::Field(l, c, w) => write_answer(answer, 5, l as u64, c as u64, w as u64, u, n),
-        Answer::Owner(l) => write_answer(answer, 6, l as u64, 0, 0, u, n),
-        Answer::BookShort => write_answer(answer, 7, 0, 0, 0, u, n),
-        Answer::TableShort => write_answer(answer, 8, 0, 0, 0, u, n),
-        Answer::KeyTwice => write_answer(answer, 9, 0, 0, 0, u, n),
-        Answer::NoMessage => write_answer(answer, 10, 0, 0, 0, u, n),
-        Answer::AlreadyWithdrawn => write_answer(answer, 11, 0, 0, 0, u, n),
-        Answer::OtherSender => write_answer(answer, 12, 0, 0, 0, u, n),
-    }
+    let told = outcome.answer;
+    let n = calls::numbers(told);
+    let number = n.number;
+    let value = n.value as u64;
+    let second = n.second as u64;
+    let dossier = n.dossier as u64;
+    let used = outcome.counts.used as u64;
+    let rows = outcome.counts.rows as u64;
+    write_answer(answer, number, value, second, dossier, used, rows)
 }
 
 // What a board came to.
-pub fn set_board(answer: &mut [u64; 6], a: board::Answer) -> u32
+pub fn set_board(answer: &mut [u64; 6], a: board::Listing) -> u32
     ensures { λ r. ⌜ r ≡ boardNumber a ⌝ }
     ensures { λ _. ⌜ now (answer .exit) ≡ boardAnswered a ⌝ }
 {
     match a {
-        board::Answer::Listed(w, s) => write_answer(answer, 0, w as u64, s as u64, 0, 0, 0),
-        board::Answer::Unsound => write_answer(answer, 1, 0, 0, 0, 0, 0),
-        board::Answer::OutOfRange => write_answer(answer, 13, 0, 0, 0, 0, 0),
+        board::Listing::Listed(w, s) => write_answer(answer, 0, w as u64, s as u64, 0, 0, 0),
+        board::Listing::Unsound => write_answer(answer, 1, 0, 0, 0, 0, 0),
+        board::Listing::OutOfRange => write_answer(answer, 13, 0, 0, 0, 0, 0),
     }
 }

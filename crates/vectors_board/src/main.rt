@@ -1,12 +1,11 @@
 // Asks the boards that standard input asks for, a line each, and prints what is answered and every lent place.
 mod lines;
 mod say;
-mod text;
 
 // The buffers come as arrays of known size: so no proof has to count one through.
 fn run(input: &mut [u8; 120000], table: &mut [u8; 20000]) {
     let n = io::read_full(libc::STDIN_FILENO, input);
-    lines::run(text::front(input, n), table);
+    lines::run(script_text::front(input, n), table);
 }
 
 fn main() {

@@ -1,5 +1,5 @@
 // What is printed.
-use board::Answer;
+use board::Listing;
 use libc::STDOUT_FILENO;
 
 fn words(w: &[u8]) {
@@ -27,11 +27,11 @@ fn three(a: usize, b: usize, c: usize) {
 }
 
 // Document 01's number, how many places are written, and how many passages are shown.
-fn told(a: Answer) {
+fn told(a: Listing) {
     match a {
-        Answer::Listed(written, shown) => three(0, written, shown),
-        Answer::Unsound => three(1, 0, 0),
-        Answer::OutOfRange => three(13, 0, 0),
+        Listing::Listed(written, shown) => three(0, written, shown),
+        Listing::Unsound => three(1, 0, 0),
+        Listing::OutOfRange => three(13, 0, 0),
     }
 }
 
@@ -48,7 +48,7 @@ fn each(places: &[u32]) {
 }
 
 // An answer, and all that was lent.
-pub fn answer(a: Answer, places: &[u32]) {
+pub fn answer(a: Listing, places: &[u32]) {
     told(a);
     words(b":");
     each(places);

@@ -8,22 +8,22 @@ use calls::Outcome;
 // At one letter the lent bytes get another value, at another one byte is changed: b and p for the book, t and q for the table.
 fn lend(s: &mut [u8], fill: u8, v: u8, poke: u8, h: Held) {
     if h.letter == fill {
-        held::pad(s, 0, h.a, v);
+        script_text::pad(s, 0, h.a, v);
         return;
     }
     if h.letter == poke {
-        held::pad(s, h.a, 1, held::byte(h.b));
+        script_text::pad(s, h.a, 1, script_text::low_byte(h.b));
     }
 }
 
 // The dossier d is kept under k, its size in front.
 fn lay(kept: &mut [u8], k: usize, d: &[u8]) {
     let at = k % 5 * 66004;
-    held::append(kept, at + 4, d);
+    script_text::append(kept, at + 4, d);
     if kept.len() < at + 4 {
         return;
     }
-    lists::put_number(kept, at, 4, held::word(d.len()));
+    lists::put_number(kept, at, 4, script_text::low_word(d.len()));
 }
 
 // The dossier that is kept under k.
@@ -33,7 +33,7 @@ fn shelf(kept: &[u8], k: usize) -> &[u8] {
         return kept;
     }
     let n = lists::get_number(kept, at, 4) as usize;
-    held::part(kept, at + 3, at + 4 + n)
+    script_text::part(kept, at + 4, at + 4 + n)
 }
 
 // k keeps the dossier under a number from 0 to 3, / as the planning.
@@ -50,20 +50,20 @@ fn text<'a>(line: &'a [u8], kept: &'a [u8], letter: u8, k: usize) -> &'a [u8] {
     if letter == b'g' {
         return shelf(kept, k % 4);
     }
-    held::after(line, 0)
+    script_text::after(line, 0)
 }
 
 // + puts a line with its line end behind the dossier, - bytes without one, x so many letters; 0 begins it anew, and so do / and g.
 fn write(desk: &mut [u8], letter: u8, a: usize, n: usize, t: &[u8]) -> usize {
     match letter {
         b'+' => {
-            let end = held::append(desk, n, t);
-            let last = held::pad(desk, end, 1, 13);
-            held::pad(desk, last, 1, 10)
+            let end = script_text::append(desk, n, t);
+            let last = script_text::pad(desk, end, 1, 13);
+            script_text::pad(desk, last, 1, 10)
         }
-        b'-' => held::append(desk, n, t),
-        b'x' => held::pad(desk, n, a, b'a'),
-        b'g' => held::append(desk, held::DOSSIER, t),
+        b'-' => script_text::append(desk, n, t),
+        b'x' => script_text::pad(desk, n, a, b'a'),
+        b'g' => script_text::append(desk, held::DOSSIER, t),
         b'0' | b'/' => held::DOSSIER,
         _ => n,
     }
@@ -71,25 +71,30 @@ fn write(desk: &mut [u8], letter: u8, a: usize, n: usize, t: &[u8]) -> usize {
 
 // A pair: the sender, then the owner in ten bytes.
 fn pair(desk: &mut [u8], sender: u8, n: usize, owner: &[u8]) -> usize {
-    let name = held::pad(desk, n, 1, sender);
-    let end = held::pad(desk, name, 10, 0);
-    held::append(desk, name, owner);
+    let name = script_text::pad(desk, n, 1, sender);
+    let end = script_text::pad(desk, name, 10, 0);
+    script_text::append(desk, name, owner);
     end
 }
 
 // r puts a pair as `r3 CXX` behind the register, z so many zero bytes; R begins it anew.
 fn enrol(desk: &mut [u8], letter: u8, a: usize, n: usize, owner: &[u8]) -> usize {
     match letter {
-        b'r' => pair(desk, held::byte(a), n, owner),
-        b'z' => held::pad(desk, n, a, 0),
-        b'R' => 1,
+        b'r' => pair(desk, script_text::low_byte(a), n, owner),
+        b'z' => script_text::pad(desk, n, a, 0),
+        b'R' => held::REGISTER,
         _ => n,
     }
 }
 
 // What a line does on the desk.
 fn papers(line: &[u8], desk: &mut [u8], kept: &mut [u8], h: Held) -> Held {
-    keep(kept, h.letter, h.a, held::part(desk, 1000, h.dossier));
+    keep(
+        kept,
+        h.letter,
+        h.a,
+        script_text::part(desk, held::DOSSIER, h.dossier),
+    );
     let mut n = h;
     n.dossier = write(
         desk,
@@ -116,8 +121,14 @@ fn ask(
 ) -> Outcome {
     match letter {
         b'O' => opening::open(plan, dossier, book, table, c),
-        b'M' => messages::message(dossier, held::byte(a), register, book, table, c),
-        _ => withdrawals::withdraw(held::word(a), held::byte(b), book, table, c),
+        b'M' => messages::message(dossier, script_text::low_byte(a), register, book, table, c),
+        _ => withdrawals::withdraw(
+            script_text::low_word(a),
+            script_text::low_byte(b),
+            book,
+            table,
+            c,
+        ),
     }
 }
 
@@ -158,12 +169,19 @@ fn asks(letter: u8) -> bool {
 
 fn call(desk: &[u8], kept: &[u8], book: &mut [u8], table: &mut [u8], h: Held) -> Held {
     if asks(h.letter) {
-        let b = held::front_mut(book, h.book);
-        let t = held::front_mut(table, h.table);
+        let b = script_text::at_most(h.book, book.len());
+        let t = script_text::at_most(h.table, table.len());
         let plan = shelf(kept, 4);
-        let dossier = held::part(desk, 1000, h.dossier);
-        let register = held::part(desk, 0, h.register);
-        return asked(plan, dossier, register, b, t, h);
+        let dossier = script_text::part(desk, held::DOSSIER, h.dossier);
+        let register = script_text::part(desk, held::REGISTER, h.register);
+        return asked(
+            plan,
+            dossier,
+            register,
+            &mut book[0..b],
+            &mut table[0..t],
+            h,
+        );
     }
     h
 }
@@ -173,9 +191,12 @@ fn show(line: &[u8], book: &[u8], table: &[u8], h: Held) {
     let letter = h.letter;
     match letter {
         b'H' => {
-            say::bytes(held::front(held::front(book, h.book), h.used), h.a);
-            let t = held::front(table, h.table);
-            say::bytes(held::front(t, h.rows % 65536 * 67), 67);
+            say::bytes(
+                script_text::front(script_text::front(book, h.book), h.used),
+                h.a,
+            );
+            let t = script_text::front(table, h.table);
+            say::bytes(script_text::front(t, h.rows % 65536 * 67), 67);
         }
         b'#' => say::heading(line),
         _ => {}
@@ -201,10 +222,8 @@ pub fn run(input: &[u8], desk: &mut [u8], kept: &mut [u8], book: &mut [u8], tabl
     let mut h = held::nothing();
     let mut rest = input;
     while 0 < rest.len() {
-        let n = turbo::find(rest, 10);
-        let line = &rest[0..n];
-        let next = held::after(rest, n);
+        h = one(script_text::first_line(rest), desk, kept, book, table, h);
+        let next = script_text::rest_after_line(rest);
         rest = next;
-        h = one(line, desk, kept, book, table, h);
     }
 }

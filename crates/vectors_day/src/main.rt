@@ -12,7 +12,7 @@ fn run(
     table: &mut [u8; 140000],
 ) {
     let n = io::read_full(libc::STDIN_FILENO, input);
-    lines::run(held::front(input, n), desk, kept, book, table);
+    lines::run(script_text::front(input, n), desk, kept, book, table);
 }
 
 fn main() {

@@ -26,42 +26,13 @@ fn count(what: &[u8], n: usize) {
     number(n);
 }
 
-struct Four {
-    a: usize,
-    b: usize,
-    c: usize,
-    d: u8,
-}
-
-fn of(a: usize, b: usize, c: usize, d: u8) -> Four {
-    Four { a, b, c, d }
-}
-
 // Document 01's number, its values, and which dossier.
-fn told(a: Answer) -> Four {
-    match a {
-        Answer::Accepted(n) => of(0, n as usize, 0, 0),
-        Answer::Unsound => of(1, 0, 0, 0),
-        Answer::TooLong(w) => of(2, 0, 0, w),
-        Answer::Syntax(i, w) => of(3, i, 0, w),
-        Answer::Form(l, w) => of(4, l, 0, w),
-        Answer::Field(l, c, w) => of(5, l, c, w),
-        Answer::Owner(l) => of(6, l, 0, 0),
-        Answer::BookShort => of(7, 0, 0, 0),
-        Answer::TableShort => of(8, 0, 0, 0),
-        Answer::KeyTwice => of(9, 0, 0, 0),
-        Answer::NoMessage => of(10, 0, 0, 0),
-        Answer::AlreadyWithdrawn => of(11, 0, 0, 0),
-        Answer::OtherSender => of(12, 0, 0, 0),
-    }
-}
-
 pub fn answer(a: Answer) {
-    let f = told(a);
-    number(f.a);
-    number(f.b);
-    number(f.c);
-    number(f.d as usize);
+    let f = calls::numbers(a);
+    number(f.number as usize);
+    number(f.value);
+    number(f.second);
+    number(f.dossier as usize);
 }
 
 // The sum with a byte more.

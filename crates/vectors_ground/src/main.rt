@@ -14,7 +14,7 @@ mod walk;
 // The buffers come as arrays of known size: so no proof has to count one through.
 fn start(input: &mut [u8; 60000], room: &mut [u8; 66000]) {
     let n = io::read_full(libc::STDIN_FILENO, input);
-    run::each(text::front(input, n), room);
+    run::each(script_text::front(input, n), room);
 }
 
 fn main() {

@@ -1,7 +1,6 @@
 // Bytes that are compared, moved and read as numbers. The moves start from `abcdefgh`.
 use crate::parts;
 use crate::say;
-ghost use Prim.Native.Nat.{_≤_};
 
 // The numbers of a vector of two or three parts.
 struct Numbers {
@@ -28,42 +27,33 @@ pub fn same(v: &[u8]) {
     );
 }
 
-fn within(n: usize, most: usize) -> usize
-    ensures { λ r. ⌜ r ≤ most ⌝ }
-{
-    if most < n {
-        return most;
-    }
-    n
-}
-
 // AT^BYTES
 fn copy(s: &mut [u8; 8], at: usize, b: &[u8]) {
     if b.len() <= 8 {
-        lists::copy_to(s, within(at, 8 - b.len()), b);
+        lists::copy_to(s, script_text::at_most(at, 8 - b.len()), b);
     }
 }
 
 // AT^COUNT
 fn clear(s: &mut [u8; 8], t: Numbers) {
-    let a = within(t.a, 8);
-    let n = within(t.b, 8 - a);
+    let a = script_text::at_most(t.a, 8);
+    let n = script_text::at_most(t.b, 8 - a);
     lists::clear(s, a, n);
 }
 
 // FROM^END^BY
 fn up(s: &mut [u8; 8], t: Numbers) {
-    let e = within(t.b, 8);
-    let a = within(t.a, e);
-    let by = within(t.c, 8 - e);
+    let e = script_text::at_most(t.b, 8);
+    let a = script_text::at_most(t.a, e);
+    let by = script_text::at_most(t.c, 8 - e);
     lists::shift_up(s, a, e, by);
 }
 
 // TO^COUNT^BY
 fn down(s: &mut [u8; 8], t: Numbers) {
-    let a = within(t.a, 8);
-    let by = within(t.c, 8 - a);
-    let n = within(t.b, 8 - a - by);
+    let a = script_text::at_most(t.a, 8);
+    let by = script_text::at_most(t.c, 8 - a);
+    let n = script_text::at_most(t.b, 8 - a - by);
     lists::shift_down(s, a, n, by);
 }
 
@@ -87,7 +77,7 @@ pub fn moved(r: u8, v: &[u8]) {
 }
 
 fn round(s: &mut [u8; 6], w: usize, n: u32) {
-    let k = within(w, 4);
+    let k = script_text::at_most(w, 4);
     lists::put_number(s, 1, k, n);
     say::text(s);
     say::small(lists::get_number(s, 1, k));

@@ -1,7 +1,6 @@
 // The search for columns, and escapes.
 use crate::parts;
 use crate::say;
-use crate::text;
 use turbo_labels::Columns;
 
 // NAME^LABELS^LINE: the column, and the field there.
@@ -10,8 +9,9 @@ pub fn lookup(v: &[u8]) {
     let rest = parts::tail(v);
     let labels = parts::head(rest);
     let line = parts::tail(rest);
-    say::size(turbo_labels::column_of(labels, name));
-    say::text(turbo_labels::lookup(line, labels, name));
+    let column = turbo_labels::column_of(labels, name);
+    say::size(column);
+    say::text(turbo_labels::lookup(line, column, turbo::count_fields(labels)));
 }
 
 fn places(p: &[usize; 20]) {
@@ -49,10 +49,10 @@ fn pair(b: u8, e: u8) {
 
 // A byte with the one that it stands for after a backslash, if any, and what follows as it is.
 pub fn escape(v: &[u8]) {
-    let b = text::at(v, 0);
+    let b = script_text::at(v, 0);
     let e = turbo::escaped(b);
     if e != 0 {
         pair(b, e);
     }
-    say::words(text::after(v, 0));
+    say::words(script_text::after(v, 0));
 }

@@ -1,14 +1,13 @@
 // A vector of several parts has a circumflex between them.
-use crate::text;
 use field_types::Number;
 ghost use Prim.Native.Nat.{_<_};
 
 pub fn head(v: &[u8]) -> &[u8] {
-    text::front(v, turbo::find(v, b'^'))
+    script_text::before(v, b'^')
 }
 
 pub fn tail(v: &[u8]) -> &[u8] {
-    text::after(v, turbo::find(v, b'^'))
+    script_text::behind(v, b'^')
 }
 
 // A part that is a number.

@@ -68,14 +68,14 @@ fn vector(r: u8, line: &[u8], room: &mut [u8]) {
 // The start of a group; the letter of its reader.
 fn group(line: &[u8]) -> u8 {
     say::phrase(say::HEAD);
-    say::words(text::after(line, 2));
+    say::words(script_text::after(line, 2));
     say::phrase(say::END);
-    text::at(line, 1)
+    script_text::at(line, 1)
 }
 
 // A vector, or the start of a group; the letter of the reader from there on.
 fn one(r: u8, line: &[u8], room: &mut [u8]) -> u8 {
-    if text::at(line, 0) == b'=' {
+    if script_text::at(line, 0) == b'=' {
         return group(line);
     }
     vector(r, line, room);
@@ -86,10 +86,8 @@ pub fn each(input: &[u8], room: &mut [u8]) {
     let mut r: u8 = 0;
     let mut rest = input;
     while 0 < rest.len() {
-        let n = turbo::find(rest, 10);
-        let line = text::front(rest, n);
-        let next = text::after(rest, n);
+        r = one(r, script_text::first_line(rest), room);
+        let next = script_text::rest_after_line(rest);
         rest = next;
-        r = one(r, line, room);
     }
 }

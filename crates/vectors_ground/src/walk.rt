@@ -1,7 +1,6 @@
 // Lines, marks and fields of a dossier.
 use crate::parts;
 use crate::say;
-use crate::text;
 use turbo_lines::Mark;
 
 pub fn mark(line: &[u8]) {
@@ -72,7 +71,7 @@ pub fn row(line: &[u8]) {
 
 // The first byte, sought in what follows the circumflex: from byte to byte, and by blocks.
 pub fn find(v: &[u8]) {
-    let x = text::at(v, 0);
+    let x = script_text::at(v, 0);
     let s = parts::tail(v);
     say::size(turbo::find(s, x));
     say::size(turbo::find_far(s, x));

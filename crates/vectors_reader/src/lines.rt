@@ -1,10 +1,9 @@
 // The lines of the input. A vector is printed with what is answered and how many bytes of the staging area are written. Other lines begin with a mark.
-use crate::rows;
 use crate::say;
 use crate::spell;
-use crate::text;
+use crate::staged;
 use field_types::Number;
-use reader::Answer;
+use reader::Reading;
 
 // The letter of the group's reader, and where on the desk ends what is held.
 struct Held {
@@ -39,12 +38,19 @@ fn who(desk: &mut [u8], letter: u8, head: &[u8]) -> usize {
     spell::out(desk, 0, b"%01%01CXX%00%00%00%00%00%00%00")
 }
 
+// The dossier of a vector whose ^ stands at n: what follows it, or all where there is none.
+fn dossier(line: &[u8], n: usize) -> &[u8] {
+    if n < line.len() {
+        return script_text::after(line, n);
+    }
+    line
+}
+
 // A vector laid on the desk. Where it has no ^ all is dossier, and its bytes are no number.
 fn laid(line: &[u8], desk: &mut [u8], h: Held) -> Job {
-    let n = turbo::find(line, b'^');
-    let head = text::part(line, 0, n);
+    let head = script_text::before(line, b'^');
     let who = who(desk, h.letter, head);
-    let end = spell::out(desk, h.end, text::past(line, n));
+    let end = spell::out(desk, h.end, dossier(line, head.len()));
     let size = size(head);
     Job {
         letter: h.letter,
@@ -55,20 +61,26 @@ fn laid(line: &[u8], desk: &mut [u8], h: Held) -> Job {
 }
 
 // P and p read the planning, C and c the calendar, the others messages.
-fn read(desk: &[u8], area: &mut [u8], j: Job) -> Answer {
-    let d = text::part(desk, DOSSIER, j.end);
+fn read(desk: &[u8], area: &mut [u8], j: Job) -> Reading {
+    let d = script_text::part(desk, DOSSIER, j.end);
     let letter = j.letter;
     match letter {
         b'P' | b'p' => reader::read_planning(d, area),
         b'C' | b'c' => reader::read_calendar(d, area),
-        _ => reader::read_message(d, text::part(desk, 1, j.who), text::at(desk, 0), area),
+        _ => reader::read_message(
+            d,
+            script_text::part(desk, 1, j.who),
+            script_text::at(desk, 0),
+            area,
+        ),
     }
 }
 
 // Of the room so much is lent as is asked for, and all is looked at.
 fn told(desk: &[u8], room: &mut [u8], j: Job) {
-    say::answer(read(desk, text::front(room, j.size), j));
-    rows::left(j.letter, room);
+    let n = script_text::at_most(j.size, room.len());
+    say::answer(read(desk, &mut room[0..n], j));
+    staged::left(j.letter, room);
 }
 
 fn lend(desk: &[u8], room: &mut [u8; 41778], j: Job) {
@@ -89,18 +101,18 @@ fn vector(line: &[u8], desk: &mut [u8], h: Held) {
 // `=M name` begins a group.
 fn group(line: &[u8]) -> u8 {
     say::words(b"==");
-    say::line(text::after(line, 1));
-    text::at(line, 1)
+    say::line(script_text::after(line, 1));
+    script_text::at(line, 1)
 }
 
 // A vector's dossier stands behind what is held: `+` puts more there, `-` empties it. `#` is a heading.
 fn one(line: &[u8], desk: &mut [u8], h: Held) -> Held {
     let mut n = h;
-    let mark = text::at(line, 0);
+    let mark = script_text::at(line, 0);
     match mark {
         b'=' => n.letter = group(line),
         b'#' => say::line(line),
-        b'+' => n.end = spell::out(desk, h.end, text::after(line, 0)),
+        b'+' => n.end = spell::out(desk, h.end, script_text::after(line, 0)),
         b'-' => n.end = DOSSIER,
         _ => vector(line, desk, h),
     }
@@ -114,10 +126,8 @@ pub fn run(input: &[u8], desk: &mut [u8]) {
     };
     let mut rest = input;
     while 0 < rest.len() {
-        let n = turbo::find(rest, 10);
-        let line = &rest[0..n];
-        let next = text::after(rest, n);
+        h = one(script_text::first_line(rest), desk, h);
+        let next = script_text::rest_after_line(rest);
         rest = next;
-        h = one(line, desk, h);
     }
 }

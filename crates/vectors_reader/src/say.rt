@@ -1,6 +1,6 @@
 // What is printed.
 use libc::STDOUT_FILENO;
-use reader::Answer;
+use reader::Reading;
 
 pub fn words(s: &[u8]) {
     io::write_all(STDOUT_FILENO, s);
@@ -27,34 +27,34 @@ struct Three {
 }
 
 // Which word, the number behind it, and a column if any.
-fn told(a: Answer) -> Three {
+fn told(a: Reading) -> Three {
     match a {
-        Answer::TooLong => Three {
+        Reading::TooLong => Three {
             word: 0,
             a: 2,
             column: 0,
         },
-        Answer::Syntax(i) => Three {
+        Reading::Syntax(i) => Three {
             word: 1,
             a: i,
             column: 0,
         },
-        Answer::Form(l) => Three {
+        Reading::Form(l) => Three {
             word: 2,
             a: l,
             column: 0,
         },
-        Answer::Field(l, c) => Three {
+        Reading::Field(l, c) => Three {
             word: 3,
             a: l,
             column: c,
         },
-        Answer::Owner(l) => Three {
+        Reading::Owner(l) => Three {
             word: 4,
             a: l,
             column: 0,
         },
-        Answer::Rows(n) => Three {
+        Reading::Rows(n) => Three {
             word: 5,
             a: n,
             column: 0,
@@ -62,7 +62,7 @@ fn told(a: Answer) -> Three {
     }
 }
 
-pub fn answer(a: Answer) {
+pub fn answer(a: Reading) {
     let t = told(a);
     let word = turbo::field_of(
         b" -> | -> 3 at | -> 4 line | -> 5 line | -> 6 line | -> rows ",

@@ -17,11 +17,8 @@ loop-holds c = omega arith
 piece-requires : tie.Need-piece-requires Inv-loop μ-loop
 piece-requires c κs = tt
 
-find-requires : tie.Need-find-requires Inv-loop μ-loop
-find-requires c κs = tt
-
-after-requires : tie.Need-after-requires Inv-loop μ-loop
-after-requires c κs = tt
+behind-requires : tie.Need-behind-requires Inv-loop μ-loop
+behind-requires c κs = tt
 
 loop-less : tie.Need-loop-less Inv-loop μ-loop
 loop-less c = omega arith
@@ -40,8 +37,7 @@ tell-spec =
     μ-loop
     loop-holds
     piece-requires
-    find-requires
-    after-requires
+    behind-requires
     loop-less
     loop-again
     returns)

@@ -14,7 +14,7 @@ same-length : tie.Need-same-length
 same-length c = search needs
 
 returns : tie.Need-returns
-returns c = of-board _ _ _ _ (c .set-board .ensures) (c .before .before .before .before .board .ensures)
+returns c = of-board _ _ _ _ _ (c .set-board .ensures) (c .before .before .before .before .board .ensures)
 
 pub desk-board-spec : {M : Type 1} → statement M
 desk-board-spec = tie.close (tie.spec board-requires set-board-requires same-length returns)

@@ -17,7 +17,7 @@ same-length-2 : tie.Need-same-length-2
 same-length-2 c = search needs
 
 returns : tie.Need-returns
-returns c = of-call _ _ _ _ (c .set-answer .ensures) (c .before .before .before .before .before .before .message .ensures)
+returns c = of-call _ _ _ _ _ _ _ (c .set-answer .ensures) (c .before .before .before .before .before .before .message .ensures)
 
 pub desk-message-spec : {M : Type 1} → statement M
 desk-message-spec =

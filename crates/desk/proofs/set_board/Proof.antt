@@ -1,7 +1,7 @@
--- `answers::set_board` meets its contract: each arm writes the numbers of its case. Assumes nothing.
+-- `set_board` meets its contract: each arm writes the numbers of its case. Assumes nothing.
 use borrow.Author.Needs.{needs}
-use Rattle.board.specs.declared.Answer.the-variants.{Listed, Unsound, OutOfRange}
-use Rattle.desk.proofs.AnswersAnswerLaws.{board-written}
+use Rattle.board.specs.declared.Listing.the-variants.{Listed, Unsound, OutOfRange}
+use Rattle.desk.proofs.AnswerLaws.{board-written}
 use Rattle.desk.proofs.set_board.Statement.{statement}
 use Rattle.desk.proofs.set_board.Tie as tie
 

@@ -16,23 +16,14 @@ abbrev μ-loop : tie.MeasureT-loop
 loop-holds : tie.Need-loop-holds Inv-loop μ-loop
 loop-holds c = omega arith
 
-find-requires : tie.Need-find-requires Inv-loop μ-loop
-find-requires c κs = tt
-
-sub-line : tie.Need-sub-line Inv-loop μ-loop
-sub-line c = omega arith
-
-part-line-start : tie.Need-part-line-start Inv-loop μ-loop
-part-line-start c = search needs
-
-part-line-end : tie.Need-part-line-end Inv-loop μ-loop
-part-line-end c = search needs
-
-after-requires : tie.Need-after-requires Inv-loop μ-loop
-after-requires c κs = tt
+first-line-requires : tie.Need-first-line-requires Inv-loop μ-loop
+first-line-requires c κs = tt
 
 one-requires : tie.Need-one-requires Inv-loop μ-loop
 one-requires c κs = tt
+
+rest-after-line-requires : tie.Need-rest-after-line-requires Inv-loop μ-loop
+rest-after-line-requires c κs = tt
 
 loop-less : tie.Need-loop-less Inv-loop μ-loop
 loop-less c = omega arith
@@ -53,12 +44,9 @@ run-spec =
     Inv-loop
     μ-loop
     loop-holds
-    find-requires
-    sub-line
-    part-line-start
-    part-line-end
-    after-requires
+    first-line-requires
     one-requires
+    rest-after-line-requires
     loop-less
     loop-again
     same-length

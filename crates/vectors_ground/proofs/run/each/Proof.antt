@@ -16,17 +16,14 @@ abbrev μ-loop : tie.MeasureT-loop
 loop-holds : tie.Need-loop-holds Inv-loop μ-loop
 loop-holds c = omega arith
 
-find-requires : tie.Need-find-requires Inv-loop μ-loop
-find-requires c κs = tt
-
-front-requires : tie.Need-front-requires Inv-loop μ-loop
-front-requires c κs = tt
-
-after-requires : tie.Need-after-requires Inv-loop μ-loop
-after-requires c κs = tt
+first-line-requires : tie.Need-first-line-requires Inv-loop μ-loop
+first-line-requires c κs = tt
 
 one-requires : tie.Need-one-requires Inv-loop μ-loop
 one-requires c κs = tt
+
+rest-after-line-requires : tie.Need-rest-after-line-requires Inv-loop μ-loop
+rest-after-line-requires c κs = tt
 
 loop-less : tie.Need-loop-less Inv-loop μ-loop
 loop-less c = omega arith
@@ -47,10 +44,9 @@ each-spec =
     Inv-loop
     μ-loop
     loop-holds
-    find-requires
-    front-requires
-    after-requires
+    first-line-requires
     one-requires
+    rest-after-line-requires
     loop-less
     loop-again
     same-length

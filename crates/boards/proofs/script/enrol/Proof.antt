@@ -1,0 +1,72 @@
+-- `script::enrol` meets its contract. Assumes nothing.
+use mathlib.Core.Path.{_∙_}
+use Rattle.script_text.specs.Rules.{wordAt}
+use Rattle.boards.proofs.LeavesLaws.{full-held, full-register, pair-held, pair-register}
+use borrow.Author.Needs.{needs}
+use Rattle.boards.proofs.script.enrol.Statement.{statement}
+use Rattle.boards.proofs.script.enrol.Tie as tie
+
+bad-requires : tie.Need-bad-requires
+bad-requires c κs = search needs
+
+returns : tie.Need-returns
+returns c = let a = c .before .before .before .before .args in (c .bad .ensures ∙ full-held (a .h) (c .before .if1 .taken), full-register (a .sender) (wordAt 2 (a .line .now)) (a .h .register) (a .register .now) (c .before .if1 .taken))
+
+slice-aggregate-append : tie.Need-slice-aggregate-append
+slice-aggregate-append c = search needs
+
+append-requires : tie.Need-append-requires
+append-requires c κs = search needs
+
+add-append : tie.Need-add-append
+add-append c = search needs
+
+word-requires : tie.Need-word-requires
+word-requires c κs = search needs
+
+append-requires-2 : tie.Need-append-requires-2
+append-requires-2 c κs = search needs
+
+slice-aggregate-echo : tie.Need-slice-aggregate-echo
+slice-aggregate-echo c = search needs
+
+echo-requires : tie.Need-echo-requires
+echo-requires c κs = search needs
+
+slice-aggregate-tell : tie.Need-slice-aggregate-tell
+slice-aggregate-tell c = search needs
+
+add-tell : tie.Need-add-tell
+add-tell c = search needs
+
+tell-requires : tie.Need-tell-requires
+tell-requires c κs = search needs
+
+add-n : tie.Need-add-n
+add-n c = search needs
+
+same-length : tie.Need-same-length
+same-length c = search needs
+
+returns-2 : tie.Need-returns-2
+returns-2 c = let a = c .before .before .before .before .before .before .before .before .before .before .before .before .before .before .before .before .before .args in (pair-held (a .h) (c .before .before .before .before .before .before .before .before .before .before .before .before .before .before .if1 .left), pair-register (a .sender) (wordAt 2 (a .line .now)) _ (a .h .register) (a .register .now) _ _ (c .before .before .before .before .before .before .before .before .before .before .before .before .before .before .if1 .left) (c .before .before .before .before .before .before .before .word .ensures) (c .before .before .before .before .before .before .before .before .before .before .before .append .ensures .1) (c .before .before .before .before .before .before .append2 .ensures .1))
+
+pub enrol-spec : {M : Type 1} → statement M
+enrol-spec =
+    tie.close
+    (tie.spec
+    bad-requires
+    returns
+    slice-aggregate-append
+    append-requires
+    add-append
+    word-requires
+    append-requires-2
+    slice-aggregate-echo
+    echo-requires
+    slice-aggregate-tell
+    add-tell
+    tell-requires
+    add-n
+    same-length
+    returns-2)

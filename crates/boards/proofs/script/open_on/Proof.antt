@@ -1,0 +1,30 @@
+-- `script::open_on` meets its contract. Assumes nothing.
+use mathlib.Core.Path.{refl}
+use Rattle.boards.specs.Leaves.{state}
+use Rattle.boards.proofs.LeavesLaws.{left-is}
+use borrow.Author.Needs.{needs}
+use Rattle.boards.proofs.script.open_on.Statement.{statement}
+use Rattle.boards.proofs.script.open_on.Tie as tie
+
+open-requires : tie.Need-open-requires
+open-requires c κs = search needs
+
+slice-aggregate-told : tie.Need-slice-aggregate-told
+slice-aggregate-told c = search needs
+
+told-requires : tie.Need-told-requires
+told-requires c κs = search needs
+
+same-length : tie.Need-same-length
+same-length c = search needs
+
+same-length-2 : tie.Need-same-length-2
+same-length-2 c = search needs
+
+returns : tie.Need-returns
+returns c = let a = c .before .before .before .before .before .before .before .before .before .before .before .before .before .before .before .args in let o = c .before .before .before .before .before .before .«open» in λ register. left-is (o .result) _ _ _ (a .h) (c .told .result) (state (a .h) register (a .book .now) (a .table .now)) refl (c .told .ensures) (o .ensures .0)
+
+pub open-on-spec : {M : Type 1} → statement M
+open-on-spec =
+    tie.close
+    (tie.spec open-requires slice-aggregate-told told-requires same-length same-length-2 returns)

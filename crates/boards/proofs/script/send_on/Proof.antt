@@ -1,0 +1,43 @@
+-- `script::send_on` meets its contract. Assumes nothing.
+use mathlib.Core.Path.{refl, ap, _∙_}
+use mathlib.Core.List.{List}
+use Prim.Native.Nat.{ℕ}
+use Rattle.calls.specs.Message.{messageLeaves}
+use Rattle.boards.specs.Leaves.{state}
+use Rattle.boards.proofs.LeavesLaws.{left-is}
+use borrow.Author.Needs.{needs}
+use Rattle.boards.proofs.script.send_on.Statement.{statement}
+use Rattle.boards.proofs.script.send_on.Tie as tie
+
+front-requires : tie.Need-front-requires
+front-requires c κs = search needs
+
+message-requires : tie.Need-message-requires
+message-requires c κs = search needs
+
+slice-aggregate-told : tie.Need-slice-aggregate-told
+slice-aggregate-told c = search needs
+
+told-requires : tie.Need-told-requires
+told-requires c κs = search needs
+
+same-length : tie.Need-same-length
+same-length c = search needs
+
+same-length-2 : tie.Need-same-length-2
+same-length-2 c = search needs
+
+returns : tie.Need-returns
+returns c = let a = c .before .before .before .before .before .before .before .before .before .before .before .before .before .before .before .before .args in let o = c .before .before .before .before .before .before .message in left-is (o .result) _ _ _ (a .h) (c .told .result) (state (a .h) (a .register .now) (a .book .now) (a .table .now)) refl (c .told .ensures) (o .ensures .0 ∙ ap (λ (x : List ℕ). messageLeaves (a .dossier .now) (a .sender) x (a .book .now) (a .table .now) (a .h .counts)) (c .before .before .before .before .before .before .before .before .before .front .ensures))
+
+pub send-on-spec : {M : Type 1} → statement M
+send-on-spec =
+    tie.close
+    (tie.spec
+    front-requires
+    message-requires
+    slice-aggregate-told
+    told-requires
+    same-length
+    same-length-2
+    returns)

@@ -1,0 +1,36 @@
+-- `script::withdraw` meets its contract. Assumes nothing.
+use mathlib.Core.Path.{refl}
+use Rattle.boards.specs.Leaves.{state}
+use Rattle.boards.proofs.LeavesLaws.{left-is}
+use borrow.Author.Needs.{needs}
+use Rattle.boards.proofs.script.withdraw.Statement.{statement}
+use Rattle.boards.proofs.script.withdraw.Tie as tie
+
+withdraw-requires : tie.Need-withdraw-requires
+withdraw-requires c κs = search needs
+
+slice-aggregate-told : tie.Need-slice-aggregate-told
+slice-aggregate-told c = search needs
+
+told-requires : tie.Need-told-requires
+told-requires c κs = search needs
+
+same-length : tie.Need-same-length
+same-length c = search needs
+
+same-length-2 : tie.Need-same-length-2
+same-length-2 c = search needs
+
+returns : tie.Need-returns
+returns c = let a = c .before .before .before .before .before .before .before .before .before .before .before .before .before .args in let o = c .before .before .before .before .before .before .withdraw in λ register. left-is (o .result) _ _ _ (a .h) (c .told .result) (state (a .h) register (a .book .now) (a .table .now)) refl (c .told .ensures) (o .ensures .0)
+
+pub withdraw-spec : {M : Type 1} → statement M
+withdraw-spec =
+    tie.close
+    (tie.spec
+    withdraw-requires
+    slice-aggregate-told
+    told-requires
+    same-length
+    same-length-2
+    returns)

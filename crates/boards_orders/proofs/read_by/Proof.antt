@@ -1,0 +1,57 @@
+-- `read_by` meets its contract. Assumes nothing.
+use borrow.Author.Tests.{ne-eqb}
+use Rattle.boards_orders.specs.Orders.{orderBy}
+use borrow.Author.Needs.{needs}
+use Rattle.boards_orders.proofs.read_by.Statement.{statement}
+use Rattle.boards_orders.proofs.read_by.Tie as tie
+
+read-register-requires : tie.Need-read-register-requires
+read-register-requires c κs = search needs
+
+read-message-requires : tie.Need-read-message-requires
+read-message-requires c κs = search needs
+
+read-withdraw-requires : tie.Need-read-withdraw-requires
+read-withdraw-requires c κs = search needs
+
+read-board-requires : tie.Need-read-board-requires
+read-board-requires c κs = search needs
+
+returns : tie.Need-returns
+unfolding orderBy
+returns c = rw (c .match .keys1)
+
+returns-2 : tie.Need-returns-2
+unfolding orderBy
+returns-2 c = rw (c .before .match .keys2) (c .read-register .ensures)
+
+returns-3 : tie.Need-returns-3
+unfolding orderBy
+returns-3 c = rw (c .before .match .keys3) (c .read-message .ensures)
+
+returns-4 : tie.Need-returns-4
+unfolding orderBy
+returns-4 c = rw (c .before .match .keys4) (c .read-withdraw .ensures)
+
+returns-5 : tie.Need-returns-5
+unfolding orderBy
+returns-5 c = rw (c .before .match .keys5) (c .read-board .ensures)
+
+returns-6 : tie.Need-returns-6
+unfolding orderBy
+returns-6 c = let r = c .match .rest in rw (ne-eqb _ 0 (r .0 .0 .0 .0 .1), ne-eqb _ 1 (r .0 .0 .0 .1), ne-eqb _ 2 (r .0 .0 .1), ne-eqb _ 3 (r .0 .1), ne-eqb _ 4 (r .1))
+
+pub read-by-spec : {M : Type 1} → statement M
+read-by-spec =
+    tie.close
+    (tie.spec
+    read-register-requires
+    read-message-requires
+    read-withdraw-requires
+    read-board-requires
+    returns
+    returns-2
+    returns-3
+    returns-4
+    returns-5
+    returns-6)
