@@ -29,10 +29,12 @@ static const char cancellation[] =
     "CXX|2016-03-02|A031|101|0|S1|15|CIOS|2016-03-01T23:40:00+01:00|CANCEL|00:05:00|00:05:00|INTERMEDIATE|1\r\n";
 
 /* sender 3 may send for CXX */
-static const char registered[11] = "\003CXX";
+enum { SENDER = 3 };
+static const char registered[DESK_PAIR] = "\003CXX";
 
+/* the day: book, table, and the last answer, in which stand the counts to pass on */
 static uint8_t book[DESK_BOOK], table[DESK_TABLE];
-static uint64_t answer[6]; /* the counts to pass on are answer[4] and answer[5] */
+static uint64_t answer[DESK_ANSWER];
 
 #define TEXT(s) (const uint8_t *)(s), sizeof(s) - 1
 
@@ -45,47 +47,51 @@ static unsigned number_at(const uint8_t *bytes, int width)
 
 static void print_row(const uint8_t *row)
 {
-    static const char *const statuses[] = {"PLANNED", "CANCEL", "UNKNOWN", "DRIVING", "ARRIVED", "PASSED"};
-    unsigned date = number_at(row + DESK_DATE_AT, 4);
+    static const char *const statuses[] = {[DESK_PLANNED] = "PLANNED", [DESK_CANCEL] = "CANCEL",   [DESK_UNKNOWN] = "UNKNOWN",
+                                           [DESK_DRIVING] = "DRIVING", [DESK_ARRIVED] = "ARRIVED", [DESK_PASSED] = "PASSED"};
+    unsigned date = number_at(row + DESK_DATE_AT, DESK_DATE_WIDE);
     /* 24:10:00 is ten past midnight on the day after: timegm carries the seconds over */
     struct tm t = {.tm_year = (int)(date / 10000) - 1900, .tm_mon = (int)(date / 100 % 100) - 1, .tm_mday = (int)(date % 100),
-                   .tm_sec = (int)number_at(row + DESK_DEPARTURE_AT, 3)};
+                   .tm_sec = (int)number_at(row + DESK_DEPARTURE_AT, DESK_TIME_WIDE)};
     char clock[20];
     timegm(&t);
     strftime(clock, sizeof clock, "%Y-%m-%d %H:%M:%S", &t);
-    printf("%s %.10s %.10s %s\n", clock, row + DESK_LINE_AT, row + DESK_DESTINATION_AT, statuses[row[DESK_STATUS_AT]]);
+    /* texts are padded with zeros, and one of ten bytes has none behind it */
+    printf("%s %.*s %.*s %s\n", clock, DESK_TEXT_WIDE, row + DESK_LINE_AT, DESK_TEXT_WIDE, row + DESK_DESTINATION_AT, statuses[row[DESK_STATUS_AT]]);
 }
 
-/* the board of S1, half an hour from 23:50:00 on */
-static void print_board(uint64_t rows)
+/* the board of S1, half an hour from 23:50:00 on. Its places are good until the table changes, so the rows are printed at once. */
+static void print_board(void)
 {
     uint32_t places[8];
-    uint64_t board[6];
+    uint64_t board[DESK_ANSWER]; /* of its own: a board gives no counts */
     puts("BOARD CXX S1 2016-03-01 23:50:00 1800");
-    desk_board(TEXT("CXX"), TEXT("S1"), 20160301, 85800, 1800, table, sizeof table, rows, places, 8, board);
-    for (uint64_t i = 0; i < board[1]; i++) print_row(table + places[i] * DESK_ROW);
-    printf("END %u %u\n", (unsigned)board[1], (unsigned)board[2]);
+    desk_board(TEXT("CXX"), TEXT("S1"), 20160301, 85800, 1800, table, sizeof table, answer[DESK_ANSWER_ROWS], places, 8, board);
+    for (uint64_t i = 0; i < board[DESK_ANSWER_VALUE]; i++) print_row(table + places[i] * DESK_ROW);
+    printf("END %u %u\n", (unsigned)board[DESK_ANSWER_VALUE], (unsigned)board[DESK_ANSWER_SECOND]);
 }
 
 static int refused(const char *call, uint32_t number)
 {
-    if (number != 0) printf("%s: refused with %u, %u, %u\n", call, (unsigned)number, (unsigned)answer[1], (unsigned)answer[2]);
-    return number != 0;
+    if (number == DESK_ACCEPTED) return 0;
+    printf("%s: refused with %u, %u, %u\n", call, (unsigned)number, (unsigned)answer[DESK_ANSWER_VALUE], (unsigned)answer[DESK_ANSWER_SECOND]);
+    return 1;
 }
 
 int main(void)
 {
     if (refused("open", desk_open(TEXT(planning), TEXT(calendar), book, sizeof book, table, sizeof table, 0, 0, answer))) return 1;
-    print_board(answer[5]);
+    print_board();
 
-    if (refused("message", desk_message(TEXT(cancellation), 3, (const uint8_t *)registered, sizeof registered, book, sizeof book,
-                                        table, sizeof table, answer[4], answer[5], answer))) return 1;
-    uint32_t message = (uint32_t)answer[1];
+    if (refused("message", desk_message(TEXT(cancellation), SENDER, (const uint8_t *)registered, sizeof registered, book, sizeof book,
+                                        table, sizeof table, answer[DESK_ANSWER_USED], answer[DESK_ANSWER_ROWS], answer))) return 1;
+    uint32_t message = (uint32_t)answer[DESK_ANSWER_VALUE];
     printf("\nmessage %u:\n", (unsigned)message);
-    print_board(answer[5]);
+    print_board();
 
-    if (refused("withdraw", desk_withdraw(message, 3, book, sizeof book, table, sizeof table, answer[4], answer[5], answer))) return 1;
+    if (refused("withdraw", desk_withdraw(message, SENDER, book, sizeof book, table, sizeof table, answer[DESK_ANSWER_USED],
+                                          answer[DESK_ANSWER_ROWS], answer))) return 1;
     printf("\nmessage %u withdrawn:\n", (unsigned)message);
-    print_board(answer[5]);
+    print_board();
     return 0;
 }

@@ -1,24 +1,30 @@
-/* Zhemdurak for C: open a day, take messages, withdraw them, ask for boards.
+/* Zhemdurak for C: open a day, take messages, withdraw them, ask for boards. docs/SCOPE.md has the rules, examples/board.c a use of it all.
 
-   Link the archive that `tools/native-archive desk` writes.
+   Link the archive that `tools/native-archive desk` writes. 64-bit machines only.
 
-   All memory is lent for the time of one call, each piece as a pointer and a length. Nothing is kept and nothing allocated; desk_open takes
-   about 1 MB of stack, the others less than half of that. What a call may write (book, table, places, answer) must overlap
-   nothing else that is passed to it; what it only reads may overlap. Where a length is 0, the pointer may be NULL.
+   MEMORY. All memory is lent for the time of one call, each piece as a pointer and a length; nothing is kept and nothing allocated. What a call may
+   write (book, table, places, answer) must overlap nothing else that is passed to it; what it only reads may overlap. `places` and `answer` are aligned
+   as their types are. Where a length is 0, the pointer may be NULL; `answer` may not.
 
-   Any bytes and any numbers may be passed: a call refuses what it cannot take, and a refused call changes nothing but `answer`.
+   THREADS. There is no data but what is lent, and what stands on the stack: calls may run side by side, in as many threads as wanted, if what one
+   writes no other is lent. A call takes the same stack whatever it is passed: open 1 MB, message and withdraw less than 400 KB, board less than 10 KB
+   (measured on x86-64). Threads with small stacks need more than their default.
 
-   `answer` gets six numbers, 0 where there is no such value. Each call returns the first of them too.
+   ANY BYTES and any numbers may be passed: a call refuses what it cannot take, and a refused call changes nothing but `answer`.
 
-     answer[0]  0: accepted. Else why it was refused:
-                1 not sound, 2 dossier over 65,536 bytes, 3 syntax, 4 a wanted column twice or missing, or the number of fields,
-                5 a wanted field outside its type, 6 owner not registered for the sender, 7 book too short, 8 table too short,
-                9 open: one key twice, 10 no such message, 11 already withdrawn, 12 another sender's message, 13 question out of range
-     answer[1]  accepted: the message's number (message), or places written (board); 3: byte offset; 4, 5, 6: line, from 1
-     answer[2]  accepted: passages shown in all (board); 5: column, from 1
-     answer[3]  open refused with 2 to 5: 1 for the planning, 2 for the calendar
-     answer[4]  used bytes of the book, and
-     answer[5]  rows of the table: what to pass to the next call. Refused: as they were given. Board: 0 and 0 */
+   THE DAY is the book, the table and two counts. Keep the counts of the last answer (used, rows) and pass them to the next call; a refused call gives
+   back the ones that it was passed, so they may be taken from every answer but a board's.
+
+   THE ANSWER is six numbers, and each call returns the first of them too:
+
+     [0] number   DESK_ACCEPTED, or why it was refused
+     [1] value    accepted: message: its number, 0 where it had no rows; board: how many places were written; else 0
+                  refused: DESK_SYNTAX: the fault's byte offset, from 0; DESK_FORM, DESK_FIELD, DESK_NOT_REGISTERED: the line, from 1; else 0
+     [2] second   accepted: board: how many passages are shown in all; else 0
+                  refused: DESK_FIELD: the column, from 1; else 0
+     [3] dossier  open refused with DESK_TOO_LONG to DESK_FIELD: 1 the planning, 2 the calendar; else 0
+     [4] used     bytes used of the book, for the next call; refused: as passed; board: 0
+     [5] rows     rows of the table, for the next call; refused: as passed; board: 0 */
 #ifndef DESK_H
 #define DESK_H
 
@@ -29,51 +35,129 @@
 extern "C" {
 #endif
 
+/* The places in an answer, and how many there are. */
+enum {
+    DESK_ANSWER_NUMBER = 0,
+    DESK_ANSWER_VALUE = 1,
+    DESK_ANSWER_SECOND = 2,
+    DESK_ANSWER_DOSSIER = 3,
+    DESK_ANSWER_USED = 4,
+    DESK_ANSWER_ROWS = 5,
+    DESK_ANSWER = 6
+};
+
+/* An answer's number, and which calls give it. Where several hold, the first is given in the order 1 to 7, 9, 10, 12, 11, 8, 13. */
+enum {
+    DESK_ACCEPTED = 0,
+    DESK_UNSOUND = 1,            /* message, withdraw, board: counts, book, table or register cannot be worked with */
+    DESK_TOO_LONG = 2,           /* open, message: a dossier over DESK_DOSSIER bytes */
+    DESK_SYNTAX = 3,             /* open, message: not the form of a dossier */
+    DESK_FORM = 4,               /* open, message: a wanted column twice, or missing, or a line with another number of fields than its label line */
+    DESK_FIELD = 5,              /* open, message: a wanted field outside its type */
+    DESK_NOT_REGISTERED = 6,     /* message: the sender is not registered for a row's owner */
+    DESK_BOOK_SHORT = 7,         /* open, message: no room in the book */
+    DESK_TABLE_SHORT = 8,        /* open, message, withdraw: no room in the table */
+    DESK_KEY_TWICE = 9,          /* open: one passage is planned twice */
+    DESK_NO_MESSAGE = 10,        /* withdraw: no message has the number */
+    DESK_ALREADY_WITHDRAWN = 11, /* withdraw */
+    DESK_OTHER_SENDER = 12,      /* withdraw: the sender is neither the message's nor the desk */
+    DESK_OUT_OF_RANGE = 13       /* board: owner, stop, date, second or horizon */
+};
+
 /* Sizes to lend where room is never to lack. Less may be lent; of more, no more than this is used. */
 enum {
-    DESK_BOOK = 294912,       /* bytes of a book */
+    DESK_BOOK = 294912,       /* bytes of a book: 4,096 updates, or 4,401 planned passages */
     DESK_ROWS = 2048,         /* rows of a table */
     DESK_ROW = 67,            /* bytes of a row */
     DESK_TABLE = 2048 * 67,   /* bytes of a table */
-    DESK_REGISTER = 64 * 11   /* bytes of a register at most: 64 pairs of a sender and, in 10 bytes padded with zeros, an owner */
+    DESK_PAIR = 11,           /* bytes of a pair of the register: a sender, then its owner padded with zeros */
+    DESK_REGISTER = 64 * 11,  /* bytes of a register at most. A longer one, or a part of a pair, is unsound; an empty one registers nobody */
+    DESK_DOSSIER = 65536      /* bytes of a dossier at most */
 };
 
-/* Where a row has what: texts padded with zeros, numbers big-endian; times are seconds of the operating day, 16,777,215 where there is none. */
+/* A sender is 1 to 255. 0 is the desk: it sends no rows, and withdraws anybody's message. */
+enum { DESK_SENDER = 0 };
+
+/* Where a row of the table has what, and in how many bytes: texts padded with zeros, numbers big-endian. The key is the first DESK_KEY_WIDE bytes, the
+   body, which the book has too, the first DESK_BODY_WIDE. */
 enum {
-    DESK_OWNER_AT = 0,             /* 10 */
-    DESK_DATE_AT = 10,             /*  4, YYYYMMDD as a number */
-    DESK_LINE_AT = 14,             /* 10 */
-    DESK_JOURNEY_AT = 24,          /*  4 */
-    DESK_FORTIFY_AT = 28,          /*  1 */
-    DESK_STOP_AT = 29,             /* 10 */
-    DESK_ORDER_AT = 39,            /*  2 */
-    DESK_DESTINATION_AT = 41,      /* 10 */
-    DESK_TIMESTAMP_AT = 51,        /*  4, seconds since 1970 */
-    DESK_STATUS_AT = 55,           /*  1: planned, cancel, unknown, driving, arrived, passed, from 0 */
-    DESK_ARRIVAL_AT = 56,          /*  3 */
-    DESK_DEPARTURE_AT = 59,        /*  3 */
-    DESK_STOP_TYPE_AT = 62,        /*  1: first, intermediate, last, from 0 */
-    DESK_SHOW_CANCELLED_AT = 63,   /*  1 */
-    DESK_FLEXIBLE_AT = 64,         /*  1 */
-    DESK_MONITORED_AT = 65,        /*  1 */
-    DESK_HEARD_AT = 66             /*  1: whether a message has been heard of it */
+    DESK_OWNER_AT = 0,             /* text */
+    DESK_DATE_AT = 10,             /* date of the operating day */
+    DESK_LINE_AT = 14,             /* text */
+    DESK_JOURNEY_AT = 24,          /* DESK_JOURNEY_WIDE */
+    DESK_FORTIFY_AT = 28,          /* 1 */
+    DESK_STOP_AT = 29,             /* text */
+    DESK_ORDER_AT = 39,            /* DESK_ORDER_WIDE */
+    DESK_DESTINATION_AT = 41,      /* text */
+    DESK_TIMESTAMP_AT = 51,        /* DESK_TIMESTAMP_WIDE; 0 where nothing has been heard */
+    DESK_STATUS_AT = 55,           /* 1 */
+    DESK_ARRIVAL_AT = 56,          /* time */
+    DESK_DEPARTURE_AT = 59,        /* time */
+    DESK_STOP_TYPE_AT = 62,        /* 1 */
+    DESK_SHOW_CANCELLED_AT = 63,   /* 1: 0 or 1 */
+    DESK_FLEXIBLE_AT = 64,         /* 1 */
+    DESK_MONITORED_AT = 65,        /* 1: 0 or 1 */
+    DESK_HEARD_AT = 66,            /* 1: 1 where a standing message has told of the passage, 0 where the plan alone has */
+
+    DESK_KEY_WIDE = 41,
+    DESK_BODY_WIDE = 66,
+    DESK_TEXT_WIDE = 10,
+    DESK_DATE_WIDE = 4,            /* the number YYYYMMDD */
+    DESK_JOURNEY_WIDE = 4,
+    DESK_ORDER_WIDE = 2,
+    DESK_TIMESTAMP_WIDE = 4,       /* seconds since 1970-01-01 UTC */
+    DESK_TIME_WIDE = 3             /* seconds of the operating day, to 115,199: 24:10:00 is on the next date's clock */
 };
 
-/* A planning and a calendar dossier become the plan, in book and table, whose old contents are not read. `used` and `rows` may be any numbers. */
+/* An arrival at the first stop and a departure at the last may be missing. */
+enum { DESK_NO_TIME = 16777215 };
+
+/* What stands at DESK_STATUS_AT, */
+enum { DESK_PLANNED = 0, DESK_CANCEL = 1, DESK_UNKNOWN = 2, DESK_DRIVING = 3, DESK_ARRIVED = 4, DESK_PASSED = 5 };
+
+/* at DESK_STOP_TYPE_AT, */
+enum { DESK_FIRST = 0, DESK_INTERMEDIATE = 1, DESK_LAST = 2 };
+
+/* and at DESK_FLEXIBLE_AT: whether a flexible trip is shown; not said, always, never, or where it is monitored. */
+enum { DESK_FLEXIBLE_NOT_SAID = 0, DESK_FLEXIBLE_TRUE = 1, DESK_FLEXIBLE_FALSE = 2, DESK_FLEXIBLE_REALTIME = 3 };
+
+/* Where an entry of the book has what. Plan entries come first, then updates, in the order accepted. In an update's body show cancelled, flexible and
+   monitored may be DESK_KEPT: the row keeps what it has. */
+enum {
+    DESK_KIND_AT = 0,          /* 1: which kind of entry it is */
+    DESK_KIND_PLAN = 1,
+    DESK_KIND_STANDING = 2,    /* an update that counts */
+    DESK_KIND_WITHDRAWN = 3,   /* an update that was taken back */
+
+    DESK_PLAN_BODY_AT = 1,
+    DESK_PLAN_WIDE = 67,       /* bytes of a plan entry */
+
+    DESK_NUMBER_AT = 1,        /* 4: the message's number */
+    DESK_SENDER_AT = 5,        /* 1 */
+    DESK_UPDATE_BODY_AT = 6,
+    DESK_UPDATE_WIDE = 72,     /* bytes of an update */
+
+    DESK_KEPT = 255
+};
+
+/* A planning and a calendar dossier become the plan, in book and table, whose old contents are not read. `used` and `rows` may be any numbers: they are
+   given back on a refusal. Message numbers begin at 1 again. */
 uint32_t desk_open(const uint8_t *planning, size_t planning_len,
                    const uint8_t *calendar, size_t calendar_len,
                    uint8_t *book, size_t book_len,
                    uint8_t *table, size_t table_len,
                    uint64_t used, uint64_t rows, uint64_t answer[6]);
 
-/* A message dossier is taken whole or refused whole. The register says which senders, 1 to 255, send for which owners. */
+/* A message dossier is taken whole or refused whole. The register says which senders, 1 to 255, send for which owners. The message's number is what
+   desk_withdraw takes; a message without rows is accepted as 0 and changes nothing. */
 uint32_t desk_message(const uint8_t *dossier, size_t dossier_len, uint8_t sender,
                       const uint8_t *registered, size_t registered_len,
                       uint8_t *book, size_t book_len,
                       uint8_t *table, size_t table_len,
                       uint64_t used, uint64_t rows, uint64_t answer[6]);
 
-/* The message with this number is withdrawn, as if it had never been, for its own sender or for the desk: 0. */
+/* The message with this number is withdrawn, as if it had never been, for its own sender or for the desk, DESK_SENDER. Its room in the book does not
+   come back. */
 uint32_t desk_withdraw(uint32_t number, uint8_t sender,
                        uint8_t *book, size_t book_len,
                        uint8_t *table, size_t table_len,
@@ -81,7 +165,8 @@ uint32_t desk_withdraw(uint32_t number, uint8_t sender,
 
 /* The board of a stop: which rows depart from `second` (0 to 86,399) of `date` (YYYYMMDD as a number) to `horizon` (0 to 86,400) seconds later.
    Owner and stop are 1 to 10 bytes, not padded. `places` gets the rows' places in the table, from 0, by departure, then key, as many as fit; its
-   length counts places. Places behind those written keep their contents. */
+   length counts places. Places behind those written keep their contents. Row p begins at byte p * DESK_ROW of the table. Places are good for this table
+   only: after a message, a withdrawal or an open, ask again. */
 uint32_t desk_board(const uint8_t *owner, size_t owner_len,
                     const uint8_t *stop, size_t stop_len,
                     uint32_t date, uint32_t second, uint32_t horizon,

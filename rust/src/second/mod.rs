@@ -1,4 +1,4 @@
-//! A second implementation of the four calls, from the document alone.
+//! A second implementation of the four calls, from the scope and docs/DECISIONS.md, without sight of the proved code.
 
 mod answer;
 mod board;

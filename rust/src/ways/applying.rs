@@ -1,4 +1,4 @@
-//! `taking` and `posting`: a message's staged rows, where the table has room for all of them to be new.
+//! `messages_take` and `messages`: a message's staged rows, where the table has room for all of them to be new.
 
 use super::{apply_row, begin_row, copy_to, find_row, insert_row, put_number, BODY, BODY_AT, ENTRY, ROW};
 

@@ -80,7 +80,7 @@ fn compare_key(a: &[u8], p: usize, b: &[u8], q: usize) -> Ordering {
     a[KEY - 1].cmp(&b[KEY - 1])
 }
 
-// `seeking`, `finding` and `sorting`: halving, over anything that has keys at places
+// `table`, `book_find` and `sorting`: halving, over anything that has keys at places
 
 /// Where the key at q of k stands among n keys, or would be put.
 fn find(n: usize, s: &[u8], at: impl Fn(usize) -> usize, k: &[u8], q: usize) -> Result<usize, usize> {
@@ -114,7 +114,7 @@ fn insert_row(t: &mut [u8], n: usize, i: usize, row: &[u8]) {
     copy_to(t, from, row);
 }
 
-// `moves`, `update`
+// `update`
 
 /// Table 17: from each status a line, to each status a letter, J where the status moves.
 const MOVES: [u8; 36] = *b"NJJJJJJJNJJJNJJJJJNJJJJJNJJNJJNNNNJJ";

@@ -12,7 +12,7 @@ const STOP_TYPE: usize = 12;
 /// Of each column, a hex digit each: its kind, the two digits of its offset, and whether it is optional.
 const COLUMNS: [u64; 4] = [0xaba9876504032010, 0x4433333322111000, 0x10feb87397dc8ea0, 0x1110000000000000];
 
-// `turbo`, `labels`
+// `turbo`, `turbo_lines`, `turbo_labels`
 
 fn find_from(s: &[u8], from: usize, x: u8) -> usize {
     (from..s.len()).find(|&k| s[k] == x).unwrap_or(s.len())
@@ -71,7 +71,7 @@ fn find_columns(labels: &[u8]) -> Option<[usize; 16]> {
     Some(places)
 }
 
-// `fields`, `stamps`, `texts`, `words`
+// `field_types`, `texts`
 
 fn read_number(f: &[u8], most: usize) -> Option<u32> {
     if f.is_empty() || most < f.len() {
@@ -151,7 +151,7 @@ fn read_word(f: &[u8], words: &[&[u8]], first: u32) -> Option<u32> {
     words.iter().position(|word| same_bytes(f, word)).map(|code| first + code as u32)
 }
 
-// `values`, `filling`
+// `columns_cells`
 
 /// A time, or none where the row's own stop type is `word`; that is looked up only where the time has no content.
 fn read_time(word: &[u8], line: &[u8], stop: usize, f: &[u8]) -> Option<u32> {
@@ -180,7 +180,7 @@ fn write_cell(kind: u8, line: &[u8], stop: usize, f: &[u8], row: &mut [u8], at: 
     }
 }
 
-// `shapes`, `rows`
+// `rows`
 
 /// What is kept of a label line: where the wanted columns stand, and in which order a data line is read.
 #[derive(Clone, Copy, Default)]
@@ -223,7 +223,7 @@ fn read_row(h: Shape, line: &[u8]) -> Result<[u8; 80], usize> {
     Ok(row)
 }
 
-// `steps`, `reader`
+// `reader_step`, `reader`
 
 /// What is kept of the lines so far; it goes by value from line to line. `place`: 0 outside the table, 1 between its `\T` and `\L` lines,
 /// 2 under its labels. `refused`: the first three numbers of an answer, of a field, an owner, or nothing.

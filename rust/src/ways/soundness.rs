@@ -1,4 +1,4 @@
-//! `passage`, `ranges`, `keys`, `table` and `book`: what all bodies have in common, what a kind has of its own, and the order of
+//! `passage`, `keys`, `table` and `book`: what all bodies have in common, what a kind has of its own, and the order of
 //! keys, each in a pass of its own.
 
 use super::{is_date, number, word_at, BODY, BODY_AT, ENTRY, KEY, PLAN, ROW};

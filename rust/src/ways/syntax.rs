@@ -1,4 +1,4 @@
-//! `syntax` and `skips`: the form of a dossier, by runs of bytes that are neither below 32 nor a backslash.
+//! `syntax`: the form of a dossier, by runs of bytes that are neither below 32 nor a backslash.
 
 /// The kind of a line, or before the first line none. Rows: labels and data.
 #[derive(Clone, Copy)]

@@ -1,4 +1,4 @@
-//! `reworks`, `replays` and `slots`: the named passages sorted, the book gone over once with a search for each entry, and
+//! `withdrawals` and `withdrawals_replay`: the named passages sorted, the book gone over once with a search for each entry, and
 //! the slots taken into the table one by one.
 
 use std::cmp::Ordering;
