@@ -1,1 +1,2 @@
+pub mod DayLaws
 pub mod Paper

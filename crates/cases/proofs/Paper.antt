@@ -29,8 +29,7 @@ use Rattle.calls.specs.declared.Counts.{Counts}
 use Rattle.calls.specs.Answers.{numbers}
 use Rattle.calls.specs.Message.{messageSound, messageRows, rowsTaken, roomFor, messageAnswer}
 use Rattle.calls.proofs.AcceptedLaws.{sound-parts, passes}
-use Rattle.runs.specs.Cases as Runs
-use Rattle.board.specs.Cases as Board
+use Rattle.cases.proofs.DayLaws.{through-the-calls}
 use Rattle.cases.specs.Paper.{P5, P10, P11, All}
 
 p5 : P5
@@ -80,4 +79,6 @@ p11 register book table sender c s =
     ∙ rw group-rows
 
 pub cases : All
-cases = (Fields.P1, Fields.P2, Fields.P3, (Turbo.P4, Syntax.P4), p5, Runs.P6, Runs.P7, (Board.at-the-end, Board.past-the-end), Runs.P9, p10, p11)
+cases =
+    let (p6, p7, p8, p9, two-rows) = through-the-calls in
+    (Fields.P1, Fields.P2, Fields.P3, (Turbo.P4, Syntax.P4), p5, p6, p7, p8, p9, two-rows, p10, p11)

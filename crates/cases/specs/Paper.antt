@@ -1,8 +1,8 @@
 -- Document 01's cases P1 to P11, one statement each. `proofs/Paper.antt` proves them together. Assumes nothing.
-use Prim.Native.Nat.{ℕ, _+_}
+use Prim.Native.Nat.{ℕ}
 use mathlib.Core.Path.{_≡_}
-use mathlib.Core.Bool.{true, false}
-use mathlib.Core.List.{List, [], _∷_, _++_, map}
+use mathlib.Core.Bool.{true}
+use mathlib.Core.List.{List, [], _∷_, _++_}
 use Rattle.lists.specs.Text.{bytes}
 use Rattle.syntax.specs.declared.Verdict.the-variants.{FaultAt}
 use Rattle.syntax.specs.Machine.{fault}
@@ -12,17 +12,15 @@ use Rattle.field_types.specs.declared.Number.the-variants.{Is, Wrong}
 use Rattle.field_types.specs.Times.{time}
 use Rattle.field_types.specs.Dates.{date}
 use Rattle.field_types.specs.Stamps.{stamp}
-use Rattle.passage.specs.Layout.{orderOf}
-use Rattle.keys.specs.Replay.{takenAll}
 use Rattle.update.specs.Moves.{statusAfter}
-use Rattle.update.specs.Rule.{rowRule}
-use Rattle.book.specs.Rules.{planRows}
+use Rattle.calls.specs.declared.Answer.the-variants.{Accepted}
 use Rattle.calls.specs.declared.Counts.{Counts}
 use Rattle.calls.specs.Answers.{numbers}
 use Rattle.calls.specs.Message.{messageSound, messageAnswer}
-use Rattle.runs.specs.Runs.{struck, logStanding}
-use Rattle.runs.specs.Cases.{says, CANCEL, UNKNOWN, PASSED, plan, message, statuses}
-use Rattle.board.specs.Cases.{late, shownFor}
+use Rattle.board.specs.declared.Listing.the-variants.{Listed}
+use Rattle.board.specs.Rules.{boardWith}
+use Rattle.runs.specs.Runs.{Reply}
+use Rattle.cases.specs.Day.{says, sent, withdrawn, board, statuses, orders, replyAfter}
 
 -- P1: 31:59:59 is 115,199; 32:00:00 is refused
 abbrev pub P1 : Type 0
@@ -44,25 +42,35 @@ P4 = (decode (bytes "a\\pb\\i") ≡ bytes "a|b\\") × (fault (bytes "\\G\\x" ++ 
 abbrev pub P5 : Type 0
 P5 = (statusAfter 4 3 ≡ 4) × (statusAfter 5 4 ≡ 4)
 
--- P6: plan, message 1 CANCEL, message 2 UNKNOWN: CANCEL; with 1 withdrawn: UNKNOWN
+-- P6: plan, message 1 CANCEL, 1, message 2 UNKNOWN, 2: CANCEL; with 1 withdrawn: UNKNOWN
 abbrev pub P6 : Type 0
 P6 =
-    (statuses plan (message 1 (says 1 CANCEL) ∷ message 2 (says 1 UNKNOWN) ∷ []) ≡ CANCEL ∷ [])
-    × (statuses plan (map (struck 1) (message 1 (says 1 CANCEL) ∷ message 2 (says 1 UNKNOWN) ∷ [])) ≡ UNKNOWN ∷ [])
+    (statuses (sent (says "1" "CANCEL" ∷ []) ∷ sent (says "1" "UNKNOWN" ∷ []) ∷ []) ≡ 1 ∷ [])
+    × (statuses (sent (says "1" "CANCEL" ∷ []) ∷ sent (says "1" "UNKNOWN" ∷ []) ∷ withdrawn 1 ∷ []) ≡ 2 ∷ [])
 
--- P7: PASSED then CANCEL: PASSED; first withdrawn: CANCEL
+-- P7: PASSED, 5, then CANCEL: PASSED; first withdrawn: CANCEL
 abbrev pub P7 : Type 0
 P7 =
-    (statuses plan (message 1 (says 1 PASSED) ∷ message 2 (says 1 CANCEL) ∷ []) ≡ PASSED ∷ [])
-    × (statuses plan (map (struck 1) (message 1 (says 1 PASSED) ∷ message 2 (says 1 CANCEL) ∷ [])) ≡ CANCEL ∷ [])
+    (statuses (sent (says "1" "PASSED" ∷ []) ∷ sent (says "1" "CANCEL" ∷ []) ∷ []) ≡ 5 ∷ [])
+    × (statuses (sent (says "1" "PASSED" ∷ []) ∷ sent (says "1" "CANCEL" ∷ []) ∷ withdrawn 1 ∷ []) ≡ 1 ∷ [])
 
--- P8: a departure at now + horizon is shown, a second later not: 24:10:00 at 23:50:00, for 1,200 seconds and for 1,199
+-- P8: a departure at now + horizon is shown, a second later not: 24:10:00 at 23:50:00, for 1,200 seconds and for 1,199; the other places stay
 abbrev pub P8 : Type 0
-P8 = (shownFor 1200 late ≡ true) × (shownFor 1199 late ≡ false)
+P8 =
+    (replyAfter [] (board 1200) ≡ Reply.showed (boardWith (Listed 1 1) (0 ∷ 9 ∷ 9 ∷ [])))
+    × (replyAfter [] (board 1199) ≡ Reply.showed (boardWith (Listed 0 0) (9 ∷ 9 ∷ 9 ∷ [])))
 
--- P9: two order numbers at one stop are two passages
+-- P9: two order numbers at one stop are two passages: what is said of the second changes the first in nothing
 abbrev pub P9 : Type 0
-P9 = map orderOf (takenAll rowRule (logStanding (message 1 (says 2 PASSED) ∷ [])) (planRows plan)) ≡ 1 ∷ 2 ∷ []
+P9 = (orders (sent (says "2" "PASSED" ∷ []) ∷ []) ≡ 1 ∷ 2 ∷ []) × (statuses (sent (says "2" "PASSED" ∷ []) ∷ []) ≡ 0 ∷ 5 ∷ [])
+
+-- a dossier of two rows is one message: both are taken under one number, and both leave with it
+abbrev pub TwoRows : Type 0
+TwoRows =
+    (replyAfter [] (sent (says "1" "CANCEL" ∷ says "2" "DRIVING" ∷ [])) ≡ Reply.answered (Accepted 1))
+    × (statuses (sent (says "1" "CANCEL" ∷ says "2" "DRIVING" ∷ []) ∷ []) ≡ 1 ∷ 3 ∷ [])
+    × (replyAfter (sent (says "1" "CANCEL" ∷ says "2" "DRIVING" ∷ []) ∷ []) (withdrawn 1) ≡ Reply.answered (Accepted 0))
+    × (statuses (sent (says "1" "CANCEL" ∷ says "2" "DRIVING" ∷ []) ∷ withdrawn 1 ∷ []) ≡ 0 ∷ [])
 
 -- what a message of these bytes gets, whoever sends it, where all that it is lent is sound
 abbrev pub Gets : List ℕ → ℕ × ℕ × ℕ × ℕ → Type 0
@@ -77,4 +85,4 @@ abbrev pub P11 : Type 0
 P11 = Gets (bytes "\\G" ++ 13 ∷ 10 ∷ []) (0, 0, 0, 0)
 
 abbrev pub All : Type 0
-All = P1 × P2 × P3 × P4 × P5 × P6 × P7 × P8 × P9 × P10 × P11
+All = P1 × P2 × P3 × P4 × P5 × P6 × P7 × P8 × P9 × TwoRows × P10 × P11

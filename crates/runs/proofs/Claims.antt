@@ -9,15 +9,20 @@ use lib.ListN.{length, getD}
 use Rattle.lists.specs.Logic.{on}
 use Rattle.keys.specs.Replay.{takenAll}
 use Rattle.update.specs.Rule.{rowRule}
+use Rattle.table.specs.Rules.{tableSound}
 use Rattle.book.specs.Rules.{planRows}
-use Rattle.calls.specs.Answers.{isAccepted}
 use Rattle.calls.specs.Message.{takenBy, messageLeaves}
 use Rattle.calls.specs.Withdraw.{withoutBy, withdrawLeaves}
 use Rattle.calls.specs.Open.{openedBy, openLeaves}
 use Rattle.calls.specs.Leaves.{Day}
-use Rattle.runs.specs.Runs.{Call, answerOf, after, opened, Taken, noted, Begun, begunBy, begunIf, dayAfter, logAfter, begunAfter, unnumbered, logStanding}
-use Rattle.runs.specs.Claims.{AfterRuns, Sound, CallsKeepSound, TableIsReplay, AsIfNever, SameStandingSameRows, AsIfNeverInRuns, NumberedInOrder, RefusedChangesNothing, All}
-use Rattle.runs.proofs.LogLaws.{NotedFrom, standing-behind}
+use Rattle.runs.specs.Runs.{Call, Reply, replyTo, isListed, isDone, after, opened, Taken, Deed, deedOf, noted, Begun, begunBy, begunIf, dayAfter, logAfter, begunAfter}
+use Rattle.runs.specs.Claims.{AfterRuns, Sound, CallsKeepSound, TableIsReplay, rowsIn, SameStandingSameRows, AsIfNever, SameRowsSameBoards, NumberedInOrder, RefusedChangesNothing, BoardsChangeNothing, All}
+use Rattle.board.specs.declared.Listing.the-variants.{OutOfRange, Unsound}
+use Rattle.board.specs.Rules.{listed, boardOf, boardWith, fitted, boardLeaves}
+use Rattle.board_show.specs.Ask.{Question, asksInRange}
+use Rattle.board_show.specs.Show.{shows}
+use Rattle.runs.proofs.LogLaws.{NotedFrom}
+use Rattle.runs.proofs.NeverLaws.{same-standing}
 use Rattle.runs.proofs.FollowLaws.{Follows}
 use Rattle.runs.proofs.MessageLaws.{message-follows, next-is}
 use Rattle.runs.proofs.WithdrawLaws.{withdraw-follows}
@@ -26,34 +31,23 @@ use Rattle.runs.proofs.SoundLaws.{accepted-sound}
 
 -- ---- a refused call
 
-open-refused : (planning calendar : List ℕ) (x : Day) → isAccepted (answerOf (Call.reopen planning calendar) x) ≡ false → after (Call.reopen planning calendar) x ≡ x
+open-refused : (planning calendar : List ℕ) (x : Day) → isDone (replyTo (Call.reopen planning calendar) x) ≡ false → after (Call.reopen planning calendar) x ≡ x
 unfolding openLeaves openedBy
 open-refused planning calendar x e = rw e
 
-message-refused : (d : List ℕ) (sender : ℕ) (register : List ℕ) (x : Day) → isAccepted (answerOf (Call.message d sender register) x) ≡ false → after (Call.message d sender register) x ≡ x
+message-refused : (d : List ℕ) (sender : ℕ) (register : List ℕ) (x : Day) → isDone (replyTo (Call.message d sender register) x) ≡ false → after (Call.message d sender register) x ≡ x
 unfolding messageLeaves takenBy
 message-refused d sender register x e = rw e
 
-withdraw-refused : (n sender : ℕ) (x : Day) → isAccepted (answerOf (Call.withdraw n sender) x) ≡ false → after (Call.withdraw n sender) x ≡ x
+withdraw-refused : (n sender : ℕ) (x : Day) → isDone (replyTo (Call.withdraw n sender) x) ≡ false → after (Call.withdraw n sender) x ≡ x
 unfolding withdrawLeaves withoutBy
 withdraw-refused n sender x e = rw e
 
 refused : RefusedChangesNothing
-refused (Call.reopen planning calendar) x log e = (open-refused planning calendar x e, rw e)
-refused (Call.message d sender register) x log e = (message-refused d sender register x e, rw e)
-refused (Call.withdraw n sender) x log e = (withdraw-refused n sender x e, rw e)
-refused Call.look x log e = absurd (let z : _≡_ {A = ℕ} 0 1 = cc in omega arith)
-
--- ---- a withdrawn message
-
-withdrawn-none : (m : Taken) (log : List Taken) → m .stands ≡ false → logStanding (m ∷ log) ≡ logStanding log
-unfolding logStanding
-withdrawn-none m log e = rw e
-
-as-if-never : AsIfNever
-as-if-never plan earlier later m e =
-    ap (λ (us : List (List ℕ)). takenAll rowRule us (planRows plan))
-    (standing-behind earlier (m ∷ later) ∙ ap (λ (us : List (List ℕ)). logStanding earlier ++ us) (withdrawn-none m later e) ∙ sym (standing-behind earlier later))
+refused (Call.reopen planning calendar) x e = (open-refused planning calendar x e, rw e)
+refused (Call.message d sender register) x e = (message-refused d sender register x e, rw e)
+refused (Call.withdraw n sender) x e = (withdraw-refused n sender x e, rw e)
+refused (Call.look question places) x e = (refl, rw e)
 
 -- ---- runs
 
@@ -61,26 +55,26 @@ as-if-never plan earlier later m e =
 abbrev FollowsFrom : Begun → Day → List Taken → Type 0
 FollowsFrom begun x log = Follows (begun .plan) (begun .lent) x log
 
-accepted-follows : (call : Call) (x : Day) (begun : Begun) (log : List Taken) → FollowsFrom begun x log → isAccepted (answerOf call x) ≡ true
-    → FollowsFrom (begunIf true call x begun) (after call x) (noted call (answerOf call x) log)
+accepted-follows : (call : Call) (x : Day) (begun : Begun) (log : List Taken) → FollowsFrom begun x log → isDone (replyTo call x) ≡ true
+    → FollowsFrom (begunIf true call x begun) (after call x) (noted (deedOf call (replyTo call x)) log)
 accepted-follows (Call.reopen planning calendar) x begun log f e = rw e (open-follows planning calendar (x .book) (x .table) (x .counts) e)
 accepted-follows (Call.message d sender register) x begun log f e = message-follows d sender register x e (begun .plan) (begun .lent) log f
 accepted-follows (Call.withdraw n sender) x begun log f e = withdraw-follows n sender x e (begun .plan) (begun .lent) log f
-accepted-follows Call.look x begun log f e = f
+accepted-follows (Call.look question places) x begun log f e = rw e f
 
 call-follows : (call : Call) (x : Day) (begun : Begun) (log : List Taken) → FollowsFrom begun x log
-    → FollowsFrom (begunIf (isAccepted (answerOf call x)) call x begun) (after call x) (noted call (answerOf call x) log)
-call-follows call x begun log f = go (isAccepted (answerOf call x)) refl
+    → FollowsFrom (begunIf (isDone (replyTo call x)) call x begun) (after call x) (noted (deedOf call (replyTo call x)) log)
+call-follows call x begun log f = go (isDone (replyTo call x)) refl
   where
-    go : (t : Bool) → isAccepted (answerOf call x) ≡ t → FollowsFrom (begunIf t call x begun) (after call x) (noted call (answerOf call x) log)
+    go : (t : Bool) → isDone (replyTo call x) ≡ t → FollowsFrom (begunIf t call x begun) (after call x) (noted (deedOf call (replyTo call x)) log)
     go true e = accepted-follows call x begun log f e
-    go false e = let r = refused call x log e in subst₂ (Follows (begun .plan) (begun .lent)) (sym (r .0)) (sym (r .1)) f
+    go false e = let r = refused call x e in subst₂ (Follows (begun .plan) (begun .lent)) (sym (r .0)) (sym (ap (λ (d : Deed). noted d log) (r .1))) f
 
 run-follows : (calls : List Call) (x : Day) (begun : Begun) (log : List Taken) → FollowsFrom begun x log → FollowsFrom (begunAfter calls x begun) (dayAfter calls x) (logAfter calls x log)
 unfolding dayAfter logAfter begunAfter
 run-follows [] x begun log f = f
 run-follows (call ∷ calls) x begun log f =
-    run-follows calls (after call x) (begunIf (isAccepted (answerOf call x)) call x begun) (noted call (answerOf call x) log) (call-follows call x begun log f)
+    run-follows calls (after call x) (begunIf (isDone (replyTo call x)) call x begun) (noted (deedOf call (replyTo call x)) log) (call-follows call x begun log f)
 
 follows : AfterRuns Follows
 follows planning calendar book table c calls e =
@@ -95,25 +89,39 @@ same-rows planning calendar book table planning′ calendar′ book′ table′ 
     ∙ ap₂ (λ (us plan : List (List ℕ)). takenAll rowRule us (planRows plan)) h p
     ∙ sym (table-replay planning′ calendar′ book′ table′ c′ calls′ e′)
 
--- the standing rows do not hang on numbers
-standing-unnumbered : (log : List Taken) → logStanding (map unnumbered log) ≡ logStanding log
-unfolding logStanding
-standing-unnumbered [] = refl
-standing-unnumbered (m ∷ log) = ap (λ (us : List (List ℕ)). on (m .stands) (m .bodies) [] ++ us) (standing-unnumbered log)
+as-if-never : AsIfNever
+as-if-never planning calendar book table planning′ calendar′ book′ table′ c c′ calls calls′ a a′ n p h e =
+    same-rows planning calendar book table planning′ calendar′ book′ table′ c c′ calls calls′ a a′ p
+    (same-standing n calls calls′ (opened planning calendar book table c) (opened planning′ calendar′ book′ table′ c′) h e)
 
-standing-never : (log log′ earlier later : List Taken) (m : Taken) → log ≡ earlier ++ m ∷ later → m .stands ≡ false → map unnumbered log′ ≡ map unnumbered (earlier ++ later) → logStanding log ≡ logStanding log′
-standing-never log log′ earlier later m h e u =
-    ap logStanding h
-    ∙ standing-behind earlier (m ∷ later)
-    ∙ ap (λ (us : List (List ℕ)). logStanding earlier ++ us) (withdrawn-none m later e)
-    ∙ sym (standing-behind earlier later)
-    ∙ sym (standing-unnumbered (earlier ++ later))
-    ∙ sym (ap logStanding u)
-    ∙ standing-unnumbered log′
+-- ---- boards
 
-never-in-runs : AsIfNeverInRuns
-never-in-runs planning calendar book table planning′ calendar′ book′ table′ c c′ calls calls′ a a′ earlier later m p h e u =
-    same-rows planning calendar book table planning′ calendar′ book′ table′ c c′ calls calls′ a a′ p (standing-never _ _ earlier later m h e u)
+-- a board of a sound day is one of its rows
+board-of-rows : (question : Question) (places : List ℕ) (x : Day) → tableSound (x .counts .rows) (x .table) ≡ true
+    → boardLeaves question (x .table) (x .counts .rows) places
+    ≡ on (asksInRange question) (fitted (listed (shows question) (rowsIn x)) places) (boardWith OutOfRange places)
+unfolding boardLeaves boardOf
+board-of-rows question places x e = rw e
+
+same-boards : SameRowsSameBoards
+same-boards planning calendar book table planning′ calendar′ book′ table′ c c′ calls calls′ a a′ question places h =
+    ap Reply.showed
+    (board-of-rows question places (dayAfter calls (opened planning calendar book table c)) (follows planning calendar book table c calls a .table-sound)
+    ∙ ap (λ (rs : List (List ℕ)). on (asksInRange question) (fitted (listed (shows question) rs) places) (boardWith OutOfRange places)) h
+    ∙ sym (board-of-rows question places (dayAfter calls′ (opened planning′ calendar′ book′ table′ c′)) (follows planning′ calendar′ book′ table′ c′ calls′ a′ .table-sound)))
+
+boards-nothing : BoardsChangeNothing
+unfolding boardLeaves
+boards-nothing question places x = (refl, refl, kept (tableSound (x .counts .rows) (x .table)) (asksInRange question))
+  where
+    kept : (s t : Bool)
+        → let board = on s (on t (fitted (boardOf question (x .table) (x .counts .rows)) places) (boardWith OutOfRange places)) (boardWith Unsound places) in
+        isListed (board .answer) ≡ false → board .places ≡ places
+    kept true true e = absurd (let z : _≡_ {A = ℕ} 0 1 = cc in omega arith)
+    kept true false e = refl
+    kept false t e = refl
+
+-- ---- numbers
 
 in-order : (n : ℕ) (log : List Taken) → NotedFrom n log → (k : ℕ) (none : Taken) → k < length log → getD log k none .number ≡ suc (n + k)
 in-order n [] h k none l = absurd (omega arith)
@@ -125,11 +133,11 @@ numbered-in-order planning calendar book table c calls e k none l =
     in-order 0 (logAfter calls (opened planning calendar book table c) []) (follows planning calendar book table c calls e .numbered) k none l ∙ ap suc (zero-add k)
 
 calls-keep-sound : CallsKeepSound
-calls-keep-sound call x s = go (isAccepted (answerOf call x)) refl
+calls-keep-sound call x s = go (isDone (replyTo call x)) refl
   where
-    go : (t : Bool) → isAccepted (answerOf call x) ≡ t → Sound (after call x)
+    go : (t : Bool) → isDone (replyTo call x) ≡ t → Sound (after call x)
     go true e = accepted-sound call x s e
-    go false e = subst Sound (sym (refused call x [] e .0)) s
+    go false e = subst Sound (sym (refused call x e .0)) s
 
 pub claims : All
 claims = (
@@ -137,10 +145,11 @@ claims = (
   λ planning calendar book table c calls e. let f = follows planning calendar book table c calls e in (f .book-sound, f .table-sound),
   calls-keep-sound,
   table-replay,
-  as-if-never,
   same-rows,
-  never-in-runs,
+  as-if-never,
+  same-boards,
   numbered-in-order,
   λ planning calendar book table c calls e. next-is _ _ _ _ (follows planning calendar book table c calls e),
   refused,
+  boards-nothing,
 )

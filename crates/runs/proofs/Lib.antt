@@ -1,5 +1,6 @@
 pub mod EntryLaws
 pub mod LogLaws
+pub mod NeverLaws
 pub mod RowsLaws
 pub mod FollowLaws
 pub mod MessageLaws

@@ -36,7 +36,7 @@ use Rattle.calls.specs.Message.{messageRows, numberFor, rowsTaken, messageAnswe
 use Rattle.calls.proofs.AcceptedLaws.{Passed, passed, passes}
 use Rattle.calls.proofs.TakenLaws.{IsBody, message-wide}
 use Rattle.calls.specs.Leaves.{Day}
-use Rattle.runs.specs.Runs.{Call, after, Taken, noted, logEntries, logStanding}
+use Rattle.runs.specs.Runs.{Call, replyTo, after, Taken, Deed, deedOf, noted, logEntries, logStanding}
 use Rattle.runs.proofs.LogLaws.{Update, NotedFrom, noted-append, log-more, standing-more, log-least, log-next, standing-updates}
 use Rattle.runs.proofs.RowsLaws.{replay}
 use Rattle.runs.proofs.FollowLaws.{Follows, length-plans, length-log, write-behind, stored-sound, stored-rows}
@@ -52,7 +52,7 @@ takes bodies sender x =
 
 -- the log once a message that got number n is noted
 abbrev notes : ℕ → ℕ → List (List ℕ) → List Taken → List Taken
-notes n sender bodies log = on (eqb n 0) log (log ++ record { number = n; sender = sender; bodies = bodies; stands = true } ∷ [])
+notes n sender bodies log = noted (on (eqb n 0) Deed.nothing (Deed.took n sender bodies)) log
 
 -- no rows change nothing
 pub takes-none : (sender : ℕ) (x : Day) → x ≡ takes [] sender x
@@ -154,11 +154,11 @@ module _ (d : List ℕ) (sender : ℕ) (register : List ℕ) (x : Day) where
     unfolding messageLeaves takenBy
     day-after = rw e
 
-    log-after : (log : List Taken) → notes (numberFor sent (x .counts .used) (x .book)) sender sent log ≡ noted call (messageAnswer d sender register (x .book) (x .table) (x .counts)) log
+    log-after : (log : List Taken) → notes (numberFor sent (x .counts .used) (x .book)) sender sent log ≡ noted (deedOf call (replyTo call x)) log
     log-after log = rw (passes d register (x .book) (x .table) sender (x .counts) went)
 
     pub message-follows : (plan : List (List ℕ)) (lent : List ℕ) (log : List Taken) → Follows plan lent x log
-        → Follows plan lent (after call x) (noted call (messageAnswer d sender register (x .book) (x .table) (x .counts)) log)
+        → Follows plan lent (after call x) (noted (deedOf call (replyTo call x)) log)
     message-follows plan lent log f = subst₂ (Follows plan lent) day-after (log-after log) (go sent refl)
       where
         go : (bodies : List (List ℕ)) → sent ≡ bodies → Follows plan lent (takes sent sender x) (notes (numberFor sent (x .counts .used) (x .book)) sender sent log)

@@ -25,12 +25,11 @@ use Rattle.book.proofs.SoundLaws.{sound-facts}
 use Rattle.book.proofs.SplitLaws.{wide-updates}
 use Rattle.book.proofs.StandingLaws.{standing-ranges, sound-plan-ranges}
 use Rattle.book.proofs.AfterLaws.{after-message}
-use Rattle.calls.specs.Answers.{isAccepted}
 use Rattle.calls.specs.Message.{bookTaking, tableTaking}
 use Rattle.calls.specs.Withdraw.{keysNamed, rowsWithout, bookWithout, tableWithout}
 use Rattle.calls.proofs.AcceptedLaws.{Passed, left}
 use Rattle.calls.specs.Leaves.{Day}
-use Rattle.runs.specs.Runs.{Call, answerOf, after}
+use Rattle.runs.specs.Runs.{Call, replyTo, isDone, after}
 use Rattle.runs.specs.Claims.{Sound}
 use Rattle.runs.proofs.LogLaws.{Update, each-so}
 use Rattle.runs.proofs.RowsLaws.{Row, plan-rows}
@@ -56,7 +55,7 @@ rows-stored n rs t r s h = sound-stored n rs t (each-so (λ x q. q .0) rs r) h (
 
 -- ---- message
 
-module _ (d : List ℕ) (sender : ℕ) (register : List ℕ) (x : Day) (s : Sound x) (e : isAccepted (answerOf (Call.message d sender register) x) ≡ true) where
+module _ (d : List ℕ) (sender : ℕ) (register : List ℕ) (x : Day) (s : Sound x) (e : isDone (replyTo (Call.message d sender register) x) ≡ true) where
   abbrev bodies : List (List ℕ)
   bodies = Message.sent d sender register x
 
@@ -87,7 +86,7 @@ module _ (d : List ℕ) (sender : ℕ) (register : List ℕ) (x : Day) (s : Soun
 
 -- ---- withdraw
 
-module _ (n sender : ℕ) (x : Day) (s : Sound x) (e : isAccepted (answerOf (Call.withdraw n sender) x) ≡ true) where
+module _ (n sender : ℕ) (x : Day) (s : Sound x) (e : isDone (replyTo (Call.withdraw n sender) x) ≡ true) where
   abbrev less : List (List ℕ)
   less = withdrawn n (updatesIn (x .counts .used) (x .book))
 
@@ -122,9 +121,9 @@ module _ (n sender : ℕ) (x : Day) (s : Sound x) (e : isAccepted (answerOf (Cal
             (left (x .book) (x .table) n sender (x .counts) e .in-table),
       )
 
-pub accepted-sound : (call : Call) (x : Day) → Sound x → isAccepted (answerOf call x) ≡ true → Sound (after call x)
+pub accepted-sound : (call : Call) (x : Day) → Sound x → isDone (replyTo call x) ≡ true → Sound (after call x)
 accepted-sound (Call.reopen planning calendar) x s e =
     let f = open-follows planning calendar (x .book) (x .table) (x .counts) e in (f .book-sound, f .table-sound)
 accepted-sound (Call.message d sender register) x s e = message-sound d sender register x s e
 accepted-sound (Call.withdraw n sender) x s e = withdraw-sound n sender x s e
-accepted-sound Call.look x s e = s
+accepted-sound (Call.look question places) x s e = s

@@ -13,7 +13,7 @@ use Rattle.calls.specs.Answers.{isAccepted}
 use Rattle.calls.specs.Withdraw.{rowsWithout, withdrawAnswer, bookWithout, tableWithout, withoutBy, withdrawLeaves}
 use Rattle.calls.proofs.AcceptedLaws.{left}
 use Rattle.calls.specs.Leaves.{Day}
-use Rattle.runs.specs.Runs.{Call, after, Taken, struck, noted, logEntries, logStanding}
+use Rattle.runs.specs.Runs.{Call, replyTo, after, Taken, struck, deedOf, noted, logEntries, logStanding}
 use Rattle.runs.proofs.LogLaws.{NotedFrom, log-struck, log-withdrawn, length-withdrawn, standing-updates}
 use Rattle.runs.proofs.RowsLaws.{replay, rows-struck}
 use Rattle.book.proofs.MarkLaws.{book-less}
@@ -39,7 +39,7 @@ module _ (n sender : ℕ) (x : Day) (e : isAccepted (withdrawAnswer n sender (x 
   unfolding withdrawLeaves withoutBy
   day-after = rw e
 
-  log-after : (log : List Taken) → map (struck n) log ≡ noted call (withdrawAnswer n sender (x .book) (x .table) (x .counts)) log
+  log-after : (log : List Taken) → map (struck n) log ≡ noted (deedOf call (replyTo call x)) log
   log-after log = rw e
 
   module _ (plan : List (List ℕ)) (lent : List ℕ) (log : List Taken) (f : Follows plan lent x log) where
@@ -84,5 +84,5 @@ module _ (n sender : ℕ) (x : Day) (e : isAccepted (withdrawAnswer n sender (x 
           rows-are = stored-rows plan (logStanding less) without (f .is-plan) us less-rows (x .counts .rows) (x .table) h;
         }
 
-    pub withdraw-follows : Follows plan lent (after call x) (noted call (withdrawAnswer n sender (x .book) (x .table) (x .counts)) log)
+    pub withdraw-follows : Follows plan lent (after call x) (noted (deedOf call (replyTo call x)) log)
     withdraw-follows = subst₂ (Follows plan lent) day-after (log-after log) less-follows

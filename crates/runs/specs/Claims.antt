@@ -2,8 +2,9 @@
 use Prim.Native.Nat.{ℕ, suc, _+_, _*_, _<_}
 use mathlib.Core.Path.{_≡_}
 use mathlib.Core.Bool.{true, false}
-use mathlib.Core.List.{List, [], _∷_, _++_, map}
+use mathlib.Core.List.{List, [], _++_, map}
 use lib.ListN.{length, getD}
+use Rattle.lists.specs.Each.{Each}
 use Rattle.lists.specs.Part.{over}
 use Rattle.lists.specs.Rows.{rowsOf, flat}
 use Rattle.passage.specs.Layout.{row-wide}
@@ -16,7 +17,9 @@ use Rattle.calls.specs.declared.Counts.{Counts}
 use Rattle.calls.specs.Answers.{isAccepted}
 use Rattle.calls.specs.Open.{openAnswer}
 use Rattle.calls.specs.Leaves.{Day}
-use Rattle.runs.specs.Runs.{Call, answerOf, after, opened, Taken, noted, begunBy, dayAfter, logAfter, begunAfter, unnumbered, logEntries, logStanding}
+use Rattle.board.specs.Rules.{boardLeaves}
+use Rattle.board_show.specs.Ask.{Question}
+use Rattle.runs.specs.Runs.{Call, Reply, replyTo, isListed, isDone, after, opened, Taken, Deed, deedOf, begunBy, dayAfter, logAfter, deedsAfter, begunAfter, logEntries, logStanding, never}
 
 -- P holds of the plan, the book that its open was lent, the day and the log after any run on a day that was opened; opens in the run too, refused
 -- or accepted
@@ -55,22 +58,30 @@ TableIsReplay =
     AfterRuns
     (λ plan book x log. rowsOf row-wide (x .counts .rows) (x .table) ≡ takenAll rowRule (logStanding log) (planRows plan))
 
--- (c) a withdrawn message, wherever it stands in the log, is as if it had never been accepted and every other call had been answered as it was
-abbrev pub AsIfNever : Type 0
-AsIfNever =
-    (plan : List (List ℕ)) (earlier later : List Taken) (m : Taken) → m .stands ≡ false
-    → takenAll rowRule (logStanding (earlier ++ m ∷ later)) (planRows plan) ≡ takenAll rowRule (logStanding (earlier ++ later)) (planRows plan)
+-- what is known after a run on a day that was opened: the plan, the day, the log, and what the calls did, each since the last open that was accepted
+pub record Run : Type 0 where
+  pub plan : List (List ℕ)
+  pub day : Day
+  pub log : List Taken
+  pub deeds : List Deed
 
--- P holds of the plan, the day and the log of any two runs, of whatever calls, each on a day that was opened
-abbrev pub OfTwoRuns : (List (List ℕ) → Day → List Taken → List (List ℕ) → Day → List Taken → Type 0) → Type 0
+abbrev pub runOf : List ℕ → List ℕ → List ℕ → List ℕ → Counts → List Call → Run
+runOf planning calendar book table c calls =
+    let x = opened planning calendar book table c in
+    record {
+      plan = begunAfter calls x (begunBy planning calendar book) .plan;
+      day = dayAfter calls x;
+      log = logAfter calls x [];
+      deeds = deedsAfter calls x [];
+    }
+
+-- P holds of any two runs, of whatever calls, each on a day that was opened
+abbrev pub OfTwoRuns : (Run → Run → Type 0) → Type 0
 OfTwoRuns P =
     (planning calendar book table planning′ calendar′ book′ table′ : List ℕ) (c c′ : Counts) (calls calls′ : List Call)
     → isAccepted (openAnswer planning calendar book table) ≡ true
     → isAccepted (openAnswer planning′ calendar′ book′ table′) ≡ true
-    → let x = opened planning calendar book table c in
-    let x′ = opened planning′ calendar′ book′ table′ c′ in
-    P (begunAfter calls x (begunBy planning calendar book) .plan) (dayAfter calls x) (logAfter calls x [])
-    (begunAfter calls′ x′ (begunBy planning′ calendar′ book′) .plan) (dayAfter calls′ x′) (logAfter calls′ x′ [])
+    → P (runOf planning calendar book table c calls) (runOf planning′ calendar′ book′ table′ c′ calls′)
 
 -- the rows of a day's table
 abbrev pub rowsIn : Day → List (List ℕ)
@@ -78,15 +89,26 @@ rowsIn x = rowsOf row-wide (x .counts .rows) (x .table)
 
 -- two runs with one plan whose logs have the same standing rows leave the same rows
 abbrev pub SameStandingSameRows : Type 0
-SameStandingSameRows = OfTwoRuns (λ plan x log plan′ x′ log′. plan ≡ plan′ → logStanding log ≡ logStanding log′ → rowsIn x ≡ rowsIn x′)
+SameStandingSameRows = OfTwoRuns (λ run run′. run .plan ≡ run′ .plan → logStanding (run .log) ≡ logStanding (run′ .log) → rowsIn (run .day) ≡ rowsIn (run′ .day))
 
--- so a run with a withdrawn message leaves the rows of one in which it was not accepted and every other message was noted, and stands, as here
-abbrev pub AsIfNeverInRuns : Type 0
-AsIfNeverInRuns =
+-- message n does not stand: it was withdrawn
+abbrev pub Gone : ℕ → List Taken → Type 0
+Gone n log = Each (λ (m : Taken). m .number ≡ n → m .stands ≡ false) log
+
+-- (c) a withdrawn message, wherever it stands in the log, is as if it had never been accepted and every other call had been answered as it was: a run with
+-- one plan and the same deeds but for that message leaves the same rows
+abbrev pub AsIfNever : Type 0
+AsIfNever =
     OfTwoRuns
-    (λ plan x log plan′ x′ log′.
-    (earlier later : List Taken) (m : Taken) → plan ≡ plan′ → log ≡ earlier ++ m ∷ later → m .stands ≡ false
-    → map unnumbered log′ ≡ map unnumbered (earlier ++ later) → rowsIn x ≡ rowsIn x′)
+    (λ run run′. (n : ℕ) → run .plan ≡ run′ .plan → Gone n (run .log) → run′ .deeds ≡ never n (run .deeds) → rowsIn (run .day) ≡ rowsIn (run′ .day))
+
+-- and where the rows are the same, every board is, its places with it
+abbrev pub SameRowsSameBoards : Type 0
+SameRowsSameBoards =
+    OfTwoRuns
+    (λ run run′.
+    (question : Question) (places : List ℕ) → rowsIn (run .day) ≡ rowsIn (run′ .day)
+    → replyTo (Call.look question places) (run .day) ≡ replyTo (Call.look question places) (run′ .day))
 
 -- message k of a log has number k, from 1
 abbrev pub NumberedInOrder : Type 0
@@ -98,10 +120,17 @@ NumbersNeverReturn = AfterRuns (λ plan book x log. nextNumber (updatesIn (x .co
 
 -- (d) a refused call changes nothing: no lent byte, no count, and nothing is noted of it
 abbrev pub RefusedChangesNothing : Type 0
-RefusedChangesNothing =
-    (call : Call) (x : Day) (log : List Taken) → isAccepted (answerOf call x) ≡ false
-    → (after call x ≡ x) × (noted call (answerOf call x) log ≡ log)
+RefusedChangesNothing = (call : Call) (x : Day) → isDone (replyTo call x) ≡ false → (after call x ≡ x) × (deedOf call (replyTo call x) ≡ Deed.nothing)
+
+-- nor does a board change the day, and a refused one leaves its places as they were
+abbrev pub BoardsChangeNothing : Type 0
+BoardsChangeNothing =
+    (question : Question) (places : List ℕ) (x : Day)
+    → let board = boardLeaves question (x .table) (x .counts .rows) places in
+    (after (Call.look question places) x ≡ x) × (replyTo (Call.look question places) x ≡ Reply.showed board) × (isListed (board .answer) ≡ false → board .places ≡ places)
 
 -- all of these
 abbrev pub All : Type 0
-All = BookIsPlanAndLog × StaysSound × CallsKeepSound × TableIsReplay × AsIfNever × SameStandingSameRows × AsIfNeverInRuns × NumberedInOrder × NumbersNeverReturn × RefusedChangesNothing
+All =
+    BookIsPlanAndLog × StaysSound × CallsKeepSound × TableIsReplay × SameStandingSameRows × AsIfNever × SameRowsSameBoards × NumberedInOrder × NumbersNeverReturn
+    × RefusedChangesNothing × BoardsChangeNothing

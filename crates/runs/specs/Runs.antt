@@ -1,33 +1,50 @@
 -- A day, calls on it one after another, and a log made of the calls and their answers alone. Assumes nothing.
-use Prim.Native.Nat.{ℕ}
+use Prim.Native.Nat.{ℕ, _-_}
 use mathlib.Core.Bool.{Bool, true, false}
 use mathlib.Core.List.{List, [], _∷_, _++_, map}
-use lib.Dec.{eqb}
+use lib.Dec.{eqb, ltb}
 use Rattle.lists.specs.Logic.{on}
 use Rattle.book.specs.Entries.{entriesOf}
 use Rattle.book.specs.Rules.{markedWithdrawn}
 use Rattle.calls.specs.declared.Answer.{Answer}
-use Rattle.calls.specs.declared.Answer.the-variants.{Accepted}
 use Rattle.calls.specs.declared.Counts.{Counts}
 use Rattle.calls.specs.Answers.{numbers, isAccepted}
 use Rattle.calls.specs.Leaves.{Day, dayOf, Leaves}
 use Rattle.calls.specs.Message.{messageRows, messageAnswer, messageLeaves}
 use Rattle.calls.specs.Withdraw.{withdrawAnswer, withdrawLeaves}
 use Rattle.calls.specs.Open.{planOf, openAnswer, openLeaves}
+use Rattle.board.specs.declared.Listing.{Listing}
+use Rattle.board.specs.declared.Listing.the-variants.{Listed, Unsound, OutOfRange}
+use Rattle.board.specs.Rules.{Board, boardLeaves}
+use Rattle.board_show.specs.Ask.{Question}
 
--- an open (planning, calendar), a message (dossier, sender, register), a withdrawal (message number, sender), or a call that is lent the table to
--- read alone, as a board is
+-- an open (planning, calendar), a message (dossier, sender, register), a withdrawal (message number, sender), or a board (a question, the places lent)
 pub data Call : Type 0 where
   reopen : List ℕ → List ℕ → Call
   message : List ℕ → ℕ → List ℕ → Call
   withdraw : ℕ → ℕ → Call
-  look : Call
+  look : Question → List ℕ → Call
 
-abbrev pub answerOf : Call → Day → Answer
-answerOf (reopen planning calendar) x = openAnswer planning calendar (x .book) (x .table)
-answerOf (message dossier sender register) x = messageAnswer dossier sender register (x .book) (x .table) (x .counts)
-answerOf (withdraw n sender) x = withdrawAnswer n sender (x .book) (x .table) (x .counts)
-answerOf look x = Accepted 0
+-- what a call replies: its answer; a board gives the places with it
+pub data Reply : Type 0 where
+  answered : Answer → Reply
+  showed : Board → Reply
+
+abbrev pub replyTo : Call → Day → Reply
+replyTo (reopen planning calendar) x = answered (openAnswer planning calendar (x .book) (x .table))
+replyTo (message dossier sender register) x = answered (messageAnswer dossier sender register (x .book) (x .table) (x .counts))
+replyTo (withdraw n sender) x = answered (withdrawAnswer n sender (x .book) (x .table) (x .counts))
+replyTo (look question places) x = showed (boardLeaves question (x .table) (x .counts .rows) places)
+
+abbrev pub isListed : Listing → Bool
+isListed (Listed written shown) = true
+isListed Unsound = false
+isListed OutOfRange = false
+
+-- the call was not refused
+abbrev pub isDone : Reply → Bool
+isDone (answered a) = isAccepted a
+isDone (showed board) = isListed (board .answer)
 
 -- the day that a call leaves to the next one
 abbrev pub dayLeft : Leaves → Day
@@ -42,7 +59,7 @@ abbrev pub after : Call → Day → Day
 after (reopen planning calendar) x = opened planning calendar (x .book) (x .table) (x .counts)
 after (message dossier sender register) x = dayLeft (messageLeaves dossier sender register (x .book) (x .table) (x .counts))
 after (withdraw n sender) x = dayLeft (withdrawLeaves n sender (x .book) (x .table) (x .counts))
-after look x = x
+after (look question places) x = x
 
 -- ---- the log
 
@@ -60,21 +77,42 @@ undone m = record { number = m .number; sender = m .sender; bodies = m .bodies; 
 abbrev pub struck : ℕ → Taken → Taken
 struck n m = on (eqb (m .number) n) (undone m) m
 
--- what is noted of a call and its answer: a message that got a number, a withdrawal that was accepted; an open that was accepted begins a new log
-abbrev pub notedIf : Bool → Call → ℕ → List Taken → List Taken
-notedIf false call n log = log
-notedIf true (reopen planning calendar) n log = []
-notedIf true (message dossier sender register) n log =
-    on (eqb n 0) log (log ++ record { number = n; sender = sender; bodies = messageRows dossier; stands = true } ∷ [])
-notedIf true (withdraw m sender) n log = map (struck m) log
-notedIf true look n log = log
+-- what a call did to a day: it took a message's rows (number, sender, rows), struck a message out, began the day anew, or nothing
+pub data Deed : Type 0 where
+  took : ℕ → ℕ → List (List ℕ) → Deed
+  struckOut : ℕ → Deed
+  began : Deed
+  nothing : Deed
 
--- the number that an acceptance gives
-abbrev pub numberGiven : Answer → ℕ
-numberGiven a = numbers a .1
+-- the number that a reply gives
+abbrev pub numberGiven : Reply → ℕ
+numberGiven (answered a) = numbers a .1
+numberGiven (showed board) = 0
 
-abbrev pub noted : Call → Answer → List Taken → List Taken
-noted call a log = notedIf (isAccepted a) call (numberGiven a) log
+-- by the call, whether it was done, and the number that it got: a message without rows gets 0
+abbrev pub deedIf : Bool → Call → ℕ → Deed
+deedIf false call n = nothing
+deedIf true (reopen planning calendar) n = began
+deedIf true (message dossier sender register) n = on (eqb n 0) nothing (took n sender (messageRows dossier))
+deedIf true (withdraw m sender) n = struckOut m
+deedIf true (look question places) n = nothing
+
+abbrev pub deedOf : Call → Reply → Deed
+deedOf call reply = deedIf (isDone reply) call (numberGiven reply)
+
+-- what is noted of a deed
+abbrev pub noted : Deed → List Taken → List Taken
+noted (took n sender rows) log = log ++ record { number = n; sender = sender; bodies = rows; stands = true } ∷ []
+noted (struckOut n) log = map (struck n) log
+noted began log = []
+noted nothing log = log
+
+-- the deeds since the day began, with one more
+abbrev pub andThen : List Deed → Deed → List Deed
+andThen deeds (took n sender rows) = deeds ++ took n sender rows ∷ []
+andThen deeds (struckOut n) = deeds ++ struckOut n ∷ []
+andThen deeds began = []
+andThen deeds nothing = deeds
 
 -- ---- what a day began with
 
@@ -91,7 +129,7 @@ begunIf false call x begun = begun
 begunIf true (reopen planning calendar) x begun = begunBy planning calendar (x .book)
 begunIf true (message dossier sender register) x begun = begun
 begunIf true (withdraw n sender) x begun = begun
-begunIf true look x begun = begun
+begunIf true (look question places) x begun = begun
 
 -- ---- runs
 
@@ -101,17 +139,17 @@ dayAfter (call ∷ calls) x = dayAfter calls (after call x)
 
 unfoldable pub logAfter : List Call → Day → List Taken → List Taken
 logAfter [] x log = log
-logAfter (call ∷ calls) x log = logAfter calls (after call x) (noted call (answerOf call x) log)
+logAfter (call ∷ calls) x log = logAfter calls (after call x) (noted (deedOf call (replyTo call x)) log)
+
+unfoldable pub deedsAfter : List Call → Day → List Deed → List Deed
+deedsAfter [] x deeds = deeds
+deedsAfter (call ∷ calls) x deeds = deedsAfter calls (after call x) (andThen deeds (deedOf call (replyTo call x)))
 
 unfoldable pub begunAfter : List Call → Day → Begun → Begun
 begunAfter [] x begun = begun
-begunAfter (call ∷ calls) x begun = begunAfter calls (after call x) (begunIf (isAccepted (answerOf call x)) call x begun)
+begunAfter (call ∷ calls) x begun = begunAfter calls (after call x) (begunIf (isDone (replyTo call x)) call x begun)
 
 -- ---- what a log says
-
--- a message but for its number
-abbrev pub unnumbered : Taken → Taken
-unnumbered m = record { number = 0; sender = m .sender; bodies = m .bodies; stands = m .stands }
 
 -- its entries, as the book has them: kind 2 where the message stands, else 3
 abbrev pub takenEntries : Taken → List (List ℕ)
@@ -125,3 +163,17 @@ logEntries (m ∷ log) = takenEntries m ++ logEntries log
 unfoldable pub logStanding : List Taken → List (List ℕ)
 logStanding [] = []
 logStanding (m ∷ log) = on (m .stands) (m .bodies) [] ++ logStanding log
+
+-- ---- a day on which there never was a message n
+
+-- later messages have one number less
+abbrev pub oneLess : ℕ → ℕ → ℕ
+oneLess n k = on (ltb n k) (k - 1) k
+
+-- the same deeds without message n: not taken, not struck out
+unfoldable pub never : ℕ → List Deed → List Deed
+never n [] = []
+never n (took k sender rows ∷ deeds) = on (eqb k n) (never n deeds) (took (oneLess n k) sender rows ∷ never n deeds)
+never n (struckOut k ∷ deeds) = on (eqb k n) (never n deeds) (struckOut (oneLess n k) ∷ never n deeds)
+never n (began ∷ deeds) = began ∷ never n deeds
+never n (nothing ∷ deeds) = nothing ∷ never n deeds

@@ -1,0 +1,76 @@
+-- The worked day of the cases: its dossiers line by line, its register, and the calls on it. Assumes nothing.
+use Prim.Native.Nat.{ℕ}
+use Prim.Native.String.{String}
+use mathlib.Core.List.{List, [], _∷_, _++_, map}
+use lib.ListN.{replicate}
+use Rattle.lists.specs.Text.{bytes}
+use Rattle.passage.specs.Layout.{orderOf, statusOf}
+use Rattle.board_show.specs.Ask.{asked}
+use Rattle.calls.specs.Leaves.{Day, countsOf}
+use Rattle.runs.specs.Runs.{Call, Reply, replyTo, opened, dayAfter}
+use Rattle.runs.specs.Claims.{rowsIn}
+
+-- ---- dossiers
+
+-- lines, each with its line end
+abbrev pub dossier : List (List ℕ) → List ℕ
+dossier [] = []
+dossier (line ∷ lines) = line ++ 13 ∷ 10 ∷ dossier lines
+
+-- line A031 of CXX, journey 1, calls at S1 at 24:10:00, as its first call there, on days of level L
+abbrev pub planning : List ℕ
+planning =
+    dossier
+    (bytes "\\GKV7planning" ∷ bytes "\\TLOCALSERVICEGROUPPASSTIME"
+    ∷ bytes "\\LDataOwnerCode|LocalServiceLevelCode|LinePlanningNumber|VehicleJourneyNumber|FortifyOrderNumber|UserStopCode|UserStopOrderNumber|DestinationCode|TargetArrivalTime|TargetDepartureTime|JourneyStopType"
+    ∷ bytes "CXX|L|A031|1|0|S1|1|CIOS|24:10:00|24:10:00|INTERMEDIATE"
+    ∷ [])
+
+-- 2016-03-01 is such a day
+abbrev pub calendar : List ℕ
+calendar = dossier (bytes "\\GKV7calendar" ∷ bytes "\\TLOCALSERVICEGROUPVALIDITY" ∷ bytes "\\LDataOwnerCode|LocalServiceLevelCode|OperationDate" ∷ bytes "CXX|L|2016-03-01" ∷ [])
+
+-- what a line of a message says of that journey's call at S1 with an order number
+abbrev pub says : String → String → List ℕ
+says order status =
+    bytes "CXX|2016-03-01|A031|1|0|S1|" ++ bytes order ++ bytes "|CIOS|2016-03-01T15:15:30+01:00|" ++ bytes status ++ bytes "|24:10:00|24:10:00|INTERMEDIATE"
+
+abbrev pub message : List (List ℕ) → List ℕ
+message lines =
+    dossier
+    (bytes "\\GKV8turbo" ∷ bytes "\\TDATEDPASSTIME"
+    ∷ bytes "\\LDataOwnerCode|OperationDate|LinePlanningNumber|VehicleJourneyNumber|FortifyOrderNumber|UserStopCode|UserStopOrderNumber|DestinationCode|LastUpdateTimeStamp|TripStopStatus|ExpectedArrivalTime|ExpectedDepartureTime|JourneyStopType"
+    ∷ lines)
+
+-- ---- the day
+
+-- sender 1 may send CXX
+abbrev pub register : List ℕ
+register = 1 ∷ bytes "CXX" ++ replicate 7 0
+
+-- room for a plan entry and three updates, and for three rows
+abbrev pub day : Day
+day = opened planning calendar (replicate 300 0) (replicate 210 0) (countsOf 0 0)
+
+-- a message of sender 1 with these lines
+abbrev pub sent : List (List ℕ) → Call
+sent lines = Call.message (message lines) 1 register
+
+-- withdrawn by its sender
+abbrev pub withdrawn : ℕ → Call
+withdrawn n = Call.withdraw n 1
+
+-- at S1 of CXX at 23:50:00 on 2016-03-01, for a number of seconds, with room for three
+abbrev pub board : ℕ → Call
+board horizon = Call.look (asked (bytes "CXX") (bytes "S1") 20160301 85800 horizon) (9 ∷ 9 ∷ 9 ∷ [])
+
+-- the status of each passage after these calls, and its order number
+abbrev pub statuses : List Call → List ℕ
+statuses calls = map statusOf (rowsIn (dayAfter calls day))
+
+abbrev pub orders : List Call → List ℕ
+orders calls = map orderOf (rowsIn (dayAfter calls day))
+
+-- what the last of these calls gets
+abbrev pub replyAfter : List Call → Call → Reply
+replyAfter calls call = replyTo call (dayAfter calls day)
