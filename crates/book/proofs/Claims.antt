@@ -1,8 +1,9 @@
 -- The claims of `specs/Claims.antt` hold. Assumes nothing.
-use Rattle.book.specs.Claims.{All, EntriesByField, MessagesNumbered}
+use native.Mathlib.Omega.{arith}
+use Rattle.book.specs.Claims.{All, RoomExactly, EntriesByField, MessagesNumbered}
 use Rattle.book.specs.Entries.{updatesIn}
 use Rattle.book.specs.Rules.{noEntry}
-use Rattle.book.proofs.SoundLaws.{sound-facts}
+use Rattle.book.proofs.SoundLaws.{sound-facts, room-within, room-least}
 use Rattle.book.proofs.SplitLaws.{split-whole, wide-updates}
 use Rattle.book.proofs.MessageLaws.{numbers-rise, numbers-within, numbers-like}
 use Rattle.book.proofs.FactLaws.{begins-at-1, sound-means, means-sound, plans-length, plan-place, updates-length, update-place}
@@ -11,6 +12,9 @@ use Rattle.book.proofs.StandingLaws.{standing-append, standing-withdraw
 use Rattle.book.proofs.WriteLaws.{length-entryOf, length-entriesOf}
 use Rattle.book.proofs.ChangeLaws.{entry-number, entry-sender, entry-body}
 use Rattle.book.proofs.EntryLaws.{entry-kind, entries-at, stands, of-message, of-others, message-append, others-append, withdrawn-length, withdrawn-at}
+
+room-exactly : RoomExactly
+room-exactly n b = (λ h. let r = room-within b in (omega (arith, r .1), omega (arith, r .0)), λ h. room-least b n (h .0) (h .1))
 
 messages-numbered : MessagesNumbered
 messages-numbered used b sound =
@@ -27,6 +31,7 @@ entries-by-field n s = (
 pub claims : All
 claims = (
   λ used b. (sound-means used b, means-sound used b),
+  room-exactly,
   λ used b f. (plans-length used b f, plan-place used b f, updates-length used b f, update-place used b f),
   split-whole,
   entries-by-field,

@@ -35,6 +35,14 @@ module _ (b : List ℕ) where
       go true e = (omega arith, leb-true _ _ e)
       go false e = let h : most-bytes < length b = leb-false _ _ e in (omega arith, omega arith)
 
+  pub room-least : (n : ℕ) → n ≤ most-bytes → n ≤ length b → n ≤ bookRoom b
+  unfolding bookRoom
+  room-least n h k = go (leb (length b) most-bytes)
+    where
+      go : (t : Bool) → n ≤ on t (length b) most-bytes
+      go true = k
+      go false = h
+
 -- ---- the split
 
 leading-most : (es : List (List ℕ)) → leading es ≤ length es

@@ -20,6 +20,10 @@ use Rattle.book.specs.inner.Steps.{firstEntryOf}
 abbrev pub SoundExactly : Type 0
 SoundExactly = (used : ℕ) (b : List ℕ) → (bookSound used b ≡ true) ↔ BookFacts used b
 
+-- there is room for n used bytes exactly where the lent book has them and they are not too many
+abbrev pub RoomExactly : Type 0
+RoomExactly = (n : ℕ) (b : List ℕ) → (n ≤ bookRoom b) ↔ ((n ≤ 294912) × (n ≤ length b))
+
 -- the entries of a sound book are what stands at their places, as many as the facts say
 abbrev pub EntriesByPlace : Type 0
 EntriesByPlace =
@@ -134,6 +138,7 @@ WithdrawnIsAbsent =
 abbrev pub All : Type 0
 All =
     SoundExactly
+    × RoomExactly
     × EntriesByPlace
     × SplitWhole
     × EntriesByField

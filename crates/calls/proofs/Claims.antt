@@ -7,6 +7,7 @@ use Rattle.calls.proofs.TakenLaws.{rows-change}
 use Rattle.calls.proofs.BytesLaws.{rows-are-lines, message-numbered, rows-to-book, freed-and-kept}
 use Rattle.calls.proofs.AgainLaws.{marks-entries, works-again}
 use Rattle.calls.proofs.OpenedLaws.{leaves-plan, plan-exactly, reads-lengths}
+use Rattle.calls.proofs.ApartLaws.{open-exactly}
 use Rattle.calls.proofs.NumbersLaws.{numbers-are-tables}
 
 pub claims : All
@@ -22,6 +23,7 @@ claims = (
   message-numbered,
   rows-to-book,
   freed-and-kept,
+  open-exactly,
   leaves-plan,
   plan-exactly,
   reads-lengths,

@@ -6,6 +6,7 @@ pub mod TakenLaws
 pub mod AgainLaws
 pub mod BytesLaws
 pub mod OpenedLaws
+pub mod ApartLaws
 pub mod NumbersLaws
 pub mod Claims
 pub mod Determined

@@ -20,7 +20,8 @@ use Rattle.reader.specs.Rules.{readingOf}
 use Rattle.reader.proofs.AnswerLaws.{accepted-rows}
 use Rattle.plan.specs.Rules.{joined}
 use Rattle.plan.specs.Claims.{Some, Passage}
-use Rattle.plan.proofs.Claims as Plan
+use Rattle.plan.proofs.ExactLaws.{joined-exactly}
+use Rattle.plan.proofs.Claims.{rows-joined}
 use Rattle.keys.specs.declared.Order.{Order}
 use Rattle.keys.specs.declared.Order.the-variants.{Less, Same, More}
 use Rattle.keys.specs.Keys.{cmp, byOrder}
@@ -71,7 +72,7 @@ unfolding putAll
 each-putAll P [] rs p h = h
 each-putAll P (q ∷ qs) rs p h = each-putAll P qs (put q rs) (p .1) (each-put P q rs (p .0) h)
 
-putAll-most : (qs rs : List (List ℕ)) → length (putAll qs rs) ≤ length qs + length rs
+pub putAll-most : (qs rs : List (List ℕ)) → length (putAll qs rs) ≤ length qs + length rs
 unfolding putAll
 putAll-most [] rs = omega arith
 putAll-most (q ∷ qs) rs = let a = putAll-most qs (put q rs) in let b = put-most q rs in omega arith
@@ -151,6 +152,15 @@ rows-are : (bs : List (List ℕ)) → planRows bs ≡ map (λ (b : List ℕ). b 
 unfolding planRows planRow
 rows-are bs = refl
 
+-- what joined of the rows that were staged, which are all rows
+pub joined-in-range : (planning calendar : List ℕ) → (n : ℕ) × (readingOf Tables.Planning [] 0 planning ≡ Rows n) → (n : ℕ) × (readingOf Tables.Calendar [] 0 calendar ≡ Rows n)
+    → Each Passage (passagesOf planning calendar)
+unfolding passagesOf
+joined-in-range planning calendar planned dated =
+    let p = accepted-rows Tables.Planning [] 0 planning (planned .0) (planned .1) in
+    let v = accepted-rows Tables.Calendar [] 0 calendar (dated .0) (dated .1) in
+    subst₂ (λ (ps vs : List (List ℕ)). Each Passage (joined ps vs)) p v (rows-joined planning calendar)
+
 module _ (planning calendar book table : List ℕ) (e : isAccepted (openAnswer planning calendar book table) ≡ true) where
   abbrev plan : List (List ℕ)
   plan = planOf planning calendar
@@ -158,13 +168,8 @@ module _ (planning calendar book table : List ℕ) (e : isAccepted (openAnswer p
   went : Opened planning calendar book table
   went = open-taken planning calendar book table e
 
-  -- what joined of the rows that were staged, which are all rows
   pub passages-in-range : Each Passage (passagesOf planning calendar)
-  unfolding passagesOf
-  passages-in-range =
-      let p = accepted-rows Tables.Planning [] 0 planning (went .planned .0) (went .planned .1) in
-      let v = accepted-rows Tables.Calendar [] 0 calendar (went .dated .0) (went .dated .1) in
-      subst₂ (λ (ps vs : List (List ℕ)). Each Passage (joined ps vs)) p v (Plan.claims .8 planning calendar)
+  passages-in-range = joined-in-range planning calendar (went .planned) (went .dated)
 
   plan-wide-bodies : Wide body-wide plan
   unfolding planOf
@@ -202,8 +207,8 @@ plan-exactly planning calendar book table e =
     let o = open-taken planning calendar book table e .once in (
       plan-sorted planning calendar book table e,
       λ b. (
-        λ s. Plan.claims .6 _ _ b .0 (⊎-elim (λ x. x) (λ x. absurd x) (putAll-from (λ (x : List ℕ). x ≡ b) (passagesOf planning calendar) [] s)),
-        λ s. putAll-keeps (λ (x : List ℕ). x ≡ b) (passagesOf planning calendar) [] (let l : length (putAll (passagesOf planning calendar) []) ≡ length (passagesOf planning calendar) = o in omega arith) (inl (Plan.claims .6 _ _ b .1 s)),
+        λ s. joined-exactly _ _ b .0 (⊎-elim (λ x. x) (λ x. absurd x) (putAll-from (λ (x : List ℕ). x ≡ b) (passagesOf planning calendar) [] s)),
+        λ s. putAll-keeps (λ (x : List ℕ). x ≡ b) (passagesOf planning calendar) [] (let l : length (putAll (passagesOf planning calendar) []) ≡ length (passagesOf planning calendar) = o in omega arith) (inl (joined-exactly _ _ b .1 s)),
       ),
     )
 

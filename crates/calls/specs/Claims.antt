@@ -17,9 +17,10 @@ use Rattle.register.specs.Register.{registerSound}
 use Rattle.grammar.specs.Grammar.{WellFormed}
 use Rattle.columns.specs.declared.Table.the-variants as Tables
 use Rattle.reader.specs.Items.{Item}
-use Rattle.reader.specs.Rules.{largest, formBad, wrongAt, ownerBad, dataRows, itemsOf}
+use Rattle.reader.specs.declared.Reading.the-variants.{Rows}
+use Rattle.reader.specs.Rules.{largest, formBad, wrongAt, ownerBad, dataRows, itemsOf, readingOf}
 use Rattle.plan.specs.Passes.{planBody}
-use Rattle.plan.specs.Rules.{matches}
+use Rattle.plan.specs.Rules.{matches, joined}
 use Rattle.plan.specs.Claims.{Some}
 use Rattle.keys.specs.Sorted.{sortedRows, get}
 use Rattle.keys.specs.Replay.{replayed}
@@ -153,6 +154,21 @@ TableFreedAndKept =
     → let left = withdrawLeaves number sender book table c in
     FreedAndKept (c .rows) (left .outcome .counts .rows) table (left .table))
 
+-- no two of these have one key
+abbrev pub Apart : List (List ℕ) → Type 0
+Apart [] = Unit {0}
+Apart (b ∷ bs) = Each (λ (c : List ℕ). keyOf b ≡ keyOf c → ⊥) bs × Apart bs
+
+-- an open is accepted exactly when both dossiers are read without a refusal, the book has room for an entry and the table for a row of each pass time
+-- joined with each validity of its owner and service level, and no two of these have one key
+abbrev pub OpenAcceptedExactly : Type 0
+OpenAcceptedExactly =
+    (planning calendar book table : List ℕ)
+    → let passages = joined (dataRows Tables.Planning (itemsOf Tables.Planning planning)) (dataRows Tables.Calendar (itemsOf Tables.Calendar calendar)) in
+    (isAccepted (openAnswer planning calendar book table) ≡ true)
+    ↔ (((n : ℕ) × (readingOf Tables.Planning [] 0 planning ≡ Rows n)) × ((n : ℕ) × (readingOf Tables.Calendar [] 0 calendar ≡ Rows n))
+    × (length passages * plan-wide ≤ bookRoom book) × Apart passages × (length passages ≤ tableRoom table))
+
 -- an accepted open writes the plan: from the start of the book an entry of kind 1 for each passage, from the start of the table a row with
 -- heard 0; the bytes behind them are as they were
 abbrev pub OpenLeavesPlan : Type 0
@@ -227,6 +243,7 @@ All =
     × MessageNumbered
     × RowsGoToBook
     × TableFreedAndKept
+    × OpenAcceptedExactly
     × OpenLeavesPlan
     × PlanExactly
     × OpenReadsLengths

@@ -37,6 +37,8 @@ claims = (
   λ register sender d. accepted-each Message register sender d (λ (r : List ℕ). updateInRange r ≡ true) (rows-in-range register sender (itemsOf Message d)),
   λ d. accepted-each Planning [] 0 d PassFacts (passes-in-range [] 0 (itemsOf Planning d)),
   λ d. accepted-each Calendar [] 0 d ValidityFacts (validities-in-range [] 0 (itemsOf Calendar d)),
+  λ register sender d.
+      (rows-in-range register sender (itemsOf Message d), passes-in-range register sender (itemsOf Planning d), validities-in-range register sender (itemsOf Calendar d)),
   area-length,
   staged-rows,
 )

@@ -29,7 +29,8 @@ use Rattle.rows.specs.inner.Reading.{readBy}
 use Rattle.reader.specs.Rules.{firstLine, firstColumn, answerTo, itemsOf}
 use Rattle.reader.specs.Staging.{rowsUpTo, laid}
 use Rattle.reader.specs.inner.Settled.{answeredBy}
-use Rattle.reader_step.specs.inner.Step.{moved, misformed, labelled, mistyped, disowned, oneRowMore, rowStep, dataStep, labelStep, stepAt, stepBy, stageBy, Fresh}
+use Rattle.reader_step.specs.inner.Step.{moved, misformed, labelled, mistyped, disowned, oneRowMore, rowStep, dataStep, labelStep, stepAt, stepBy, stageBy, lineStep, lineStaged, Fresh}
+use Rattle.reader_step.proofs.StepLaws.{line-goes}
 use Rattle.reader_step.proofs.WidthLaws.{width-some}
 use Rattle.reader.proofs.AllRowsLaws.{items-numbered, answer-counted}
 use Rattle.reader.proofs.FoldLaws.{first, clean, rowsFrom, settledFrom, Agrees, Goes, Reads, line-go}
@@ -155,8 +156,14 @@ module _ (t : Table) (register : List ℕ) (sender : ℕ) (d st₀ : List ℕ) w
   -- a line more: l is the first line of what is left, and rest′ what follows it
   module _ (s : State) (rest st : List ℕ) (now : Reading t register sender d st₀ s rest st) (some : 0 < length rest)
       (l rest′ : List ℕ) (line : l ≡ until 13 rest) (after-it : rest′ ≡ drop 1 (past 13 rest))
-      (n : State) (step : n ≡ stepBy t register sender s l) (st′ : List ℕ) (staged : st′ ≡ stageBy t register sender s l st)
+      (n : State) (line-step : n ≡ lineStep t register sender s l) (st′ : List ℕ) (line-staged : st′ ≡ lineStaged t register sender s l st)
       (reads : Reads t register sender l) (fronts : Fronts t l) where
+    step : n ≡ stepBy t register sender s l
+    step = line-step ∙ sym (line-goes t register sender s l st (now .form) .0)
+
+    staged : st′ ≡ stageBy t register sender s l st
+    staged = line-staged ∙ sym (line-goes t register sender s l st (now .form) .1)
+
     split : items t (now .place) (s .line) (lines rest) ≡ inFront (seen (markOf l) (s .line) l (now .place)) (comes t (now .place) (s .line) l rest′)
     split =
         ap (items t (now .place) (s .line)) (lines-cons rest some ∙ ap (λ (x : List ℕ). x ∷ lines (drop 1 (past 13 rest))) (sym line) ∙ ap (λ (x : List ℕ). l ∷ lines x) (sym after-it))

@@ -25,7 +25,7 @@ use Rattle.passage.specs.Ranges.{updateInRange}
 use Rattle.reader.specs.Items.{Item, head, row}
 use Rattle.reader.specs.Staged.{PassFacts, ValidityFacts}
 use Rattle.reader.specs.Rules.{largest, lineNumber, formBad, wrongAt, ownerBad, dataRows, itemsOf, readingOf}
-use Rattle.reader.specs.Staging.{stagedBy}
+use Rattle.reader.specs.Staging.{rowsUpTo, stagedBy}
 use Rattle.reader.specs.Numbers.{readingNumbers, readingTable}
 
 -- no number from 2 to 6 is given exactly when the dossier is within its size, well formed, every label line and field count is right,
@@ -214,6 +214,14 @@ PassesInRange = (d : List ℕ) (n : ℕ) → readingOf Planning [] 0 d ≡ Rows 
 abbrev pub ValiditiesInRange : Type 0
 ValiditiesInRange = (d : List ℕ) (n : ℕ) → readingOf Calendar [] 0 d ≡ Rows n → Each ValidityFacts (dataRows Calendar (itemsOf Calendar d))
 
+-- so is each row that is staged before a refusal 4 to 6
+abbrev pub StagedInRange : Type 0
+StagedInRange =
+    (register : List ℕ) (sender : ℕ) (d : List ℕ)
+    → Each (λ (r : List ℕ). updateInRange r ≡ true) (rowsUpTo Message register sender (itemsOf Message d))
+    × Each PassFacts (rowsUpTo Planning register sender (itemsOf Planning d))
+    × Each ValidityFacts (rowsUpTo Calendar register sender (itemsOf Calendar d))
+
 -- the staging area keeps its length
 abbrev pub AreaKeepsLength : Type 0
 AreaKeepsLength = (t : Table) (register : List ℕ) (sender : ℕ) (d staging : List ℕ) → length (stagedBy t register sender d staging) ≡ length staging
@@ -227,4 +235,4 @@ StagedRowsAreRows =
 abbrev pub All : Type 0
 All =
     ItemsExactly × ItemsInOrder × RowsSayLines × AcceptedExactly × TooLongExactly × SyntaxExactly × FormExactly × FieldExactly × OwnerExactly × NumbersByTable × RowsCounted × DeskSendsNothing × RowsBounded × PlanningBounded × CalendarBounded × UpdatesInRange × PassesInRange × ValiditiesInRange
-    × AreaKeepsLength × StagedRowsAreRows
+    × StagedInRange × AreaKeepsLength × StagedRowsAreRows

@@ -1,4 +1,5 @@
 pub mod WidthLaws
 pub mod RowStepLaws
 pub mod StepLaws
+pub mod Claims
 pub mod Determined

@@ -11,7 +11,7 @@ use Rattle.rows.specs.declared.Shape.{Shape}
 use Rattle.rows.specs.inner.Shape.{noShape, shapeOf}
 use Rattle.rows.specs.inner.Reading.{readBy}
 use Rattle.reader_step.specs.declared.State.{State}
-use Rattle.reader_step.specs.inner.Step.{moved, misformed, rowStep, dataStep, labelStep, placeNamed, stepBy, rowStaged, dataStaged, stageBy, Fresh}
+use Rattle.reader_step.specs.inner.Step.{moved, misformed, rowStep, dataStep, labelStep, placeNamed, stepBy, lineStep, rowStaged, dataStaged, stageBy, lineStaged, Fresh}
 
 -- Which case of a line's step holds. Assumes nothing.
 
@@ -54,6 +54,15 @@ module _ (t : Tables.Table) (register : List ℕ) (sender : ℕ) (s : State) (l 
   pub line-data-skipped : markOf l ≡ Data → (s .place ≡ 2 → ⊥) → (moved s (s .place) ≡ stepBy t register sender s l) × (st ≡ stageBy t register sender s l st)
   unfolding stepBy stageBy
   line-data-skipped m h = rw (m, ne-eqb (s .place) 2 h) (refl, refl)
+
+  -- ---- a line, whatever came before it
+  pub line-goes : s .form ≡ 0 → (stepBy t register sender s l ≡ lineStep t register sender s l) × (stageBy t register sender s l st ≡ lineStaged t register sender s l st)
+  unfolding lineStep lineStaged
+  line-goes h = rw (eq-eqb (s .form) 0 h) (refl, refl)
+
+  pub line-counted : (s .form ≡ 0 → ⊥) → (moved s (s .place) ≡ lineStep t register sender s l) × (st ≡ lineStaged t register sender s l st)
+  unfolding lineStep lineStaged
+  line-counted h = rw (ne-eqb (s .form) 0 h) (refl, refl)
 
 -- all that is kept before any line
 abbrev made : ℕ → ℕ → ℕ → ℕ → ℕ → ℕ → ℕ → Shape → State

@@ -9,8 +9,8 @@ ghost use lib.ListN.{length};
 ghost use Rattle.rows.specs.inner.Reading.{IsShape};
 ghost use Rattle.lists.specs.Text.{same};
 ghost use Rattle.columns.specs.Tables.{tableName};
-ghost use Rattle.reader_step.specs.inner.Step.{moved, misformed, labelled, mistyped, disowned, oneRowMore, rowStep, dataStep, labelStep, placeNamed, stepBy, Fresh};
-ghost use Rattle.reader_step.specs.inner.Step.{staged, rowStaged, dataStaged, stageBy};
+ghost use Rattle.reader_step.specs.inner.Step.{moved, misformed, labelled, mistyped, disowned, oneRowMore, rowStep, dataStep, labelStep, placeNamed, stepBy, lineStep, Fresh};
+ghost use Rattle.reader_step.specs.inner.Step.{staged, rowStaged, dataStaged, stageBy, lineStaged};
 
 // What is kept of the lines so far. `place`: 0 outside the table, 1 between its `\T` and `\L` lines, 2 under its labels.
 // `line` is the number of the line to come; `form`, `wrong` with `column`, and `owner` are the first lines at fault, 0 for none.
@@ -187,8 +187,8 @@ fn is_named(table: Table, name: &[u8]) -> bool
     }
 }
 
-// One line: what it changes in the state and in the staging area. It needs nothing of the lines before but the state.
-pub fn line_step(
+// A line by its mark, where no line before it was at fault in its form.
+fn line_by_mark(
     table: Table,
     state: State,
     line: &[u8],
@@ -221,6 +221,26 @@ pub fn line_step(
             moved_to(state, place)
         }
     }
+}
+
+// One line: what it changes in the state and in the staging area. It needs nothing of the lines before but the state. Behind a fault of form a line is
+// only counted: the first line at fault is kept, and no row is staged behind it.
+pub fn line_step(
+    table: Table,
+    state: State,
+    line: &[u8],
+    register: &[u8],
+    sender: u8,
+    staging: &mut [u8],
+) -> State
+    requires { ⌜ (state .line < 4294967296) × (state .rows < 4294967296) × (state .place ≡ 2 → IsShape table (state .shape)) ⌝ }
+    ensures state { λ n. ⌜ n ≡ lineStep table (now (register .entry)) sender state (now (line .entry)) ⌝ }
+    ensures area { λ _. ⌜ now (staging .exit) ≡ lineStaged table (now (register .entry)) sender state (now (line .entry)) (now (staging .entry)) ⌝ }
+{
+    if state.form != 0 {
+        return moved_to(state, state.place);
+    }
+    line_by_mark(table, state, line, register, sender, staging)
 }
 
 // Before any line.

@@ -3,6 +3,7 @@ use mathlib.Core.Path.{_≡_, refl, sym, _∙_}
 use mathlib.Core.Bool.{true}
 use mathlib.Core.List.{List, []}
 use Prim.Native.Nat.{ℕ, _+_, _<_, _-_}
+use native.Mathlib.Nat.{le-trans}
 use native.Mathlib.Omega.{arith}
 use lib.ListN.{length, getD}
 use Rattle.lists.proofs.EachLaws.{each-at, each-all}
@@ -21,8 +22,8 @@ use Rattle.keys.proofs.PutLaws.{lookup-within, found-key, get-at, get-put, get-
 use Rattle.keys.proofs.EqualLaws.{rows-equal}
 use Rattle.keys.proofs.CountLaws.{put-least, remove-most, length-remove-held, wide-put, wide-remove}
 use Rattle.table.specs.Rules.{rows, tableSound}
-use Rattle.table.specs.Claims.{Orderly, SoundMeansOrderly, FindExactly, EachRowIsGot, PutChangesOnlyItsKey, RemoveTakesOnlyItsKey, FreedIsZero, RestKept, All}
-use Rattle.table.proofs.SoundLaws.{range-each, each-range, room-least, sound-is, sound-most, sound-fits, sound-range, sound-sorted}
+use Rattle.table.specs.Claims.{Orderly, SoundMeansOrderly, RoomExactly, FindExactly, EachRowIsGot, PutChangesOnlyItsKey, RemoveTakesOnlyItsKey, FreedIsZero, RestKept, All}
+use Rattle.table.proofs.SoundLaws.{range-each, each-range, room-most, room-least, room-holds, sound-is, sound-most, sound-fits, sound-range, sound-sorted}
 
 -- ---- soundness
 
@@ -55,6 +56,9 @@ module _ (n : ℕ) (t : List ℕ) where
 
 sound-means-orderly : SoundMeansOrderly
 sound-means-orderly n t = (sound-orderly n t, orderly-sound n t)
+
+room-exactly : RoomExactly
+room-exactly n t = (λ h. (le-trans h (room-most t), room-holds n t h), λ h. room-least n t (h .0) (h .1))
 
 -- ---- where a key stands
 
@@ -104,4 +108,4 @@ rest-kept n t h =
     )
 
 pub claims : All
-claims = (sound-means-orderly, find-exactly, each-row-is-got, put-changes, remove-takes, rows-equal, freed-is-zero, rest-kept)
+claims = (sound-means-orderly, room-exactly, find-exactly, each-row-is-got, put-changes, remove-takes, rows-equal, freed-is-zero, rest-kept)

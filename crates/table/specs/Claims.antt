@@ -2,6 +2,7 @@
 use mathlib.Core.Path.{_≡_}
 use mathlib.Core.Bool.{true}
 use mathlib.Core.List.{List, []}
+use mathlib.Core.Logic.{_↔_}
 use Prim.Native.Nat.{ℕ, _+_, _*_, _≤_, _<_, _-_}
 use lib.ListN.{length, getD, drop, replicate}
 use Rattle.lists.specs.Part.{part}
@@ -13,7 +14,7 @@ use Rattle.keys.specs.declared.Order.the-variants.{Less}
 use Rattle.keys.specs.Keys.{cmp}
 use Rattle.keys.specs.declared.Found.the-variants.{At, Missing}
 use Rattle.keys.specs.Sorted.{sortedRows, lookup, get, put, remove}
-use Rattle.table.specs.Rules.{tableSound, rows}
+use Rattle.table.specs.Rules.{tableRoom, tableSound, rows}
 
 -- ---- soundness
 
@@ -28,6 +29,10 @@ Orderly n t =
 -- sound means this and nothing else
 abbrev pub SoundMeansOrderly : Type 0
 SoundMeansOrderly = (n : ℕ) (t : List ℕ) → (tableSound n t ≡ true → Orderly n t) × (Orderly n t → tableSound n t ≡ true)
+
+-- there is room for n rows exactly where the bytes hold them and they are not too many
+abbrev pub RoomExactly : Type 0
+RoomExactly = (n : ℕ) (t : List ℕ) → (n ≤ tableRoom t) ↔ ((n ≤ 2048) × (n * row-wide ≤ length t))
 
 -- ---- where a key stands
 
@@ -88,6 +93,7 @@ RestKept =
 abbrev pub All : Type 0
 All =
     SoundMeansOrderly
+    × RoomExactly
     × FindExactly
     × EachRowIsGot
     × PutChangesOnlyItsKey

@@ -75,6 +75,10 @@ stepAt t register sender s l Marks.Data = on (eqb (s .place) 2) (dataStep t regi
 unfoldable pub stepBy : Table → List ℕ → ℕ → State → List ℕ → State
 stepBy t register sender s l = stepAt t register sender s l (markOf l)
 
+-- the same, but that a line behind a fault of form is only counted: the first such line is kept
+unfoldable pub lineStep : Table → List ℕ → ℕ → State → List ℕ → State
+lineStep t register sender s l = on (eqb (s .form) 0) (stepBy t register sender s l) (moved s (s .place))
+
 -- ---- the staging area
 
 -- the row r goes behind the n rows so far, if it fits
@@ -97,6 +101,10 @@ stagedAt t register sender s l Marks.Data staging = on (eqb (s .place) 2) (dataS
 
 unfoldable pub stageBy : Table → List ℕ → ℕ → State → List ℕ → List ℕ → List ℕ
 stageBy t register sender s l staging = stagedAt t register sender s l (markOf l) staging
+
+-- and no row is staged behind a fault of form
+unfoldable pub lineStaged : Table → List ℕ → ℕ → State → List ℕ → List ℕ → List ℕ
+lineStaged t register sender s l staging = on (eqb (s .form) 0) (stageBy t register sender s l staging) staging
 
 -- a state before any line
 abbrev pub Fresh : State → Type 0
