@@ -43,12 +43,12 @@ fn echo(line: &[u8], more: &[u8]) {
 }
 
 // A line that is not done: which of its words is wrong, and why.
-fn bad(line: &[u8], k: usize, why: usize, h: Held) -> Held
-    ensures { λ r. ⌜ r ≡ missed h ⌝ }
+fn bad(line: &[u8], k: usize, why: usize, held: Held) -> Held
+    ensures { λ r. ⌜ r ≡ missed held ⌝ }
 {
-    boards_words::bad(h.line, script_text::word(line, k), why);
-    let mut n = h;
-    n.bad = std::num::wrapping_add_u32(h.bad, 1);
+    boards_words::bad(held.line, script_text::word(line, k), why);
+    let mut n = held;
+    n.bad = std::num::wrapping_add_u32(held.bad, 1);
     n
 }
 
@@ -67,14 +67,14 @@ fn answer(f: Four, zero: &[u8], c: Counts) {
 }
 
 // What a call answered; the counts are held.
-fn told(line: &[u8], o: Outcome, zero: &[u8], h: Held) -> Held
-    ensures { λ r. ⌜ r ≡ holding (o .counts) h ⌝ }
+fn told(line: &[u8], o: Outcome, zero: &[u8], held: Held) -> Held
+    ensures { λ r. ⌜ r ≡ holding (o .counts) held ⌝ }
 {
     let a = o.answer;
     let c = o.counts;
     echo(line, b": ");
     answer(calls::numbers(a), zero, c);
-    let mut n = h;
+    let mut n = held;
     n.counts = c;
     n
 }
@@ -91,13 +91,13 @@ fn open_on(
     calendar: &[u8],
     book: &mut [u8],
     table: &mut [u8],
-    h: Held,
+    held: Held,
 ) -> Held
-    ensures { λ r. ⌜ ((register : List ℕ) → state r register (now (book .exit)) (now (table .exit)) ≡ openedBy (now (planning .entry)) (now (calendar .entry)) (state h register (now (book .entry)) (now (table .entry)))) ⌝ }
+    ensures { λ r. ⌜ ((register : List ℕ) → state r register (now (book .exit)) (now (table .exit)) ≡ openedBy (now (planning .entry)) (now (calendar .entry)) (state held register (now (book .entry)) (now (table .entry)))) ⌝ }
 {
-    let c = h.counts;
+    let c = held.counts;
     let o = opening::open(planning, calendar, book, table, c);
-    told(line, o, b"accepted", h)
+    told(line, o, b"accepted", held)
 }
 
 fn open_from(
@@ -106,44 +106,44 @@ fn open_from(
     second: &mut [u8; 65537],
     book: &mut [u8],
     table: &mut [u8],
-    h: Held,
+    held: Held,
 ) -> Held
-    ensures { λ r. ⌜ ((register : List ℕ) → Opens (state h register (now (book .entry)) (now (table .entry))) (state r register (now (book .exit)) (now (table .exit)))) ⌝ }
+    ensures { λ r. ⌜ ((register : List ℕ) → Opens (state held register (now (book .entry)) (now (table .entry))) (state r register (now (book .exit)) (now (table .exit)))) ⌝ }
 {
     let Loaded::Bytes(n) = load(line, 1, first) else {
-        return bad(line, 1, boards_orders::UNREADABLE, h);
+        return bad(line, 1, boards_orders::UNREADABLE, held);
     };
     let Loaded::Bytes(k) = load(line, 2, second) else {
-        return bad(line, 2, boards_orders::UNREADABLE, h);
+        return bad(line, 2, boards_orders::UNREADABLE, held);
     };
     let planning = script_text::front(first, n);
     let calendar = script_text::front(second, k);
-    open_on(line, planning, calendar, book, table, h)
+    open_on(line, planning, calendar, book, table, held)
 }
 
 // A byte more than a dossier may have: so one that is too long reaches the call as one.
-fn open(line: &[u8], book: &mut [u8], table: &mut [u8], h: Held) -> Held
-    ensures { λ r. ⌜ ((register : List ℕ) → Opens (state h register (now (book .entry)) (now (table .entry))) (state r register (now (book .exit)) (now (table .exit)))) ⌝ }
+fn open(line: &[u8], book: &mut [u8], table: &mut [u8], held: Held) -> Held
+    ensures { λ r. ⌜ ((register : List ℕ) → Opens (state held register (now (book .entry)) (now (table .entry))) (state r register (now (book .exit)) (now (table .exit)))) ⌝ }
 {
     let mut first = [0u8; 65537];
     let mut second = [0u8; 65537];
-    open_from(line, &mut first, &mut second, book, table, h)
+    open_from(line, &mut first, &mut second, book, table, held)
 }
 
 // A pair behind those that the register has, where it is all zero still.
-fn enrol(line: &[u8], sender: u8, register: &mut [u8], h: Held) -> Held
-    ensures held { λ r. ⌜ r ≡ enrolledHeld h ⌝ }
-    ensures pairs { λ _. ⌜ now (register .exit) ≡ enrolledRegister sender (wordAt 2 (now (line .entry))) (h .register) (now (register .entry)) ⌝ }
+fn enrol(line: &[u8], sender: u8, register: &mut [u8], held: Held) -> Held
+    ensures state { λ r. ⌜ r ≡ enrolledHeld held ⌝ }
+    ensures pairs { λ _. ⌜ now (register .exit) ≡ enrolledRegister sender (wordAt 2 (now (line .entry))) (held .register) (now (register .entry)) ⌝ }
 {
-    let at = h.register;
+    let at = held.register;
     if 693 < at {
-        return bad(line, 2, boards_orders::FULL, h);
+        return bad(line, 2, boards_orders::FULL, held);
     }
     script_text::append(register, at, &[sender]);
     script_text::append(register, at + 1, script_text::word(line, 2));
     echo(line, b": pair ");
     boards_words::tell(b"% of 64\n", at / register::PAIR_WIDE + 1, 0);
-    let mut n = h;
+    let mut n = held;
     n.register = at + register::PAIR_WIDE;
     n
 }
@@ -156,14 +156,14 @@ fn send_on(
     register: &[u8],
     book: &mut [u8],
     table: &mut [u8],
-    h: Held,
+    held: Held,
 ) -> Held
-    ensures { λ r. ⌜ state r (now (register .entry)) (now (book .exit)) (now (table .exit)) ≡ sent (now (dossier .entry)) sender (state h (now (register .entry)) (now (book .entry)) (now (table .entry))) ⌝ }
+    ensures { λ r. ⌜ state r (now (register .entry)) (now (book .exit)) (now (table .exit)) ≡ sent (now (dossier .entry)) sender (state held (now (register .entry)) (now (book .entry)) (now (table .entry))) ⌝ }
 {
-    let c = h.counts;
-    let pairs = script_text::front(register, h.register);
+    let c = held.counts;
+    let pairs = script_text::front(register, held.register);
     let o = messages::message(dossier, sender, pairs, book, table, c);
-    told(line, o, b"accepted, no rows", h)
+    told(line, o, b"accepted, no rows", held)
 }
 
 fn send_from(
@@ -173,15 +173,15 @@ fn send_from(
     register: &[u8],
     book: &mut [u8],
     table: &mut [u8],
-    h: Held,
+    held: Held,
 ) -> Held
-    ensures { λ r. ⌜ Sends sender (state h (now (register .entry)) (now (book .entry)) (now (table .entry))) (state r (now (register .entry)) (now (book .exit)) (now (table .exit))) ⌝ }
+    ensures { λ r. ⌜ Sends sender (state held (now (register .entry)) (now (book .entry)) (now (table .entry))) (state r (now (register .entry)) (now (book .exit)) (now (table .exit))) ⌝ }
 {
     let Loaded::Bytes(n) = load(line, 2, paper) else {
-        return bad(line, 2, boards_orders::UNREADABLE, h);
+        return bad(line, 2, boards_orders::UNREADABLE, held);
     };
     let dossier = script_text::front(paper, n);
-    send_on(line, dossier, sender, register, book, table, h)
+    send_on(line, dossier, sender, register, book, table, held)
 }
 
 fn send(
@@ -190,12 +190,12 @@ fn send(
     register: &[u8],
     book: &mut [u8],
     table: &mut [u8],
-    h: Held,
+    held: Held,
 ) -> Held
-    ensures { λ r. ⌜ Sends sender (state h (now (register .entry)) (now (book .entry)) (now (table .entry))) (state r (now (register .entry)) (now (book .exit)) (now (table .exit))) ⌝ }
+    ensures { λ r. ⌜ Sends sender (state held (now (register .entry)) (now (book .entry)) (now (table .entry))) (state r (now (register .entry)) (now (book .exit)) (now (table .exit))) ⌝ }
 {
     let mut paper = [0u8; 65537];
-    send_from(line, sender, &mut paper, register, book, table, h)
+    send_from(line, sender, &mut paper, register, book, table, held)
 }
 
 fn withdraw(
@@ -204,13 +204,13 @@ fn withdraw(
     sender: u8,
     book: &mut [u8],
     table: &mut [u8],
-    h: Held,
+    held: Held,
 ) -> Held
-    ensures { λ r. ⌜ ((register : List ℕ) → state r register (now (book .exit)) (now (table .exit)) ≡ withdrawnBy number sender (state h register (now (book .entry)) (now (table .entry)))) ⌝ }
+    ensures { λ r. ⌜ ((register : List ℕ) → state r register (now (book .exit)) (now (table .exit)) ≡ withdrawnBy number sender (state held register (now (book .entry)) (now (table .entry)))) ⌝ }
 {
-    let c = h.counts;
+    let c = held.counts;
     let o = withdrawals::withdraw(number, sender, book, table, c);
-    told(line, o, b"accepted", h)
+    told(line, o, b"accepted", held)
 }
 
 // What is no date is out of range for a board, and so is what is no time.
@@ -246,40 +246,40 @@ fn show(line: &[u8], horizon: u32, most: usize, table: &[u8], rows: usize) {
     );
 }
 
-fn board(line: &[u8], horizon: u32, most: usize, table: &[u8], h: Held) -> Held
-    ensures { λ r. ⌜ r ≡ h ⌝ }
+fn board(line: &[u8], horizon: u32, most: usize, table: &[u8], held: Held) -> Held
+    ensures { λ r. ⌜ r ≡ held ⌝ }
 {
-    let c = h.counts;
+    let c = held.counts;
     show(line, horizon, most, table, c.rows);
-    h
+    held
 }
 
 fn perform(
     line: &[u8],
-    o: Order,
+    order: Order,
     register: &mut [u8],
     book: &mut [u8],
     table: &mut [u8],
-    h: Held,
+    held: Held,
 ) -> Held
-    ensures { λ r. ⌜ LineLeaves o (now (line .entry)) (state h (now (register .entry)) (now (book .entry)) (now (table .entry))) (state r (now (register .exit)) (now (book .exit)) (now (table .exit))) ⌝ }
+    ensures { λ r. ⌜ LineLeaves order (now (line .entry)) (state held (now (register .entry)) (now (book .entry)) (now (table .entry))) (state r (now (register .exit)) (now (book .exit)) (now (table .exit))) ⌝ }
 {
-    match o {
-        Order::Nothing => h,
-        Order::Open => open(line, book, table, h),
-        Order::Register(sender) => enrol(line, sender, register, h),
-        Order::Message(sender) => send(line, sender, register, book, table, h),
-        Order::Withdraw(number, sender) => withdraw(line, number, sender, book, table, h),
-        Order::Board(horizon, most) => board(line, horizon, most, table, h),
-        Order::Bad(k, why) => bad(line, k, why, h),
+    match order {
+        Order::Nothing => held,
+        Order::Open => open(line, book, table, held),
+        Order::Register(sender) => enrol(line, sender, register, held),
+        Order::Message(sender) => send(line, sender, register, book, table, held),
+        Order::Withdraw(number, sender) => withdraw(line, number, sender, book, table, held),
+        Order::Board(horizon, most) => board(line, horizon, most, table, held),
+        Order::Bad(k, why) => bad(line, k, why, held),
     }
 }
 
-pub fn line(line: &[u8], register: &mut [u8], book: &mut [u8], table: &mut [u8], h: Held) -> Held
-    ensures { λ r. ⌜ LineLeaves (orderIn (now (line .entry))) (now (line .entry)) (state (nextLine h) (now (register .entry)) (now (book .entry)) (now (table .entry))) (state r (now (register .exit)) (now (book .exit)) (now (table .exit))) ⌝ }
+pub fn line(line: &[u8], register: &mut [u8], book: &mut [u8], table: &mut [u8], held: Held) -> Held
+    ensures { λ r. ⌜ LineLeaves (orderIn (now (line .entry))) (now (line .entry)) (state (nextLine held) (now (register .entry)) (now (book .entry)) (now (table .entry))) (state r (now (register .exit)) (now (book .exit)) (now (table .exit))) ⌝ }
 {
-    let mut n = h;
-    n.line = std::num::wrapping_add_u32(h.line, 1);
+    let mut n = held;
+    n.line = std::num::wrapping_add_u32(held.line, 1);
     let o = boards_orders::read_order(line);
     perform(line, o, register, book, table, n)
 }

@@ -23,19 +23,19 @@ fn piece(words: &[u8], n: usize) {
 }
 
 // Words with a at the first mark % and b at the others.
-pub fn tell(words: &[u8], a: usize, b: usize) {
+pub fn tell(words: &[u8], first: usize, other: usize) {
     let mut rest = words;
-    let mut n = a;
+    let mut n = first;
     while 0 < rest.len() {
         piece(rest, n);
-        n = b;
+        n = other;
         let next = script_text::behind(rest, b'%');
         rest = next;
     }
 }
 
 // Refusal n, with its values a and b, of a dossier of an opening or not.
-pub fn refusal(n: usize, a: usize, b: usize, dossier: usize) {
+pub fn refusal(number: usize, value: usize, second: usize, dossier: usize) {
     let all = b"|\
         book, table or register not sound|\
         more than 65,536 bytes in the dossier|\
@@ -50,8 +50,8 @@ pub fn refusal(n: usize, a: usize, b: usize, dossier: usize) {
         message already withdrawn|\
         message of another sender|\
         owner, stop, date, time or horizon outside its range";
-    tell(b"refused, %: ", n, 0);
-    tell(turbo::field_of(all, n), a, b);
+    tell(b"refused, %: ", number, 0);
+    tell(turbo::field_of(all, number), value, second);
     say(turbo::field_of(b"| of the planning| of the calendar", dossier));
     say(b"; nothing changed\n");
 }
@@ -76,12 +76,12 @@ pub fn bad(line: u32, word: &[u8], why: usize) {
 }
 
 // A command and its two words, and what follows them.
-pub fn echo(command: &[u8], a: &[u8], b: &[u8], more: &[u8]) {
+pub fn echo(command: &[u8], first: &[u8], second: &[u8], more: &[u8]) {
     say(command);
     say(b" ");
-    say(a);
+    say(first);
     say(b" ");
-    say(b);
+    say(second);
     say(more);
 }
 

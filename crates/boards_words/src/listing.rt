@@ -106,7 +106,7 @@ fn cut(
     horizon: u32,
     most: usize,
     table: &[u8],
-    n: usize,
+    rows: usize,
     places: &mut [u32],
 ) {
     if places.len() < most {
@@ -119,7 +119,7 @@ fn cut(
         second,
         horizon,
         table,
-        n,
+        rows,
         &mut places[0..most],
     );
     listed(a, table, places);
@@ -134,7 +134,7 @@ pub fn print_board(
     horizon: u32,
     most: usize,
     table: &[u8],
-    n: usize,
+    rows: usize,
 ) {
     let mut places = [0u32; 2048];
     cut(
@@ -145,7 +145,7 @@ pub fn print_board(
         horizon,
         most,
         table,
-        n,
+        rows,
         &mut places,
     );
 }

@@ -87,14 +87,14 @@ const PLANNING_KINDS: u64 = 0xb98700403200;
 const CALENDAR_KINDS: u64 = 0x100;
 
 // The kind of column j.
-pub fn kind_of(table: Table, j: usize) -> Kind
-    requires { ⌜ j < wanted table ⌝ }
-    ensures { λ r. ⌜ r ≡ kindAt table j ⌝ }
+pub fn kind_of(table: Table, index: usize) -> Kind
+    requires { ⌜ index < wanted table ⌝ }
+    ensures { λ r. ⌜ r ≡ kindAt table index ⌝ }
 {
     match table {
-        Table::Message => kind_named(digit(MESSAGE_KINDS, j)),
-        Table::Planning => kind_named(digit(PLANNING_KINDS, j)),
-        Table::Calendar => kind_named(digit(CALENDAR_KINDS, j)),
+        Table::Message => kind_named(digit(MESSAGE_KINDS, index)),
+        Table::Planning => kind_named(digit(PLANNING_KINDS, index)),
+        Table::Calendar => kind_named(digit(CALENDAR_KINDS, index)),
     }
 }
 
@@ -120,14 +120,14 @@ fn two_digits(high: u64, low: u64, j: usize) -> usize
 }
 
 // Where the cell of column j begins in a row.
-pub fn offset_of(table: Table, j: usize) -> usize
-    requires { ⌜ j < wanted table ⌝ }
-    ensures { λ r. ⌜ r ≡ offset table j ⌝ }
+pub fn offset_of(table: Table, index: usize) -> usize
+    requires { ⌜ index < wanted table ⌝ }
+    ensures { λ r. ⌜ r ≡ offset table index ⌝ }
 {
     match table {
-        Table::Message => two_digits(MESSAGE_HIGH, MESSAGE_LOW, j),
-        Table::Planning => two_digits(PLANNING_HIGH, PLANNING_LOW, j),
-        Table::Calendar => two_digits(CALENDAR_HIGH, CALENDAR_LOW, j),
+        Table::Message => two_digits(MESSAGE_HIGH, MESSAGE_LOW, index),
+        Table::Planning => two_digits(PLANNING_HIGH, PLANNING_LOW, index),
+        Table::Calendar => two_digits(CALENDAR_HIGH, CALENDAR_LOW, index),
     }
 }
 
@@ -139,13 +139,13 @@ const PLANNING_OPTIONAL: u64 = 0x100000000000;
 const CALENDAR_OPTIONAL: u64 = 0x000;
 
 // Whether column j may be absent or hold `\0`.
-pub fn is_optional(table: Table, j: usize) -> bool
-    requires { ⌜ j < wanted table ⌝ }
-    ensures { λ r. ⌜ r ≡ optionalAt table j ⌝ }
+pub fn is_optional(table: Table, index: usize) -> bool
+    requires { ⌜ index < wanted table ⌝ }
+    ensures { λ r. ⌜ r ≡ optionalAt table index ⌝ }
 {
     match table {
-        Table::Message => digit(MESSAGE_OPTIONAL, j) == 1,
-        Table::Planning => digit(PLANNING_OPTIONAL, j) == 1,
-        Table::Calendar => digit(CALENDAR_OPTIONAL, j) == 1,
+        Table::Message => digit(MESSAGE_OPTIONAL, index) == 1,
+        Table::Planning => digit(PLANNING_OPTIONAL, index) == 1,
+        Table::Calendar => digit(CALENDAR_OPTIONAL, index) == 1,
     }
 }

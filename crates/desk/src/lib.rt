@@ -147,11 +147,11 @@ pub fn set_answer(answer: &mut [u64; 6], outcome: Outcome) -> u32
 }
 
 // What a board came to.
-pub fn set_board(answer: &mut [u64; 6], a: board::Listing) -> u32
-    ensures { λ r. ⌜ r ≡ boardNumber a ⌝ }
-    ensures { λ _. ⌜ now (answer .exit) ≡ boardAnswered a ⌝ }
+pub fn set_board(answer: &mut [u64; 6], listing: board::Listing) -> u32
+    ensures { λ r. ⌜ r ≡ boardNumber listing ⌝ }
+    ensures { λ _. ⌜ now (answer .exit) ≡ boardAnswered listing ⌝ }
 {
-    match a {
+    match listing {
         board::Listing::Listed(w, s) => write_answer(answer, 0, w as u64, s as u64, 0, 0, 0),
         board::Listing::Unsound => write_answer(answer, 1, 0, 0, 0, 0, 0),
         board::Listing::OutOfRange => write_answer(answer, 13, 0, 0, 0, 0, 0),

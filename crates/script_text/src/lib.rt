@@ -10,29 +10,29 @@ ghost use Rattle.script_text.specs.Rules.{isBlank, isKind, runIn, fromWo
 
 // ---- Numbers.
 
-// n, or `most` where n is more.
-pub fn at_most(n: usize, most: usize) -> usize
-    ensures is { λ r. ⌜ r ≡ min n most ⌝ }
+// The number, or `most` where it is more.
+pub fn at_most(number: usize, most: usize) -> usize
+    ensures is { λ r. ⌜ r ≡ min number most ⌝ }
     ensures within { λ r. ⌜ r ≤ most ⌝ }
 {
-    if most < n {
+    if most < number {
         return most;
     }
-    n
+    number
 }
 
-// The last byte of n.
-pub fn low_byte(n: usize) -> u8
-    ensures { λ r. ⌜ r ≡ n % 256 ⌝ }
+// The last byte of a number.
+pub fn low_byte(number: usize) -> u8
+    ensures { λ r. ⌜ r ≡ number % 256 ⌝ }
 {
-    (n % 256) as u8
+    (number % 256) as u8
 }
 
-// The last four bytes of n.
-pub fn low_word(n: usize) -> u32
-    ensures { λ r. ⌜ r ≡ n % 4294967296 ⌝ }
+// The last four bytes of a number.
+pub fn low_word(number: usize) -> u32
+    ensures { λ r. ⌜ r ≡ number % 4294967296 ⌝ }
 {
-    (n % 4294967296) as u32
+    (number % 4294967296) as u32
 }
 
 // The number with a digit more; of a number of twelve digits or more the last eleven stay.
@@ -43,14 +43,14 @@ fn with_digit(n: usize, b: u8) -> usize
     n % 100000000000 * 10 + (b - 48) as usize
 }
 
-// The number that the digits write which s begins with; 0 where it begins with none.
-pub fn leading_number(s: &[u8]) -> usize
-    ensures { λ r. ⌜ r ≡ leadingFrom 0 (now (s .entry)) ⌝ }
+// The number that the digits write which the text begins with; 0 where it begins with none.
+pub fn leading_number(text: &[u8]) -> usize
+    ensures { λ r. ⌜ r ≡ leadingFrom 0 (now (text .entry)) ⌝ }
 {
     let mut n: usize = 0;
     let mut i = 0;
-    while i < s.len() {
-        let b = s[i];
+    while i < text.len() {
+        let b = text[i];
         if b < 48 {
             return n;
         }
@@ -72,85 +72,85 @@ fn hex_digit(b: u8) -> u8
 }
 
 // The byte that two hexadecimal digits stand for.
-pub fn hex_byte(x: u8, y: u8) -> u8
-    ensures { λ r. ⌜ r ≡ hexDigit x * 16 + hexDigit y ⌝ }
+pub fn hex_byte(high: u8, low: u8) -> u8
+    ensures { λ r. ⌜ r ≡ hexDigit high * 16 + hexDigit low ⌝ }
 {
-    hex_digit(x) * 16 + hex_digit(y)
+    hex_digit(high) * 16 + hex_digit(low)
 }
 
 // ---- Parts.
 
-// The byte at n, or 0.
-pub fn at(s: &[u8], n: usize) -> u8
-    ensures { λ r. ⌜ r ≡ getD (now (s .entry)) n 0 ⌝ }
+// The byte at a place, or 0.
+pub fn at(text: &[u8], place: usize) -> u8
+    ensures { λ r. ⌜ r ≡ getD (now (text .entry)) place 0 ⌝ }
 {
-    if n < s.len() {
-        return s[n];
+    if place < text.len() {
+        return text[place];
     }
     0
 }
 
-// The first n bytes, or all.
-pub fn front<'a>(s: &'a [u8], n: usize) -> &'a [u8]
-    ensures { λ r. ⌜ now r ≡ take n (now (s .entry)) ⌝ }
+// The first bytes, so many, or all.
+pub fn front<'a>(text: &'a [u8], count: usize) -> &'a [u8]
+    ensures { λ r. ⌜ now r ≡ take count (now (text .entry)) ⌝ }
 {
-    if n < s.len() {
-        return &s[0..n];
+    if count < text.len() {
+        return &text[0..count];
     }
-    s
+    text
 }
 
-// What stands behind byte n. It is shorter than s, unless that is empty: so loops end.
-pub fn after<'a>(s: &'a [u8], n: usize) -> &'a [u8]
-    ensures is { λ r. ⌜ now r ≡ drop (n + 1) (now (s .entry)) ⌝ }
-    ensures shorter { λ r. ⌜ length (now r) ≤ length (now (s .entry)) - 1 ⌝ }
+// What stands behind a place. It is shorter than the text, unless that is empty: so loops end.
+pub fn after<'a>(text: &'a [u8], place: usize) -> &'a [u8]
+    ensures is { λ r. ⌜ now r ≡ drop (place + 1) (now (text .entry)) ⌝ }
+    ensures shorter { λ r. ⌜ length (now r) ≤ length (now (text .entry)) - 1 ⌝ }
 {
-    if n < s.len() {
-        let a = n + 1;
-        return &s[a..];
+    if place < text.len() {
+        let a = place + 1;
+        return &text[a..];
     }
-    &s[0..0]
+    &text[0..0]
 }
 
-// From byte a on, up to byte e.
-pub fn part<'a>(s: &'a [u8], a: usize, e: usize) -> &'a [u8]
-    ensures { λ r. ⌜ now r ≡ drop a (take e (now (s .entry))) ⌝ }
+// From one byte on, up to another.
+pub fn part<'a>(text: &'a [u8], from: usize, end: usize) -> &'a [u8]
+    ensures { λ r. ⌜ now r ≡ drop from (take end (now (text .entry))) ⌝ }
 {
-    let f = front(s, e);
-    let n = at_most(a, f.len());
+    let f = front(text, end);
+    let n = at_most(from, f.len());
     &f[n..]
 }
 
-// What stands before the first x, or all.
-pub fn before<'a>(s: &'a [u8], x: u8) -> &'a [u8]
-    ensures { λ r. ⌜ now r ≡ until x (now (s .entry)) ⌝ }
+// What stands before the first such byte, or all.
+pub fn before<'a>(text: &'a [u8], byte: u8) -> &'a [u8]
+    ensures { λ r. ⌜ now r ≡ until byte (now (text .entry)) ⌝ }
 {
-    let n = turbo::find(s, x);
-    &s[0..n]
+    let n = turbo::find(text, byte);
+    &text[0..n]
 }
 
-// What stands behind the first x; nothing where there is none.
-pub fn behind<'a>(s: &'a [u8], x: u8) -> &'a [u8]
-    ensures is { λ r. ⌜ now r ≡ past x (now (s .entry)) ⌝ }
-    ensures shorter { λ r. ⌜ length (now r) ≤ length (now (s .entry)) - 1 ⌝ }
+// What stands behind the first such byte; nothing where there is none.
+pub fn behind<'a>(text: &'a [u8], byte: u8) -> &'a [u8]
+    ensures is { λ r. ⌜ now r ≡ past byte (now (text .entry)) ⌝ }
+    ensures shorter { λ r. ⌜ length (now r) ≤ length (now (text .entry)) - 1 ⌝ }
 {
-    let n = turbo::find(s, x);
-    after(s, n)
+    let n = turbo::find(text, byte);
+    after(text, n)
 }
 
 // The first line, without its LF.
-pub fn first_line<'a>(s: &'a [u8]) -> &'a [u8]
-    ensures { λ r. ⌜ now r ≡ until 10 (now (s .entry)) ⌝ }
+pub fn first_line<'a>(text: &'a [u8]) -> &'a [u8]
+    ensures { λ r. ⌜ now r ≡ until 10 (now (text .entry)) ⌝ }
 {
-    before(s, b'\n')
+    before(text, b'\n')
 }
 
 // What is left after that line and its LF.
-pub fn rest_after_line<'a>(s: &'a [u8]) -> &'a [u8]
-    ensures is { λ r. ⌜ now r ≡ past 10 (now (s .entry)) ⌝ }
-    ensures shorter { λ r. ⌜ length (now r) ≤ length (now (s .entry)) - 1 ⌝ }
+pub fn rest_after_line<'a>(text: &'a [u8]) -> &'a [u8]
+    ensures is { λ r. ⌜ now r ≡ past 10 (now (text .entry)) ⌝ }
+    ensures shorter { λ r. ⌜ length (now r) ≤ length (now (text .entry)) - 1 ⌝ }
 {
-    behind(s, b'\n')
+    behind(text, b'\n')
 }
 
 // ---- Words, with blanks between them.
@@ -209,12 +209,12 @@ fn next_word<'a>(t: &'a [u8]) -> &'a [u8]
     from_word(&t[n..])
 }
 
-// The k-th word of a line, from 0; nothing where it has fewer.
-pub fn word<'a>(line: &'a [u8], k: usize) -> &'a [u8]
-    ensures { λ r. ⌜ now r ≡ wordAt k (now (line .entry)) ⌝ }
+// The word at a place of a line, from 0; nothing where it has fewer.
+pub fn word<'a>(line: &'a [u8], place: usize) -> &'a [u8]
+    ensures { λ r. ⌜ now r ≡ wordAt place (now (line .entry)) ⌝ }
 {
     let mut t = from_word(line);
-    let mut left = k;
+    let mut left = place;
     while 0 < left {
         let u = next_word(t);
         t = u;
@@ -226,33 +226,33 @@ pub fn word<'a>(line: &'a [u8], k: usize) -> &'a [u8]
 
 // ---- Writes.
 
-// b from n on, where it fits; the place behind it.
-pub fn append(s: &mut [u8], n: usize, b: &[u8]) -> usize
-    ensures end { λ r. ⌜ r ≡ placeBehind n (now (b .entry)) (now (s .entry)) ⌝ }
-    ensures bytes { λ _. ⌜ now (s .exit) ≡ appended n (now (b .entry)) (now (s .entry)) ⌝ }
+// Bytes added from a place on, where they fit; the place behind them.
+pub fn append(area: &mut [u8], place: usize, added: &[u8]) -> usize
+    ensures end { λ r. ⌜ r ≡ placeBehind place (now (added .entry)) (now (area .entry)) ⌝ }
+    ensures bytes { λ _. ⌜ now (area .exit) ≡ appended place (now (added .entry)) (now (area .entry)) ⌝ }
 {
-    if s.len() < n {
-        return n;
+    if area.len() < place {
+        return place;
     }
-    if s.len() - n < b.len() {
-        return n;
+    if area.len() - place < added.len() {
+        return place;
     }
-    lists::copy_to(s, n, b);
-    n + b.len()
+    lists::copy_to(area, place, added);
+    place + added.len()
 }
 
-// So many bytes v from n on, as far as they fit; the place behind them.
-pub fn pad(s: &mut [u8], n: usize, many: usize, v: u8) -> usize
-    ensures end { λ r. ⌜ r ≡ n + min many (length (now (s .entry)) - n) ⌝ }
-    ensures bytes { λ _. ⌜ now (s .exit) ≡ over n (replicate many v) (now (s .entry)) ⌝ }
+// So many bytes of one value from a place on, as far as they fit; the place behind them.
+pub fn pad(area: &mut [u8], place: usize, many: usize, value: u8) -> usize
+    ensures end { λ r. ⌜ r ≡ place + min many (length (now (area .entry)) - place) ⌝ }
+    ensures bytes { λ _. ⌜ now (area .exit) ≡ over place (replicate many value) (now (area .entry)) ⌝ }
 {
-    let mut end = n;
+    let mut end = place;
     let mut left = many;
     while 0 < left {
-        if s.len() <= end {
+        if area.len() <= end {
             return end;
         }
-        s[end] = v;
+        area[end] = value;
         end += 1;
         left -= 1;
     }

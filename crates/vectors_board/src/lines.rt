@@ -13,13 +13,13 @@ fn number(t: &[u8]) -> u32 {
 }
 
 // A board of owner and stop; behind them in t date, second and horizon.
-fn call(owner: &[u8], stop: &[u8], t: &[u8], table: &[u8], rows: usize, places: &mut [u32]) {
-    let second = turbo::rest_after_bar(t);
+fn call(owner: &[u8], stop: &[u8], text: &[u8], table: &[u8], rows: usize, places: &mut [u32]) {
+    let second = turbo::rest_after_bar(text);
     let horizon = turbo::rest_after_bar(second);
     let a = board::board(
         owner,
         stop,
-        number(t),
+        number(text),
         number(second),
         number(horizon),
         table,

@@ -10,8 +10,8 @@ fn end() {
     words(b"\n");
 }
 
-pub fn heading(w: &[u8]) {
-    words(w);
+pub fn heading(title: &[u8]) {
+    words(title);
     end();
 }
 
@@ -48,8 +48,8 @@ fn each(places: &[u32]) {
 }
 
 // An answer, and all that was lent.
-pub fn answer(a: Listing, places: &[u32]) {
-    told(a);
+pub fn answer(listing: Listing, places: &[u32]) {
+    told(listing);
     words(b":");
     each(places);
     end();

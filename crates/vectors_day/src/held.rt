@@ -52,8 +52,8 @@ fn set(h: Held) -> Held {
 }
 
 // A line with its letter and its numbers.
-pub fn read(line: &[u8], h: Held) -> Held {
-    let mut n = h;
+pub fn read(line: &[u8], held: Held) -> Held {
+    let mut n = held;
     n.letter = script_text::at(line, 0);
     n.a = script_text::leading_number(script_text::after(line, 0));
     n.b = script_text::leading_number(second(line));

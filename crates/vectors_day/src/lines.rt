@@ -6,13 +6,13 @@ use calls::Counts;
 use calls::Outcome;
 
 // At one letter the lent bytes get another value, at another one byte is changed: b and p for the book, t and q for the table.
-fn lend(s: &mut [u8], fill: u8, v: u8, poke: u8, h: Held) {
-    if h.letter == fill {
-        script_text::pad(s, 0, h.a, v);
+fn lend(area: &mut [u8], fill: u8, value: u8, poke: u8, held: Held) {
+    if held.letter == fill {
+        script_text::pad(area, 0, held.a, value);
         return;
     }
-    if h.letter == poke {
-        script_text::pad(s, h.a, 1, script_text::low_byte(h.b));
+    if held.letter == poke {
+        script_text::pad(area, held.a, 1, script_text::low_byte(held.b));
     }
 }
 
@@ -54,18 +54,18 @@ fn text<'a>(line: &'a [u8], kept: &'a [u8], letter: u8, k: usize) -> &'a [u8] {
 }
 
 // + puts a line with its line end behind the dossier, - bytes without one, x so many letters; 0 begins it anew, and so do / and g.
-fn write(desk: &mut [u8], letter: u8, a: usize, n: usize, t: &[u8]) -> usize {
+fn write(desk: &mut [u8], letter: u8, first: usize, number: usize, text: &[u8]) -> usize {
     match letter {
         b'+' => {
-            let end = script_text::append(desk, n, t);
+            let end = script_text::append(desk, number, text);
             let last = script_text::pad(desk, end, 1, 13);
             script_text::pad(desk, last, 1, 10)
         }
-        b'-' => script_text::append(desk, n, t),
-        b'x' => script_text::pad(desk, n, a, b'a'),
-        b'g' => script_text::append(desk, held::DOSSIER, t),
+        b'-' => script_text::append(desk, number, text),
+        b'x' => script_text::pad(desk, number, first, b'a'),
+        b'g' => script_text::append(desk, held::DOSSIER, text),
         b'0' | b'/' => held::DOSSIER,
-        _ => n,
+        _ => number,
     }
 }
 
@@ -78,12 +78,12 @@ fn pair(desk: &mut [u8], sender: u8, n: usize, owner: &[u8]) -> usize {
 }
 
 // r puts a pair as `r3 CXX` behind the register, z so many zero bytes; R begins it anew.
-fn enrol(desk: &mut [u8], letter: u8, a: usize, n: usize, owner: &[u8]) -> usize {
+fn enrol(desk: &mut [u8], letter: u8, first: usize, number: usize, owner: &[u8]) -> usize {
     match letter {
-        b'r' => pair(desk, script_text::low_byte(a), n, owner),
-        b'z' => script_text::pad(desk, n, a, 0),
+        b'r' => pair(desk, script_text::low_byte(first), number, owner),
+        b'z' => script_text::pad(desk, number, first, 0),
         b'R' => held::REGISTER,
-        _ => n,
+        _ => number,
     }
 }
 
@@ -113,21 +113,28 @@ fn ask(
     dossier: &[u8],
     register: &[u8],
     letter: u8,
-    a: usize,
-    b: usize,
+    first: usize,
+    second: usize,
     book: &mut [u8],
     table: &mut [u8],
-    c: Counts,
+    counts: Counts,
 ) -> Outcome {
     match letter {
-        b'O' => opening::open(plan, dossier, book, table, c),
-        b'M' => messages::message(dossier, script_text::low_byte(a), register, book, table, c),
-        _ => withdrawals::withdraw(
-            script_text::low_word(a),
-            script_text::low_byte(b),
+        b'O' => opening::open(plan, dossier, book, table, counts),
+        b'M' => messages::message(
+            dossier,
+            script_text::low_byte(first),
+            register,
             book,
             table,
-            c,
+            counts,
+        ),
+        _ => withdrawals::withdraw(
+            script_text::low_word(first),
+            script_text::low_byte(second),
+            book,
+            table,
+            counts,
         ),
     }
 }
@@ -150,14 +157,24 @@ fn asked(
     register: &[u8],
     book: &mut [u8],
     table: &mut [u8],
-    h: Held,
+    held: Held,
 ) -> Held {
     let c = Counts {
-        used: h.used,
-        rows: h.rows,
+        used: held.used,
+        rows: held.rows,
     };
-    let r = ask(plan, dossier, register, h.letter, h.a, h.b, book, table, c);
-    told(r, book, table, h)
+    let r = ask(
+        plan,
+        dossier,
+        register,
+        held.letter,
+        held.a,
+        held.b,
+        book,
+        table,
+        c,
+    );
+    told(r, book, table, held)
 }
 
 fn asks(letter: u8) -> bool {
@@ -167,23 +184,23 @@ fn asks(letter: u8) -> bool {
     }
 }
 
-fn call(desk: &[u8], kept: &[u8], book: &mut [u8], table: &mut [u8], h: Held) -> Held {
-    if asks(h.letter) {
-        let b = script_text::at_most(h.book, book.len());
-        let t = script_text::at_most(h.table, table.len());
+fn call(desk: &[u8], kept: &[u8], book: &mut [u8], table: &mut [u8], held: Held) -> Held {
+    if asks(held.letter) {
+        let b = script_text::at_most(held.book, book.len());
+        let t = script_text::at_most(held.table, table.len());
         let plan = shelf(kept, 4);
-        let dossier = script_text::part(desk, held::DOSSIER, h.dossier);
-        let register = script_text::part(desk, held::REGISTER, h.register);
+        let dossier = script_text::part(desk, held::DOSSIER, held.dossier);
+        let register = script_text::part(desk, held::REGISTER, held.register);
         return asked(
             plan,
             dossier,
             register,
             &mut book[0..b],
             &mut table[0..t],
-            h,
+            held,
         );
     }
-    h
+    held
 }
 
 // H prints all used bytes of what is lent, # is a heading.
@@ -209,9 +226,9 @@ fn one(
     kept: &mut [u8],
     book: &mut [u8],
     table: &mut [u8],
-    h: Held,
+    held: Held,
 ) -> Held {
-    let n = papers(line, desk, kept, held::read(line, h));
+    let n = papers(line, desk, kept, held::read(line, held));
     lend(book, b'b', 170, b'p', n);
     lend(table, b't', 187, b'q', n);
     show(line, book, table, n);

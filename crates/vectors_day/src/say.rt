@@ -11,8 +11,8 @@ fn end() {
     words(b"\n");
 }
 
-pub fn heading(w: &[u8]) {
-    words(w);
+pub fn heading(title: &[u8]) {
+    words(title);
     end();
 }
 
@@ -27,8 +27,8 @@ fn count(what: &[u8], n: usize) {
 }
 
 // Document 01's number, its values, and which dossier.
-pub fn answer(a: Answer) {
-    let f = calls::numbers(a);
+pub fn answer(given: Answer) {
+    let f = calls::numbers(given);
     number(f.number as usize);
     number(f.value);
     number(f.second);
@@ -82,11 +82,11 @@ fn between(i: usize, n: usize, w: usize) {
 }
 
 // All of s in hexadecimal digits, a line for each w bytes.
-pub fn bytes(s: &[u8], w: usize) {
+pub fn bytes(text: &[u8], width: usize) {
     let mut i = 0;
-    while i < s.len() {
-        hex(s[i]);
+    while i < text.len() {
+        hex(text[i]);
         i += 1;
-        between(i, s.len(), w);
+        between(i, text.len(), width);
     }
 }

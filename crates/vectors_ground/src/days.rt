@@ -15,13 +15,13 @@ fn date(n: u32) {
 }
 
 // A date as a number.
-pub fn day(v: &[u8]) {
-    date(parts::count(v) as u32);
+pub fn day(vector: &[u8]) {
+    date(parts::count(vector) as u32);
 }
 
 // A date as a number that is written in two parts.
-pub fn large(v: &[u8]) {
-    date(parts::large(v));
+pub fn large(vector: &[u8]) {
+    date(parts::large(vector));
 }
 
 fn at(d: u32, s: OperatingSeconds) {
@@ -41,9 +41,9 @@ fn on(d: u32, t: Time) {
 }
 
 // DATE^TIME: the moment on the clock.
-pub fn moment(v: &[u8]) {
-    match field_types::read_date(parts::head(v)) {
-        Number::Is(d) => on(d, field_types::read_time(parts::tail(v))),
+pub fn moment(vector: &[u8]) {
+    match field_types::read_date(parts::head(vector)) {
+        Number::Is(d) => on(d, field_types::read_time(parts::tail(vector))),
         Number::Wrong => say::phrase(say::NO_DATE),
     }
 }

@@ -37,20 +37,20 @@ fn straight(d: &[u8]) -> usize {
 }
 
 // The verdict; a word is printed only where the two ways differ.
-pub fn judged(d: &[u8]) -> usize {
-    let v = straight(d);
-    if v != stepwise(d) {
+pub fn judged(dossier: &[u8]) -> usize {
+    let v = straight(dossier);
+    if v != stepwise(dossier) {
         say::phrase(say::DIFFER);
     }
     v
 }
 
-pub fn verdict(v: usize) {
-    if v == FINE {
+pub fn verdict(value: usize) {
+    if value == FINE {
         say::phrase(say::FINE);
     } else {
         say::phrase(say::FAULT_AT);
-        say::size(v);
+        say::size(value);
     }
 }
 
@@ -64,10 +64,10 @@ fn short(v: usize) {
 }
 
 // The verdict, and whether the two ways agree.
-pub fn told(d: &[u8]) {
-    let v = straight(d);
+pub fn told(dossier: &[u8]) {
+    let v = straight(dossier);
     verdict(v);
-    say::either(v == stepwise(d), say::AGREE, say::NOT_AGREE);
+    say::either(v == stepwise(dossier), say::AGREE, say::NOT_AGREE);
 }
 
 fn judgement(d: &[u8], whole: bool) {
@@ -79,9 +79,9 @@ fn judgement(d: &[u8], whole: bool) {
 }
 
 // BEFORE^DOSSIER^AFTER: the verdict between two texts, whole or as in a list.
-pub fn between(v: &[u8], whole: bool) {
-    let rest = parts::tail(v);
-    say::words(parts::head(v));
+pub fn between(vector: &[u8], whole: bool) {
+    let rest = parts::tail(vector);
+    say::words(parts::head(vector));
     judgement(parts::head(rest), whole);
     say::words(parts::tail(rest));
 }

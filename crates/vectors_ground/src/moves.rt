@@ -19,9 +19,9 @@ fn three(v: &[u8]) -> Numbers {
 }
 
 // A^B
-pub fn same(v: &[u8]) {
+pub fn same(vector: &[u8]) {
     say::either(
-        lists::same_bytes(parts::head(v), parts::tail(v)),
+        lists::same_bytes(parts::head(vector), parts::tail(vector)),
         say::SAME,
         say::OTHER,
     );
@@ -71,9 +71,9 @@ fn shifted(r: u8, s: &mut [u8; 8], t: Numbers, b: &[u8]) {
     say::text(s);
 }
 
-pub fn moved(r: u8, v: &[u8]) {
+pub fn moved(letter: u8, vector: &[u8]) {
     let mut s = [97u8, 98, 99, 100, 101, 102, 103, 104];
-    shifted(r, &mut s, three(v), parts::tail(v));
+    shifted(letter, &mut s, three(vector), parts::tail(vector));
 }
 
 fn round(s: &mut [u8; 6], w: usize, n: u32) {
@@ -84,11 +84,11 @@ fn round(s: &mut [u8; 6], w: usize, n: u32) {
 }
 
 // BYTES^NUMBER
-pub fn number(v: &[u8]) {
+pub fn number(vector: &[u8]) {
     let mut s = [97u8, 98, 99, 100, 101, 102];
     round(
         &mut s,
-        parts::count(parts::head(v)),
-        parts::large(parts::tail(v)),
+        parts::count(parts::head(vector)),
+        parts::large(parts::tail(vector)),
     );
 }

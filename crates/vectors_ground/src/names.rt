@@ -4,9 +4,9 @@ use crate::say;
 use turbo_labels::Columns;
 
 // NAME^LABELS^LINE: the column, and the field there.
-pub fn lookup(v: &[u8]) {
-    let name = parts::head(v);
-    let rest = parts::tail(v);
+pub fn lookup(vector: &[u8]) {
+    let name = parts::head(vector);
+    let rest = parts::tail(vector);
     let labels = parts::head(rest);
     let line = parts::tail(rest);
     let column = turbo_labels::column_of(labels, name);
@@ -31,10 +31,10 @@ fn found(c: Columns) {
 }
 
 // WANTED^LABELS: whether a wanted name stands twice, and all twenty places.
-pub fn columns(v: &[u8]) {
-    let wanted = parts::head(v);
+pub fn columns(vector: &[u8]) {
+    let wanted = parts::head(vector);
     if turbo::count_fields(wanted) <= 20 {
-        found(turbo_labels::find_columns(wanted, parts::tail(v)));
+        found(turbo_labels::find_columns(wanted, parts::tail(vector)));
     } else {
         say::phrase(say::TOO_MANY);
     }
@@ -48,11 +48,11 @@ fn pair(b: u8, e: u8) {
 }
 
 // A byte with the one that it stands for after a backslash, if any, and what follows as it is.
-pub fn escape(v: &[u8]) {
-    let b = script_text::at(v, 0);
+pub fn escape(vector: &[u8]) {
+    let b = script_text::at(vector, 0);
     let e = turbo::escaped(b);
     if e != 0 {
         pair(b, e);
     }
-    say::words(script_text::after(v, 0));
+    say::words(script_text::after(vector, 0));
 }

@@ -2,26 +2,26 @@
 use field_types::Number;
 ghost use Prim.Native.Nat.{_<_};
 
-pub fn head(v: &[u8]) -> &[u8] {
-    script_text::before(v, b'^')
+pub fn head(vector: &[u8]) -> &[u8] {
+    script_text::before(vector, b'^')
 }
 
-pub fn tail(v: &[u8]) -> &[u8] {
-    script_text::behind(v, b'^')
+pub fn tail(vector: &[u8]) -> &[u8] {
+    script_text::behind(vector, b'^')
 }
 
 // A part that is a number.
-pub fn count(v: &[u8]) -> usize
+pub fn count(vector: &[u8]) -> usize
     ensures { λ r. ⌜ r < 4294967296 ⌝ }
 {
-    match field_types::read_number(v, 9) {
+    match field_types::read_number(vector, 9) {
         Number::Is(n) => n as usize,
         Number::Wrong => 0,
     }
 }
 
 // Two parts that are a number: its thousands, and the rest.
-pub fn large(v: &[u8]) -> u32 {
-    let n = count(head(v)) * 1000 + count(tail(v));
+pub fn large(vector: &[u8]) -> u32 {
+    let n = count(head(vector)) * 1000 + count(tail(vector));
     (n % 4294967296) as u32
 }

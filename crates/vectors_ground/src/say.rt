@@ -63,18 +63,18 @@ pub const HEAD: usize = 28;
 
 pub const EQUALS: usize = 29;
 
-pub fn words(s: &[u8]) {
-    io::write_all(STDOUT_FILENO, s);
+pub fn words(text: &[u8]) {
+    io::write_all(STDOUT_FILENO, text);
 }
 
-pub fn phrase(k: usize) {
+pub fn phrase(place: usize) {
     let all =
         b" Fine| FaultAt|, agree|, DIFFER| DIFFER| -| Is| Wrong| Group| Table| Labels| Data| same| other| in range| out of range| twice,| more than 20 names| day| no date| no time| to|;|\n|\"| |\\x| ->|== |=";
-    words(turbo::field_of(all, k));
+    words(turbo::field_of(all, place));
 }
 
-pub fn either(b: bool, yes: usize, no: usize) {
-    if b {
+pub fn either(test: bool, yes: usize, no: usize) {
+    if test {
         phrase(yes);
     } else {
         phrase(no);
@@ -91,10 +91,10 @@ fn hidden(b: u8) {
     io::print_hex(STDOUT_FILENO, b as u64, 2);
 }
 
-pub fn byte(b: u8) {
-    match b {
-        32..=126 => shown(b),
-        _ => hidden(b),
+pub fn byte(byte: u8) {
+    match byte {
+        32..=126 => shown(byte),
+        _ => hidden(byte),
     }
 }
 
@@ -106,29 +106,29 @@ fn bytes(s: &[u8]) {
     }
 }
 
-pub fn quoted(s: &[u8]) {
+pub fn quoted(text: &[u8]) {
     phrase(QUOTE);
-    bytes(s);
+    bytes(text);
     phrase(QUOTE);
 }
 
 // What follows is printed after a blank.
-pub fn text(s: &[u8]) {
+pub fn text(text: &[u8]) {
     phrase(BLANK);
-    quoted(s);
+    quoted(text);
 }
 
-pub fn size(n: usize) {
+pub fn size(number: usize) {
     phrase(BLANK);
-    io::print_decimal(STDOUT_FILENO, n as u64);
+    io::print_decimal(STDOUT_FILENO, number as u64);
 }
 
-pub fn small(n: u32) {
-    size(n as usize);
+pub fn small(number: u32) {
+    size(number as usize);
 }
 
-pub fn read(r: Number) {
-    match r {
+pub fn read(result: Number) {
+    match result {
         Number::Is(n) => {
             phrase(IS);
             small(n);

@@ -49,7 +49,7 @@ fn plain(line: &[u8], b: u8, room: &mut [u8]) -> usize {
 }
 
 // The same vector, in the room.
-pub fn vector<'a>(line: &[u8], b: u8, room: &'a mut [u8]) -> &'a [u8] {
-    let n = plain(line, b, room);
+pub fn vector<'a>(line: &[u8], byte: u8, room: &'a mut [u8]) -> &'a [u8] {
+    let n = plain(line, byte, room);
     script_text::front(room, n)
 }

@@ -25,13 +25,13 @@ fn number(r: u8, v: &[u8]) -> Number {
     }
 }
 
-pub fn numbered(r: u8, v: &[u8]) {
-    say::read(number(r, v));
+pub fn numbered(letter: u8, vector: &[u8]) {
+    say::read(number(letter, vector));
 }
 
 // The ten bytes that are kept. A refused text is all zero.
-pub fn text(v: &[u8]) {
-    let t = texts::read_text(v);
+pub fn text(vector: &[u8]) {
+    let t = texts::read_text(vector);
     if !t.ok {
         say::phrase(say::WRONG);
     }
@@ -39,9 +39,9 @@ pub fn text(v: &[u8]) {
     say::text(&b);
 }
 
-pub fn range(v: &[u8]) {
+pub fn range(vector: &[u8]) {
     say::either(
-        field_types::in_stamp_range(parts::large(v)),
+        field_types::in_stamp_range(parts::large(vector)),
         say::IN_RANGE,
         say::OUT_OF_RANGE,
     );

@@ -26,10 +26,10 @@ pub fn fields(line: &[u8]) {
 }
 
 // How many lines, and each with its mark.
-pub fn lines(d: &[u8]) {
-    let n = turbo_lines::count_lines(d);
+pub fn lines(dossier: &[u8]) {
+    let n = turbo_lines::count_lines(dossier);
     say::size(n);
-    let mut t = d;
+    let mut t = dossier;
     let mut left = n;
     while 0 < left {
         let l = turbo_lines::first_line(t);
@@ -70,9 +70,9 @@ pub fn row(line: &[u8]) {
 }
 
 // The first byte, sought in what follows the circumflex: from byte to byte, and by blocks.
-pub fn find(v: &[u8]) {
-    let x = script_text::at(v, 0);
-    let s = parts::tail(v);
+pub fn find(vector: &[u8]) {
+    let x = script_text::at(vector, 0);
+    let s = parts::tail(vector);
     say::size(turbo::find(s, x));
     say::size(turbo::find_far(s, x));
 }

@@ -2,22 +2,22 @@
 use libc::STDOUT_FILENO;
 use reader::Reading;
 
-pub fn words(s: &[u8]) {
-    io::write_all(STDOUT_FILENO, s);
+pub fn words(text: &[u8]) {
+    io::write_all(STDOUT_FILENO, text);
 }
 
-pub fn line(s: &[u8]) {
-    words(s);
+pub fn line(text: &[u8]) {
+    words(text);
     words(b"\n");
 }
 
-pub fn hex(b: u8) {
-    io::print_hex(STDOUT_FILENO, b as u64, 2);
+pub fn hex(byte: u8) {
+    io::print_hex(STDOUT_FILENO, byte as u64, 2);
 }
 
-pub fn count(what: &[u8], n: usize) {
+pub fn count(what: &[u8], number: usize) {
     words(what);
-    io::print_decimal(STDOUT_FILENO, n as u64);
+    io::print_decimal(STDOUT_FILENO, number as u64);
 }
 
 struct Three {
@@ -62,8 +62,8 @@ fn told(a: Reading) -> Three {
     }
 }
 
-pub fn answer(a: Reading) {
-    let t = told(a);
+pub fn answer(reading: Reading) {
+    let t = told(reading);
     let word = turbo::field_of(
         b" -> | -> 3 at | -> 4 line | -> 5 line | -> 6 line | -> rows ",
         t.word,

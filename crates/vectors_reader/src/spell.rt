@@ -33,11 +33,11 @@ fn value(b: u8, x: u8, y: u8) -> u8 {
     b
 }
 
-fn unit(d: &mut [u8], n: usize, b: u8, x: u8, y: u8) -> usize {
-    match b {
-        b'@' => listed(d, n, x, y),
-        b'/' | b'#' => listed(d, n, b, b),
-        _ => script_text::pad(d, n, 1, value(b, x, y)),
+fn unit(dossier: &mut [u8], number: usize, byte: u8, high: u8, low: u8) -> usize {
+    match byte {
+        b'@' => listed(dossier, number, high, low),
+        b'/' | b'#' => listed(dossier, number, byte, byte),
+        _ => script_text::pad(dossier, number, 1, value(byte, high, low)),
     }
 }
 
@@ -50,12 +50,12 @@ fn more(b: u8) -> usize {
 }
 
 // A vector, spelled out from `from` on; the place behind it.
-pub fn out(d: &mut [u8], from: usize, v: &[u8]) -> usize {
+pub fn out(dossier: &mut [u8], from: usize, vector: &[u8]) -> usize {
     let mut n = from;
-    let mut t = v;
+    let mut t = vector;
     while 0 < t.len() {
         let b = t[0];
-        n = unit(d, n, b, script_text::at(t, 1), script_text::at(t, 2));
+        n = unit(dossier, n, b, script_text::at(t, 1), script_text::at(t, 2));
         let u = script_text::after(t, more(b));
         t = u;
     }

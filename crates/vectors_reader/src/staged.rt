@@ -76,9 +76,9 @@ fn from(r: u8, n: usize) -> usize {
 }
 
 // What a call left: how many bytes are written, and rows.
-pub fn left(r: u8, area: &[u8]) {
+pub fn left(letter: u8, area: &[u8]) {
     let n = written(area);
     say::count(b", staged ", n);
-    rows(r, script_text::part(area, from(r, n), n));
+    rows(letter, script_text::part(area, from(letter, n), n));
     say::words(b"\n");
 }

@@ -13,7 +13,7 @@ enum-told c = search needs
 
 digit-requires : tie.Need-digit-requires
 unfolding columnsIn messageColumns
-digit-requires c κs = omega (arith, told-below (c .before .before .args .j) (c .enum-told .given .1) (c .before .before .pre))
+digit-requires c κs = omega (arith, told-below (c .before .before .args .index) (c .enum-told .given .1) (c .before .before .pre))
 
 kind-named-requires : tie.Need-kind-named-requires
 kind-named-requires c κs = search needs
@@ -23,7 +23,7 @@ enum-told-2 c = search needs
 
 digit-requires-2 : tie.Need-digit-requires-2
 unfolding columnsIn planningColumns
-digit-requires-2 c κs = omega (arith, told-below (c .before .before .args .j) (c .enum-told2 .given .1) (c .before .before .pre))
+digit-requires-2 c κs = omega (arith, told-below (c .before .before .args .index) (c .enum-told2 .given .1) (c .before .before .pre))
 
 kind-named-requires-2 : tie.Need-kind-named-requires-2
 kind-named-requires-2 c κs = search needs
@@ -33,7 +33,7 @@ enum-told-3 c = search needs
 
 digit-requires-3 : tie.Need-digit-requires-3
 unfolding columnsIn calendarColumns
-digit-requires-3 c κs = omega (arith, told-below (c .before .before .args .j) (c .enum-told3 .given .1) (c .before .before .pre))
+digit-requires-3 c κs = omega (arith, told-below (c .before .before .args .index) (c .enum-told3 .given .1) (c .before .before .pre))
 
 kind-named-requires-3 : tie.Need-kind-named-requires-3
 kind-named-requires-3 c κs = search needs
@@ -43,21 +43,21 @@ unfolding columnsIn messageColumns
 returns c =
     let a = c .before .before .before .before in
     let told = c .before .before .enum-told .given .1 in
-    rw told (c .kind-named .ensures ∙ ap kindNamed (c .before .digit .ensures .0) ∙ message-kind (a .args .j) (told-below (a .args .j) told (a .pre)))
+    rw told (c .kind-named .ensures ∙ ap kindNamed (c .before .digit .ensures .0) ∙ message-kind (a .args .index) (told-below (a .args .index) told (a .pre)))
 
 returns-2 : tie.Need-returns-2
 unfolding columnsIn planningColumns
 returns-2 c =
     let a = c .before .before .before .before in
     let told = c .before .before .enum-told2 .given .1 in
-    rw told (c .kind-named2 .ensures ∙ ap kindNamed (c .before .digit2 .ensures .0) ∙ planning-kind (a .args .j) (told-below (a .args .j) told (a .pre)))
+    rw told (c .kind-named2 .ensures ∙ ap kindNamed (c .before .digit2 .ensures .0) ∙ planning-kind (a .args .index) (told-below (a .args .index) told (a .pre)))
 
 returns-3 : tie.Need-returns-3
 unfolding columnsIn calendarColumns
 returns-3 c =
     let a = c .before .before .before .before in
     let told = c .before .before .enum-told3 .given .1 in
-    rw told (c .kind-named3 .ensures ∙ ap kindNamed (c .before .digit3 .ensures .0) ∙ calendar-kind (a .args .j) (told-below (a .args .j) told (a .pre)))
+    rw told (c .kind-named3 .ensures ∙ ap kindNamed (c .before .digit3 .ensures .0) ∙ calendar-kind (a .args .index) (told-below (a .args .index) told (a .pre)))
 
 pub kind-of-spec : {M : Type 1} → statement M
 kind-of-spec =

@@ -5,8 +5,8 @@ use Rattle.desk.proofs.AnswerLaws.{board-written}
 use Rattle.desk.proofs.set_board.Statement.{statement}
 use Rattle.desk.proofs.set_board.Tie as tie
 
-enum-known-a : tie.Need-enum-known-a
-enum-known-a c = search needs
+enum-known-listing : tie.Need-enum-known-listing
+enum-known-listing c = search needs
 
 write-answer-requires : tie.Need-write-answer-requires
 write-answer-requires c κs = search needs
@@ -24,7 +24,7 @@ write-answer-requires-3 : tie.Need-write-answer-requires-3
 write-answer-requires-3 c κs = search needs
 
 returns : tie.Need-returns
-returns c = let g = c .before .before .before .a .given in board-written _ (Listed (g .0 .0) (g .0 .1 .0)) _ _ (g .1) (c .write-answer .ensures)
+returns c = let g = c .before .before .before .listing .given in board-written _ (Listed (g .0 .0) (g .0 .1 .0)) _ _ (g .1) (c .write-answer .ensures)
 
 returns-2 : tie.Need-returns-2
 returns-2 c = board-written _ Unsound _ _ (c .before .before .enum-told .given .1) (c .write-answer2 .ensures)
@@ -36,7 +36,7 @@ pub set-board-spec : {M : Type 1} → statement M
 set-board-spec =
     tie.close
     (tie.spec
-    enum-known-a
+    enum-known-listing
     write-answer-requires
     enum-told
     write-answer-requires-2

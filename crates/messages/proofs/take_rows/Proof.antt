@@ -71,7 +71,9 @@ take-fitting-requires c κs =
     let most : c .before .rows-room .result ≤ 2048 = rw m (room-most (a .table .now)) in
     let held : a .counts .rows ≤ c .before .rows-room .result = rw m (sound-within (a .counts .rows) (a .table .now) t) in
     let within : c .before .rows-room .result * row-wide ≤ length (a .table .now) = rw m (room-fits (a .table .now)) in
-    ((sound-fits (a .counts .rows) (a .table .now) t, s .pre .0 .1, held, most, s .pre .0 .0), (sound-sorted (a .counts .rows) (a .table .now) t, within))
+    let room = s .pre .0 in
+    let some = c .before .before .before .before .before .before .if1 .left in
+    ((sound-fits (a .counts .rows) (a .table .now) t, omega arith, held, most, omega arith), (sound-sorted (a .counts .rows) (a .table .now) t, within))
 
 enum-known-rows : tie.Need-enum-known-rows
 enum-known-rows c = search needs

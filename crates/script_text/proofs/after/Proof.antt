@@ -20,7 +20,7 @@ part-result-end : tie.Need-part-result-end
 part-result-end c = search needs
 
 returns : tie.Need-returns
-returns c = let a = c .before .before .args in (tail-all (a .n + 1) (a .s .now), after-shorter (a .n) (a .s .now))
+returns c = let a = c .before .before .args in (tail-all (a .place + 1) (a .text .now), after-shorter (a .place) (a .text .now))
 
 sub-result-2 : tie.Need-sub-result-2
 sub-result-2 c = search needs
@@ -32,7 +32,7 @@ part-result-end-2 : tie.Need-part-result-end-2
 part-result-end-2 c = search needs
 
 returns-2 : tie.Need-returns-2
-returns-2 c = let a = c .before .before .args in (after-none (a .n) (a .s .now) (c .before .if1 .left), omega arith)
+returns-2 c = let a = c .before .before .args in (after-none (a .place) (a .text .now) (c .before .if1 .left), omega arith)
 
 pub after-spec : {M : Type 1} → statement M
 after-spec =

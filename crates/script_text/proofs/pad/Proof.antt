@@ -23,10 +23,10 @@ same-length : tie.Need-same-length Inv-loop μ-loop
 same-length c = search needs
 
 returns : tie.Need-returns Inv-loop μ-loop
-returns c = let l = c .before .before .loop in let f : length (c .before .before .before .args .s .now) ≤ l .end = omega arith in (pad-end _ _ _ _ _ (l .inv .0) (l .inv .1) (l .inv .2) (inr f), sym (over-past _ _ _ (c .if1 .taken)) ∙ l .inv .4)
+returns c = let l = c .before .before .loop in let f : length (c .before .before .before .args .area .now) ≤ l .end = omega arith in (pad-end _ _ _ _ _ (l .inv .0) (l .inv .1) (l .inv .2) (inr f), sym (over-past _ _ _ (c .if1 .taken)) ∙ l .inv .4)
 
-slice-write-s : tie.Need-slice-write-s Inv-loop μ-loop
-slice-write-s c = search needs
+slice-write-area : tie.Need-slice-write-area Inv-loop μ-loop
+slice-write-area c = search needs
 
 add-end : tie.Need-add-end Inv-loop μ-loop
 add-end c = omega arith
@@ -44,7 +44,7 @@ same-length-2 : tie.Need-same-length-2 Inv-loop μ-loop
 same-length-2 c = search needs
 
 returns-2 : tie.Need-returns-2 Inv-loop μ-loop
-returns-2 c = let l = c .before .loop in let z : l .left ≡ 0 = omega arith in (pad-end _ _ _ _ _ (l .inv .0) (l .inv .1) (l .inv .2) (inl z), pad-done (c .before .before .args .v) (l .end) (l .left) (l .s) z ∙ l .inv .4)
+returns-2 c = let l = c .before .loop in let z : l .left ≡ 0 = omega arith in (pad-end _ _ _ _ _ (l .inv .0) (l .inv .1) (l .inv .2) (inl z), pad-done (c .before .before .args .value) (l .end) (l .left) (l .area) z ∙ l .inv .4)
 
 pub pad-spec : {M : Type 1} → statement M
 pad-spec =
@@ -55,7 +55,7 @@ pad-spec =
     loop-holds
     same-length
     returns
-    slice-write-s
+    slice-write-area
     add-end
     sub-left
     loop-less

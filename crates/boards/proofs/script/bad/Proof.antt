@@ -14,7 +14,7 @@ wrapping-add-u32-requires : tie.Need-wrapping-add-u32-requires
 wrapping-add-u32-requires c κs = search needs
 
 returns : tie.Need-returns
-returns c = missed-is (c .before .before .before .before .args .h) (c .wrapping-add-u32 .result) (c .wrapping-add-u32 .ensures)
+returns c = missed-is (c .before .before .before .before .args .held) (c .wrapping-add-u32 .result) (c .wrapping-add-u32 .ensures)
 
 pub bad-spec : {M : Type 1} → statement M
 bad-spec = tie.close (tie.spec word-requires bad-requires wrapping-add-u32-requires returns)

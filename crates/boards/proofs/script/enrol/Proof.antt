@@ -10,7 +10,7 @@ bad-requires : tie.Need-bad-requires
 bad-requires c κs = search needs
 
 returns : tie.Need-returns
-returns c = let a = c .before .before .before .before .args in (c .bad .ensures ∙ full-held (a .h) (c .before .if1 .taken), full-register (a .sender) (wordAt 2 (a .line .now)) (a .h .register) (a .register .now) (c .before .if1 .taken))
+returns c = let a = c .before .before .before .before .args in (c .bad .ensures ∙ full-held (a .held) (c .before .if1 .taken), full-register (a .sender) (wordAt 2 (a .line .now)) (a .held .register) (a .register .now) (c .before .if1 .taken))
 
 slice-aggregate-append : tie.Need-slice-aggregate-append
 slice-aggregate-append c = search needs
@@ -49,7 +49,7 @@ same-length : tie.Need-same-length
 same-length c = search needs
 
 returns-2 : tie.Need-returns-2
-returns-2 c = let a = c .before .before .before .before .before .before .before .before .before .before .before .before .before .before .before .before .before .args in (pair-held (a .h) (c .before .before .before .before .before .before .before .before .before .before .before .before .before .before .if1 .left), pair-register (a .sender) (wordAt 2 (a .line .now)) _ (a .h .register) (a .register .now) _ _ (c .before .before .before .before .before .before .before .before .before .before .before .before .before .before .if1 .left) (c .before .before .before .before .before .before .before .word .ensures) (c .before .before .before .before .before .before .before .before .before .before .before .append .ensures .1) (c .before .before .before .before .before .before .append2 .ensures .1))
+returns-2 c = let a = c .before .before .before .before .before .before .before .before .before .before .before .before .before .before .before .before .before .args in (pair-held (a .held) (c .before .before .before .before .before .before .before .before .before .before .before .before .before .before .if1 .left), pair-register (a .sender) (wordAt 2 (a .line .now)) _ (a .held .register) (a .register .now) _ _ (c .before .before .before .before .before .before .before .before .before .before .before .before .before .before .if1 .left) (c .before .before .before .before .before .before .before .word .ensures) (c .before .before .before .before .before .before .before .before .before .before .before .append .ensures .1) (c .before .before .before .before .before .before .append2 .ensures .1))
 
 pub enrol-spec : {M : Type 1} → statement M
 enrol-spec =

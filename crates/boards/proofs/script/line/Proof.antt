@@ -24,7 +24,7 @@ same-length-3 : tie.Need-same-length-3
 same-length-3 c = search needs
 
 returns : tie.Need-returns
-returns c = let a = c .before .before .before .before .before .before .before .before .before .before .before .before .before .before .before .before .args in let w = c .before .before .before .before .before .before .before .before .before .before .before .wrapping-add-u32 in let o = c .before .before .before .before .before .before .before .before .before .before .read-order in leaves-line (o .result) (orderIn (a .line .now)) (a .line .now) (a .h) _ (a .register .now) (a .book .now) (a .table .now) _ (o .ensures) (next-is (a .h) (w .result) (w .ensures)) (c .before .before .before .before .before .before .perform .ensures)
+returns c = let a = c .before .before .before .before .before .before .before .before .before .before .before .before .before .before .before .before .args in let w = c .before .before .before .before .before .before .before .before .before .before .before .wrapping-add-u32 in let o = c .before .before .before .before .before .before .before .before .before .before .read-order in leaves-line (o .result) (orderIn (a .line .now)) (a .line .now) (a .held) _ (a .register .now) (a .book .now) (a .table .now) _ (o .ensures) (next-is (a .held) (w .result) (w .ensures)) (c .before .before .before .before .before .before .perform .ensures)
 
 pub line-spec : {M : Type 1} → statement M
 line-spec =

@@ -22,7 +22,7 @@ same-length-2 : tie.Need-same-length-2
 same-length-2 c = search needs
 
 returns : tie.Need-returns
-returns c = let a = c .before .before .before .before .before .before .before .before .before .before .before .before .before .args in let o = c .before .before .before .before .before .before .withdraw in λ register. left-is (o .result) _ _ _ (a .h) (c .told .result) (state (a .h) register (a .book .now) (a .table .now)) refl (c .told .ensures) (o .ensures .0)
+returns c = let a = c .before .before .before .before .before .before .before .before .before .before .before .before .before .args in let o = c .before .before .before .before .before .before .withdraw in λ register. left-is (o .result) _ _ _ (a .held) (c .told .result) (state (a .held) register (a .book .now) (a .table .now)) refl (c .told .ensures) (o .ensures .0)
 
 pub withdraw-spec : {M : Type 1} → statement M
 withdraw-spec =
