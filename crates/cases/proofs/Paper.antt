@@ -1,8 +1,7 @@
 -- P1 to P11 hold, each by the case or law of the crate that it is about. Assumes nothing.
-use Prim.Native.Nat.{ℕ, _+_, _*_, _≤_}
+use Prim.Native.Nat.{ℕ, _≤_}
 use native.Mathlib.Omega.{arith}
 use mathlib.Core.Path.{_≡_, refl, ap, _∙_}
-use mathlib.Core.Bool.{true}
 use mathlib.Core.List.{List, [], _∷_, _++_}
 use lib.ListN.{length}
 use Rattle.lists.specs.Text.{bytes}
@@ -17,17 +16,14 @@ use Rattle.passage.specs.Layout.{row-wide}
 use Rattle.columns.specs.declared.Table.the-variants as Tables
 use Rattle.reader.specs.declared.Reading.the-variants.{Rows, Syntax as SyntaxAt}
 use Rattle.reader.specs.Items.{items}
-use Rattle.reader.specs.Rules.{firstLine, firstColumn, dataRows, answerTo, readingOf, itemsOf}
+use Rattle.reader.specs.Rules.{firstLine, firstColumn, dataRows, answerTo, readingOf}
 use Rattle.keys.specs.Replay.{takenAll}
 use Rattle.update.specs.Moves.{mayMove, table17}
 use Rattle.table.specs.Rules.{tableRoom}
 use Rattle.table.proofs.SoundLaws.{sound-within}
-use Rattle.book.specs.Entries.{entry-wide}
-use Rattle.book.specs.Rules.{bookRoom}
 use Rattle.book.proofs.SoundLaws.{sound-facts}
-use Rattle.calls.specs.declared.Counts.{Counts}
 use Rattle.calls.specs.Answers.{numbers}
-use Rattle.calls.specs.Message.{messageSound, messageRows, rowsTaken, roomFor, messageAnswer}
+use Rattle.calls.specs.Message.{messageRows, rowsTaken, messageAnswer}
 use Rattle.calls.proofs.AcceptedLaws.{sound-parts, passes}
 use Rattle.cases.proofs.DayLaws.{through-the-calls}
 use Rattle.cases.specs.Paper.{P5, P10, P11, All}

@@ -4,7 +4,7 @@ use Prim.Native.String.{String}
 use mathlib.Core.List.{List, [], _∷_, _++_, map}
 use lib.ListN.{replicate}
 use Rattle.lists.specs.Text.{bytes}
-use Rattle.passage.specs.Layout.{orderOf, statusOf}
+use Rattle.passage.specs.Layout.{orderOf, statusOf, showCancelledOf, flexibleOf, monitoredOf}
 use Rattle.board_show.specs.Ask.{asked}
 use Rattle.calls.specs.Leaves.{Day, countsOf}
 use Rattle.runs.specs.Runs.{Call, Reply, replyTo, opened, dayAfter}
@@ -70,6 +70,10 @@ statuses calls = map statusOf (rowsIn (dayAfter calls day))
 
 abbrev pub orders : List Call → List ℕ
 orders calls = map orderOf (rowsIn (dayAfter calls day))
+
+-- what stands there of columns that these dossiers do not have: show cancelled, flexible, monitored
+abbrev pub optionals : List Call → List (List ℕ)
+optionals calls = map (λ (r : List ℕ). showCancelledOf r ∷ flexibleOf r ∷ monitoredOf r ∷ []) (rowsIn (dayAfter calls day))
 
 -- what the last of these calls gets
 abbrev pub replyAfter : List Call → Call → Reply

@@ -20,7 +20,7 @@ use Rattle.calls.specs.Message.{messageSound, messageAnswer}
 use Rattle.board.specs.declared.Listing.the-variants.{Listed}
 use Rattle.board.specs.Rules.{boardWith}
 use Rattle.runs.specs.Runs.{Reply}
-use Rattle.cases.specs.Day.{says, sent, withdrawn, board, statuses, orders, replyAfter}
+use Rattle.cases.specs.Day.{says, sent, withdrawn, board, statuses, orders, optionals, replyAfter}
 
 -- P1: 31:59:59 is 115,199; 32:00:00 is refused
 abbrev pub P1 : Type 0
@@ -64,13 +64,15 @@ P8 =
 abbrev pub P9 : Type 0
 P9 = (orders (sent (says "2" "PASSED" ∷ []) ∷ []) ≡ 1 ∷ 2 ∷ []) × (statuses (sent (says "2" "PASSED" ∷ []) ∷ []) ≡ 0 ∷ 5 ∷ [])
 
--- a dossier of two rows is one message: both are taken under one number, and both leave with it
+-- a dossier of two rows is one message: both are taken under one number, and both leave with it; columns that it does not have keep what is held
 abbrev pub TwoRows : Type 0
 TwoRows =
     (replyAfter [] (sent (says "1" "CANCEL" ∷ says "2" "DRIVING" ∷ [])) ≡ Reply.answered (Accepted 1))
     × (statuses (sent (says "1" "CANCEL" ∷ says "2" "DRIVING" ∷ []) ∷ []) ≡ 1 ∷ 3 ∷ [])
+    × (optionals (sent (says "1" "CANCEL" ∷ says "2" "DRIVING" ∷ []) ∷ []) ≡ (1 ∷ 0 ∷ 0 ∷ []) ∷ (1 ∷ 0 ∷ 0 ∷ []) ∷ [])
     × (replyAfter (sent (says "1" "CANCEL" ∷ says "2" "DRIVING" ∷ []) ∷ []) (withdrawn 1) ≡ Reply.answered (Accepted 0))
     × (statuses (sent (says "1" "CANCEL" ∷ says "2" "DRIVING" ∷ []) ∷ withdrawn 1 ∷ []) ≡ 0 ∷ [])
+    × (optionals [] ≡ (1 ∷ 0 ∷ 0 ∷ []) ∷ [])
 
 -- what a message of these bytes gets, whoever sends it, where all that it is lent is sound
 abbrev pub Gets : List ℕ → ℕ × ℕ × ℕ × ℕ → Type 0
