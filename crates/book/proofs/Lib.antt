@@ -12,5 +12,8 @@ pub mod MarkLaws
 pub mod StandingLaws
 pub mod EntryLaws
 pub mod FactLaws
+pub mod AgreeLaws
+pub mod ReckonLaws
+pub mod GapLaws
 pub mod Claims
 pub mod Determined

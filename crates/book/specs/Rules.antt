@@ -5,6 +5,7 @@ use mathlib.Core.List.{List, [], _∷_, _++_, map}
 use lib.Dec.{eqb, leb}
 use lib.ListN.{length, set, replicate}
 use Rattle.lists.specs.Logic.{on, within}
+use Rattle.passage.specs.Layout.{keyOf}
 use Rattle.passage.specs.Ranges.{planInRange, updateInRange}
 use Rattle.keys.specs.Sorted.{sortedRows, get}
 use Rattle.keys.specs.Replay.{Rule, replayed}
@@ -67,6 +68,10 @@ nextNumber us = numberOf (lastFrom noEntry us) + 1
 unfoldable pub messageEntries : ℕ → List (List ℕ) → List (List ℕ)
 messageEntries n [] = []
 messageEntries n (e ∷ es) = on (eqb (numberOf e) n) (e ∷ messageEntries n es) (messageEntries n es)
+
+-- the keys that these entries name
+unfoldable pub keysNamed : List (List ℕ) → List (List ℕ)
+keysNamed es = map (λ (e : List ℕ). keyOf (entryBody e)) es
 
 -- the updates of all messages but n
 unfoldable pub others : ℕ → List (List ℕ) → List (List ℕ)

@@ -1,7 +1,7 @@
 -- Demand 2: what an accepted withdrawal leaves: kinds in the book, and passages worked out again. Assumes nothing.
 use Prim.Native.Nat.{ℕ, zero, suc, _+_, _*_, _≤_, _<_}
 use native.Mathlib.Omega.{arith}
-use mathlib.Core.Path.{_≡_, refl, sym, ap, _∙_, subst}
+use mathlib.Core.Path.{_≡_, refl, sym, ap, _∙_}
 use mathlib.Core.Bool.{Bool, true, false, _||_}
 use mathlib.Core.List.{List, [], _∷_, _++_, map}
 use mathlib.Core.Logic.{_⊎_}
@@ -10,7 +10,6 @@ use lib.Dec.{eqb}
 use lib.ListN.{length, take, drop, getD, length-append}
 use Rattle.lists.specs.Logic.{on}
 use Rattle.lists.specs.Each.{Each}
-use Rattle.lists.specs.Part.{over}
 use Rattle.lists.specs.Text.{same}
 use Rattle.lists.specs.Rows.{rowsOf, flat, Wide}
 use Rattle.lists.proofs.OverLaws.{over-fits}
@@ -26,15 +25,15 @@ use Rattle.lists.proofs.TextLaws.{same-equal}
 use Rattle.update.specs.Rule.{rowRule}
 use Rattle.table.proofs.SoundLaws.{room-holds, sound-fits, sound-sorted}
 use Rattle.book.specs.Entries.{plan-wide, body-at, entry-wide, numberOf, kindOf, entryBody, planCount, planBodies, updatesIn}
-use Rattle.book.specs.Rules.{bookSound, messageEntries, markedWithdrawn, withdrawn, others, standing, planRow, planRows, rowFor}
+use Rattle.book.specs.Rules.{keysNamed, bookSound, messageEntries, markedWithdrawn, withdrawn, others, standing, planRow, planRows, rowFor}
 use Rattle.book.specs.Claims.{PlanBodies}
 use Rattle.book.proofs.SoundLaws.{sound-facts, used-within}
-use Rattle.book.proofs.SplitLaws.{updateCount, sound-split, wide-updates, length-updates}
+use Rattle.book.proofs.SplitLaws.{sound-split, wide-updates, length-updates}
 use Rattle.book.proofs.WriteLaws.{length-marked}
 use Rattle.book.proofs.StandingLaws.{standing-withdrawn, sound-plan-ranges}
 use Rattle.calls.specs.declared.Counts.{Counts}
 use Rattle.calls.specs.Answers.{isAccepted}
-use Rattle.calls.specs.Withdraw.{keysNamed, rowsWithout, withdrawAnswer, bookWithout, tableWithout, withoutBy, withdrawLeaves}
+use Rattle.calls.specs.Withdraw.{rowsWithout, withdrawAnswer, bookWithout, tableWithout, withoutBy, withdrawLeaves}
 use Rattle.calls.specs.Claims.{WithdrawMarksEntries, WithdrawWorksOutAgain}
 use Rattle.calls.proofs.AcceptedLaws.{Left, left}
 use Rattle.calls.proofs.TakenLaws.{IsBody, IsRow, keeps, whole}

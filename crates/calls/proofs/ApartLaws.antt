@@ -1,21 +1,17 @@
 -- Rows put one after another are as many as there were exactly where no two have one key; so exactly when an open is accepted. Assumes nothing.
-use Prim.Native.Nat.{ℕ, suc, _+_, _*_, _≤_, _<_}
+use Prim.Native.Nat.{ℕ, suc, _+_, _<_}
 use native.Mathlib.Nat.{add-zero}
 use native.Mathlib.Omega.{arith}
-use mathlib.Core.Path.{_≡_, refl, sym, ap, _∙_, subst}
+use mathlib.Core.Path.{_≡_, sym, ap, _∙_}
 use mathlib.Core.Bool.{true}
 use mathlib.Core.List.{List, [], _∷_}
-use mathlib.Core.Logic.{_⊎_, inl, inr, _↔_}
+use mathlib.Core.Logic.{_⊎_, inl, inr}
 use borrow.Author.Tests.{le-leb, eq-eqb}
 use lib.ListN.{length}
 use Rattle.lists.specs.Each.{Each}
 use Rattle.passage.specs.Layout.{keyOf}
 use Rattle.columns.specs.declared.Table.the-variants as Tables
-use Rattle.reader.specs.declared.Reading.the-variants.{Rows}
-use Rattle.reader.specs.Rules.{readingOf}
 use Rattle.plan.specs.Claims.{Passage}
-use Rattle.keys.specs.declared.Order.the-variants.{Same}
-use Rattle.keys.specs.Keys.{cmp}
 use Rattle.keys.specs.Sorted.{get, put, putAll}
 use Rattle.keys.proofs.KeyLaws.{cmp-same}
 use Rattle.keys.proofs.PutLaws.{get-none, get-put, get-put-other}
@@ -23,7 +19,6 @@ use Rattle.keys.proofs.CountLaws.{length-put-new, length-put-held, put-most, ea
 use Rattle.keys.proofs.EqualLaws.{Filled, filled-not}
 use Rattle.keys.proofs.ReplayLaws.{empty-or}
 use Rattle.table.specs.Rules.{tableRoom}
-use Rattle.book.specs.Entries.{plan-wide}
 use Rattle.book.specs.Rules.{bookRoom}
 use Rattle.calls.specs.Answers.{isAccepted}
 use Rattle.calls.specs.Open.{passagesOf, roomToOpen, openAnswer}

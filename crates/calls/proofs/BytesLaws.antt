@@ -1,14 +1,12 @@
 -- Demand 2: every byte that an accepted message leaves, and the table's bytes after a withdrawal. Assumes nothing.
 use Prim.Native.Nat.{ℕ, _+_, _*_, _≤_, _<_}
 use native.Mathlib.Omega.{arith}
-use mathlib.Core.Path.{_≡_, refl, sym, ap, _∙_}
+use mathlib.Core.Path.{_≡_, refl, ap, _∙_}
 use mathlib.Core.Bool.{true}
 use mathlib.Core.List.{List, [], _∷_, _++_, map}
 use borrow.Author.Tests.{eq-eqb, ne-eqb}
-use lib.Dec.{eqb}
 use lib.ListN.{length, take, drop}
 use Rattle.lists.specs.BigEndian.{spelled}
-use Rattle.lists.specs.Part.{over}
 use Rattle.lists.specs.Rows.{rowsOf, flat, store, Wide}
 use Rattle.lists.proofs.OverLaws.{over-nil, over-fits}
 use Rattle.lists.proofs.RowLaws.{length-rowsOf}

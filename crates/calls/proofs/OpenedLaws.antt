@@ -1,10 +1,10 @@
 -- Demand 2: what an accepted open went through, and every byte that it leaves. Assumes nothing.
 use Prim.Native.Nat.{ℕ, suc, _+_, _*_, _≤_}
 use native.Mathlib.Omega.{arith}
-use mathlib.Core.Path.{_≡_, refl, sym, ap, _∙_, subst₂}
+use mathlib.Core.Path.{_≡_, refl, ap, _∙_, subst₂}
 use mathlib.Core.Bool.{true}
 use mathlib.Core.List.{List, [], _∷_, _++_, map}
-use mathlib.Core.Logic.{_⊎_, inl, inr, ⊎-elim, _↔_}
+use mathlib.Core.Logic.{_⊎_, inl, inr, ⊎-elim}
 use borrow.Author.Tests.{leb-true, eqb-true}
 use lib.Dec.{eqb, leb}
 use lib.ListN.{length, drop, length-map, length-append}
@@ -34,7 +34,6 @@ use Rattle.book.specs.Entries.{plan-wide, planEntry}
 use Rattle.book.specs.Rules.{planRow, planRows, bookRoom}
 use Rattle.book.proofs.SoundLaws.{room-within}
 use Rattle.calls.specs.declared.Answer.the-variants.{Accepted, BookShort, TableShort, KeyTwice}
-use Rattle.calls.specs.declared.Counts.{Counts}
 use Rattle.calls.specs.Answers.{isAccepted}
 use Rattle.calls.specs.Open.{passagesOf, planOf, roomToOpen, openAnswer, openedBy, openLeaves}
 use Rattle.calls.specs.Claims.{OpenLeavesPlan, PlanExactly, OpenReadsLengths}

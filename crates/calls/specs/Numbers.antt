@@ -7,7 +7,6 @@ use lib.ListN.{length, getD}
 use Rattle.lists.specs.Logic.{Line, firstHeld}
 use Rattle.columns.specs.declared.Table.the-variants as Tables
 use Rattle.reader.specs.Numbers.{readingTable}
-use Rattle.keys.specs.Sorted.{putAll}
 use Rattle.table.specs.Rules.{tableRoom}
 use Rattle.book.specs.Entries.{plan-wide, entry-wide, kindOf, senderOf, updatesIn}
 use Rattle.book.specs.Rules.{bookRoom, messageEntries}

@@ -1,18 +1,18 @@
 -- Withdraw: what is answered, and what becomes of book, table and counts. Assumes nothing.
 use Prim.Native.Nat.{ℕ, _*_}
 use mathlib.Core.Bool.{Bool, _&&_, _||_}
-use mathlib.Core.List.{List, [], _∷_, map}
+use mathlib.Core.List.{List, [], _∷_}
 use lib.Dec.{eqb, leb}
 use lib.ListN.{length}
 use Rattle.lists.specs.Logic.{on}
 use Rattle.lists.specs.Part.{over}
 use Rattle.lists.specs.Rows.{rowsOf, flat, store}
-use Rattle.passage.specs.Layout.{row-wide, keyOf}
+use Rattle.passage.specs.Layout.{row-wide}
 use Rattle.keys.specs.Replay.{reworked}
 use Rattle.update.specs.Rule.{rowRule}
 use Rattle.table.specs.Rules.{tableSound, tableRoom}
-use Rattle.book.specs.Entries.{plan-wide, kindOf, senderOf, entryBody, planCount, planBodies, updatesIn}
-use Rattle.book.specs.Rules.{bookSound, messageEntries, withdrawn, rowFor}
+use Rattle.book.specs.Entries.{plan-wide, kindOf, senderOf, planCount, planBodies, updatesIn}
+use Rattle.book.specs.Rules.{bookSound, messageEntries, keysNamed, withdrawn, rowFor}
 use Rattle.calls.specs.declared.Answer.{Answer}
 use Rattle.calls.specs.declared.Answer.the-variants.{Accepted, Unsound, TableShort, NoMessage, AlreadyWithdrawn, OtherSender}
 use Rattle.calls.specs.declared.Counts.{Counts}
@@ -21,10 +21,6 @@ use Rattle.calls.specs.Leaves.{Leaves, countsOf, dayOf, leavesBy}
 -- 1: what a withdrawal is lent
 unfoldable pub withdrawSound : List ℕ → List ℕ → Counts → Bool
 withdrawSound book table c = bookSound (c .used) book && tableSound (c .rows) table
-
--- the keys that these entries name
-unfoldable pub keysNamed : List (List ℕ) → List (List ℕ)
-keysNamed es = map (λ (e : List ℕ). keyOf (entryBody e)) es
 
 -- each passage that message n names is worked out again from the book in which the message is withdrawn
 unfoldable pub rowsWithout : ℕ → List ℕ → ℕ → List ℕ → ℕ → List (List ℕ)

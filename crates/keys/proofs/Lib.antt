@@ -8,5 +8,6 @@ pub mod CountLaws
 pub mod ReplayLaws
 pub mod StrideLaws
 pub mod RiseLaws
+pub mod KeptLaws
 pub mod Claims
 pub mod Determined

@@ -1,5 +1,6 @@
 pub mod Keys
 pub mod Sorted
 pub mod Replay
+pub mod Kept
 pub mod Claims
 pub mod Cases

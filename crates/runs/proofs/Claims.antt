@@ -1,7 +1,7 @@
 -- The claims of `specs/Claims.antt`. Assumes nothing.
 use mathlib.Core.Path.{_≡_, refl, sym, ap, ap₂, _∙_, subst, subst₂}
 use mathlib.Core.Bool.{Bool, true, false}
-use mathlib.Core.List.{List, [], _∷_, _++_, map}
+use mathlib.Core.List.{List, [], _∷_}
 use Prim.Native.Nat.{ℕ, zero, suc, _+_, _<_}
 use native.Mathlib.Nat.{zero-add}
 use native.Mathlib.Omega.{arith}
@@ -16,18 +16,18 @@ use Rattle.calls.specs.Withdraw.{withoutBy, withdrawLeaves}
 use Rattle.calls.specs.Open.{openedBy, openLeaves}
 use Rattle.calls.specs.Leaves.{Day}
 use Rattle.runs.specs.Runs.{Call, Reply, replyTo, isListed, isDone, after, opened, Taken, Deed, deedOf, noted, Begun, begunBy, begunIf, dayAfter, logAfter, begunAfter}
-use Rattle.runs.specs.Claims.{AfterRuns, Sound, CallsKeepSound, TableIsReplay, rowsIn, SameStandingSameRows, AsIfNever, SameRowsSameBoards, NumberedInOrder, RefusedChangesNothing, BoardsChangeNothing, All}
+use Rattle.runs.specs.Claims.{AfterRuns, Sound, CallsKeepSound, Agrees, CallsKeepAgreeing, TableIsReplay, rowsIn, SameStandingSameRows, AsIfNever, SameRowsSameBoards, NumberedInOrder, RefusedChangesNothing, BoardsChangeNothing, All}
 use Rattle.board.specs.declared.Listing.the-variants.{OutOfRange, Unsound}
 use Rattle.board.specs.Rules.{listed, boardOf, boardWith, fitted, boardLeaves}
 use Rattle.board_show.specs.Ask.{Question, asksInRange}
 use Rattle.board_show.specs.Show.{shows}
 use Rattle.runs.proofs.LogLaws.{NotedFrom}
 use Rattle.runs.proofs.NeverLaws.{same-standing}
-use Rattle.runs.proofs.FollowLaws.{Follows}
-use Rattle.runs.proofs.MessageLaws.{message-follows, next-is}
-use Rattle.runs.proofs.WithdrawLaws.{withdraw-follows}
+use Rattle.runs.proofs.FollowLaws.{Holds, Follows, rows-replayed}
+use Rattle.runs.proofs.MessageLaws.{message-holds, next-is}
+use Rattle.runs.proofs.WithdrawLaws.{withdraw-holds}
 use Rattle.runs.proofs.OpenLaws.{open-follows}
-use Rattle.runs.proofs.SoundLaws.{accepted-sound}
+use Rattle.runs.proofs.SoundLaws.{accepted-sound, accepted-agrees}
 
 -- ---- a refused call
 
@@ -55,12 +55,16 @@ refused (Call.look question places) x e = (refl, rw e)
 abbrev FollowsFrom : Begun → Day → List Taken → Type 0
 FollowsFrom begun x log = Follows (begun .plan) (begun .lent) x log
 
+accepted-holds : (call : Call) (x : Day) (begun : Begun) (log : List Taken) → FollowsFrom begun x log → isDone (replyTo call x) ≡ true
+    → Holds (begunIf true call x begun .plan) (begunIf true call x begun .lent) (after call x) (noted (deedOf call (replyTo call x)) log)
+accepted-holds (Call.reopen planning calendar) x begun log f e = rw e (open-follows planning calendar (x .book) (x .table) (x .counts) e .holds)
+accepted-holds (Call.message d sender register) x begun log f e = message-holds d sender register x e (begun .plan) (begun .lent) log (f .agrees .0 .0) (f .holds)
+accepted-holds (Call.withdraw n sender) x begun log f e = withdraw-holds n sender x e (begun .plan) (begun .lent) log (f .agrees .0 .0) (f .holds)
+accepted-holds (Call.look question places) x begun log f e = rw e (f .holds)
+
 accepted-follows : (call : Call) (x : Day) (begun : Begun) (log : List Taken) → FollowsFrom begun x log → isDone (replyTo call x) ≡ true
     → FollowsFrom (begunIf true call x begun) (after call x) (noted (deedOf call (replyTo call x)) log)
-accepted-follows (Call.reopen planning calendar) x begun log f e = rw e (open-follows planning calendar (x .book) (x .table) (x .counts) e)
-accepted-follows (Call.message d sender register) x begun log f e = message-follows d sender register x e (begun .plan) (begun .lent) log f
-accepted-follows (Call.withdraw n sender) x begun log f e = withdraw-follows n sender x e (begun .plan) (begun .lent) log f
-accepted-follows (Call.look question places) x begun log f e = rw e f
+accepted-follows call x begun log f e = record { agrees = accepted-agrees call x (f .agrees) e; holds = accepted-holds call x begun log f e }
 
 call-follows : (call : Call) (x : Day) (begun : Begun) (log : List Taken) → FollowsFrom begun x log
     → FollowsFrom (begunIf (isDone (replyTo call x)) call x begun) (after call x) (noted (deedOf call (replyTo call x)) log)
@@ -81,7 +85,7 @@ follows planning calendar book table c calls e =
     run-follows calls (opened planning calendar book table c) (begunBy planning calendar book) [] (open-follows planning calendar book table c e)
 
 table-replay : TableIsReplay
-table-replay planning calendar book table c calls e = follows planning calendar book table c calls e .rows-are
+table-replay planning calendar book table c calls e = rows-replayed _ _ _ _ (follows planning calendar book table c calls e)
 
 same-rows : SameStandingSameRows
 same-rows planning calendar book table planning′ calendar′ book′ table′ c c′ calls calls′ e e′ p h =
@@ -106,9 +110,9 @@ board-of-rows question places x e = rw e
 same-boards : SameRowsSameBoards
 same-boards planning calendar book table planning′ calendar′ book′ table′ c c′ calls calls′ a a′ question places h =
     ap Reply.showed
-    (board-of-rows question places (dayAfter calls (opened planning calendar book table c)) (follows planning calendar book table c calls a .table-sound)
+    (board-of-rows question places (dayAfter calls (opened planning calendar book table c)) (follows planning calendar book table c calls a .agrees .0 .1)
     ∙ ap (λ (rs : List (List ℕ)). on (asksInRange question) (fitted (listed (shows question) rs) places) (boardWith OutOfRange places)) h
-    ∙ sym (board-of-rows question places (dayAfter calls′ (opened planning′ calendar′ book′ table′ c′)) (follows planning′ calendar′ book′ table′ c′ calls′ a′ .table-sound)))
+    ∙ sym (board-of-rows question places (dayAfter calls′ (opened planning′ calendar′ book′ table′ c′)) (follows planning′ calendar′ book′ table′ c′ calls′ a′ .agrees .0 .1)))
 
 boards-nothing : BoardsChangeNothing
 unfolding boardLeaves
@@ -130,7 +134,7 @@ in-order n (m ∷ log) h (suc k) none l = let i = in-order (suc n) log (h .1) k 
 
 numbered-in-order : NumberedInOrder
 numbered-in-order planning calendar book table c calls e k none l =
-    in-order 0 (logAfter calls (opened planning calendar book table c) []) (follows planning calendar book table c calls e .numbered) k none l ∙ ap suc (zero-add k)
+    in-order 0 (logAfter calls (opened planning calendar book table c) []) (follows planning calendar book table c calls e .holds .numbered) k none l ∙ ap suc (zero-add k)
 
 calls-keep-sound : CallsKeepSound
 calls-keep-sound call x s = go (isDone (replyTo call x)) refl
@@ -139,17 +143,25 @@ calls-keep-sound call x s = go (isDone (replyTo call x)) refl
     go true e = accepted-sound call x s e
     go false e = subst Sound (sym (refused call x e .0)) s
 
+calls-keep-agreeing : CallsKeepAgreeing
+calls-keep-agreeing call x a = go (isDone (replyTo call x)) refl
+  where
+    go : (t : Bool) → isDone (replyTo call x) ≡ t → Agrees (after call x)
+    go true e = accepted-agrees call x a e
+    go false e = subst Agrees (sym (refused call x e .0)) a
+
 pub claims : All
 claims = (
-  λ planning calendar book table c calls e. let f = follows planning calendar book table c calls e in (f .book-is, f .used-is),
-  λ planning calendar book table c calls e. let f = follows planning calendar book table c calls e in (f .book-sound, f .table-sound),
+  λ planning calendar book table c calls e. let f = follows planning calendar book table c calls e .holds in (f .book-is, f .used-is),
+  λ planning calendar book table c calls e. follows planning calendar book table c calls e .agrees .0,
   calls-keep-sound,
+  calls-keep-agreeing,
   table-replay,
   same-rows,
   as-if-never,
   same-boards,
   numbered-in-order,
-  λ planning calendar book table c calls e. next-is _ _ _ _ (follows planning calendar book table c calls e),
+  λ planning calendar book table c calls e. next-is _ _ _ _ (follows planning calendar book table c calls e .holds),
   refused,
   boards-nothing,
 )

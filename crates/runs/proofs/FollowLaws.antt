@@ -1,37 +1,45 @@
--- A day that follows a plan and a log, and how each call keeps it so. Assumes nothing.
-use mathlib.Core.Path.{_≡_, sym, ap, _∙_}
-use mathlib.Core.Bool.{true}
+-- What holds after a run, in two parts: the table agrees with the book, and the book holds the plan and the log. Assumes nothing.
+use mathlib.Core.Path.{_≡_, sym, ap, ap₂, _∙_}
 use mathlib.Core.List.{List, [], _∷_, _++_, map, append-assoc}
 use Prim.Native.Nat.{ℕ, _+_, _*_, _≤_}
 use native.Mathlib.Omega.{arith}
 use lib.ListN.{length, length-append, length-map}
 use Rattle.lists.specs.Each.{Each}
 use Rattle.lists.specs.Part.{over}
-use Rattle.lists.specs.Rows.{rowsOf, flat, Wide, store}
+use Rattle.lists.specs.Rows.{flat, Wide}
 use Rattle.lists.proofs.OverLaws.{over-then, over-longer}
 use Rattle.lists.proofs.WideLaws.{length-flat}
-use Rattle.lists.proofs.StoreLaws.{rowsOf-store}
-use Rattle.passage.specs.Layout.{body-wide, row-wide}
-use Rattle.table.specs.Rules.{tableSound, tableRoom}
-use Rattle.table.proofs.SoundLaws.{each-range, room-holds, sound-stored}
+use Rattle.passage.specs.Layout.{body-wide}
+use Rattle.keys.specs.Replay.{takenAll}
+use Rattle.update.specs.Rule.{rowRule}
 use Rattle.book.specs.Entries.{plan-wide, entry-wide, planEntry, planCount, plansIn, planBodies, updatesIn}
-use Rattle.book.specs.Rules.{bookSound}
+use Rattle.book.specs.Rules.{standing, planRows}
 use Rattle.book.proofs.PlanLaws.{length-bodies}
 use Rattle.calls.specs.Leaves.{Day}
 use Rattle.runs.specs.Runs.{Taken, logEntries, logStanding}
-use Rattle.runs.proofs.LogLaws.{each-so, Update, NotedFrom, log-wide}
-use Rattle.runs.proofs.RowsLaws.{Planned, IsPlan, Row, replay, replay-sorted, replay-rows}
+use Rattle.runs.specs.Claims.{rowsIn, Agrees}
+use Rattle.runs.proofs.LogLaws.{NotedFrom, log-wide, log-standing}
+use Rattle.runs.proofs.RowsLaws.{Planned, IsPlan, replay}
 
-pub record Follows (plan : List (List ℕ)) (lent : List ℕ) (x : Day) (log : List Taken) : Type 0 where
+-- the book holds the plan and the log
+pub record Holds (plan : List (List ℕ)) (lent : List ℕ) (x : Day) (log : List Taken) : Type 0 where
   pub is-plan : IsPlan plan
   pub numbered : NotedFrom 0 log
   pub book-is : x .book ≡ over 0 (flat (map planEntry plan) ++ flat (logEntries log)) lent
   pub used-is : x .counts .used ≡ length plan * plan-wide + length (logEntries log) * entry-wide
-  pub book-sound : bookSound (x .counts .used) (x .book) ≡ true
   pub plans : planBodies (x .counts .used) (x .book) ≡ plan
   pub updates : updatesIn (x .counts .used) (x .book) ≡ logEntries log
-  pub table-sound : tableSound (x .counts .rows) (x .table) ≡ true
-  pub rows-are : rowsOf row-wide (x .counts .rows) (x .table) ≡ replay plan (logStanding log)
+
+-- both parts
+pub record Follows (plan : List (List ℕ)) (lent : List ℕ) (x : Day) (log : List Taken) : Type 0 where
+  pub agrees : Agrees x
+  pub holds : Holds plan lent x log
+
+-- so the rows are the replay of the plan and of the log's standing rows
+pub rows-replayed : (plan : List (List ℕ)) (lent : List ℕ) (x : Day) (log : List Taken) → Follows plan lent x log → rowsIn x ≡ replay plan (logStanding log)
+rows-replayed plan lent x log f =
+    f .agrees .1
+    ∙ ap₂ (λ (us bodies : List (List ℕ)). takenAll rowRule us (planRows bodies)) (ap standing (f .holds .updates) ∙ log-standing 0 log (f .holds .numbered)) (f .holds .plans)
 
 -- ---- bytes of the book
 
@@ -63,18 +71,3 @@ write-again at p l m b h k =
 pub plan-count : (used : ℕ) (b : List ℕ) → length (planBodies used b) ≡ planCount used b
 unfolding plansIn
 plan-count used b = length-bodies (planCount used b) b
-
--- ---- the table that is stored
-
-module _ (plan us rs : List (List ℕ)) (p : IsPlan plan) (updates : Each Update us) (e : rs ≡ replay plan us) (n : ℕ) (t : List ℕ) (h : length rs ≤ tableRoom t) where
-  all-rows : Each Row rs
-  all-rows = rw e (replay-rows plan us p updates)
-
-  all-wide : Wide row-wide rs
-  all-wide = each-so (λ r q. q .0) rs all-rows
-
-  pub stored-sound : tableSound (length rs) (store row-wide n rs t) ≡ true
-  stored-sound = sound-stored n rs t all-wide h (each-range rs (each-so (λ r q. q .1) rs all-rows)) (rw e (replay-sorted plan us p updates))
-
-  pub stored-rows : rowsOf row-wide (length rs) (store row-wide n rs t) ≡ replay plan us
-  stored-rows = rowsOf-store row-wide n rs t all-wide (room-holds (length rs) t h) ∙ e

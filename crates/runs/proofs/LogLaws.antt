@@ -1,7 +1,7 @@
 -- What a log says, as the book has it: its entries, its standing rows, the next number, and a message struck out. Assumes nothing.
 use mathlib.Core.Path.{_≡_, refl, sym, ap, _∙_}
 use mathlib.Core.Bool.{Bool, true, false}
-use mathlib.Core.List.{List, [], _∷_, _++_, map, map-append, append-assoc, append-nil}
+use mathlib.Core.List.{List, [], _∷_, _++_, map, append-assoc, append-nil}
 use Prim.Native.Nat.{ℕ, suc, _+_, _^_, _≤_, _<_}
 use native.Mathlib.Nat.{add-zero, add-suc, suc-add}
 use native.Mathlib.Omega.{arith}
@@ -9,21 +9,16 @@ use lib.Dec.{eqb}
 use lib.ListN.{length, length-append, length-map}
 use Rattle.lists.specs.Logic.{on}
 use Rattle.lists.specs.Each.{Each}
-use Rattle.lists.specs.Text.{same}
 use Rattle.lists.specs.Rows.{Wide}
 use Rattle.lists.proofs.EachLaws.{each-append}
-use Rattle.lists.proofs.LogicLaws.{or-fail}
-use Rattle.passage.specs.Layout.{body-wide, keyOf}
+use Rattle.passage.specs.Layout.{body-wide}
 use Rattle.passage.specs.Ranges.{updateInRange}
-use Rattle.keys.specs.Replay.{Rule, replayed}
-use Rattle.keys.proofs.ReplayLaws.{replayed-append, replayed-skip, among, among-append}
-use Rattle.book.specs.Entries.{entry-wide, numberOf, entryBody, entriesOf}
-use Rattle.book.specs.Rules.{withdrawn, messageEntries, standing, noEntry, lastFrom, nextNumber}
+use Rattle.book.specs.Entries.{entry-wide, numberOf, entriesOf}
+use Rattle.book.specs.Rules.{withdrawn, standing, noEntry, lastFrom, nextNumber}
 use Rattle.book.proofs.NumberLaws.{no-number}
 use Rattle.book.proofs.StandingLaws.{standing-append}
-use Rattle.calls.specs.Withdraw.{keysNamed}
 use Rattle.runs.specs.Runs.{Taken, undone, struck, takenEntries, logEntries, logStanding}
-use Rattle.runs.proofs.EntryLaws.{entryAs, entriesAs, entries-standing, entries-marked, entries-wide, entry-body, standing-as, withdrawn-as, entries-of, last-as, withdrawn-append, entries-append, last-append}
+use Rattle.runs.proofs.EntryLaws.{entriesAs, entries-standing, entries-marked, entries-wide, standing-as, withdrawn-as, last-as, withdrawn-append, last-append}
 
 -- an update as a message has it
 abbrev pub Update : List ℕ → Type 0
@@ -193,52 +188,3 @@ last-number k (m ∷ log) e h i =
 pub log-next : (log : List Taken) → NotedFrom 0 log → nextNumber (logEntries log) ≡ suc (length log)
 unfolding nextNumber
 log-next log h = let e = last-number 0 log noEntry h no-number in omega arith
-
--- ---- keys that a message does not name
-
-named-append : (xs ys : List (List ℕ)) → keysNamed (xs ++ ys) ≡ keysNamed xs ++ keysNamed ys
-unfolding keysNamed
-named-append xs ys = map-append (λ (e : List ℕ). keyOf (entryBody e)) xs ys
-
-module _ (kind n sender : ℕ) (k : List ℕ) where
-  others : (bodies : List (List ℕ)) → Wide body-wide bodies → among k (keysNamed (entriesAs kind n sender bodies)) ≡ false → Each (λ (u : List ℕ). same (keyOf u) k ≡ false) bodies
-  unfolding among keysNamed
-  others [] h e = tt
-  others (b ∷ bodies) h e =
-      let f = or-fail (same (keyOf (entryBody (entryAs kind n sender b))) k) (among k (keysNamed (entriesAs kind n sender bodies))) e in
-      (ap (λ (l : List ℕ). same (keyOf l) k) (sym (entry-body kind n sender b (h .0))) ∙ f .0, others bodies (h .1) (f .1))
-
--- a key that message n does not name has the same row whether the message is struck out or not
-pub struck-skips : (rule : Rule) (n j : ℕ) (log : List Taken) (k held : List ℕ) → NotedFrom j log → among k (keysNamed (messageEntries n (logEntries log))) ≡ false
-    → replayed rule k held (logStanding (map (struck n) log)) ≡ replayed rule k held (logStanding log)
-unfolding logEntries logStanding
-struck-skips rule n j [] k held h e = refl
-struck-skips rule n j (m ∷ log) k held h e =
-    replayed-append rule k held (on (struck n m .stands) (struck n m .bodies) []) (logStanding (map (struck n) log))
-    ∙ ap (λ (l : List ℕ). replayed rule k l (logStanding (map (struck n) log))) (one (eqb (m .number) n) refl)
-    ∙ struck-skips rule n (suc j) log k (replayed rule k held (on (m .stands) (m .bodies) [])) (h .1) (both-out .1)
-    ∙ sym (replayed-append rule k held (on (m .stands) (m .bodies) []) (logStanding log))
-  where
-    both-out : (among k (keysNamed (messageEntries n (takenEntries m))) ≡ false) × (among k (keysNamed (messageEntries n (logEntries log))) ≡ false)
-    both-out =
-        or-fail (among k (keysNamed (messageEntries n (takenEntries m)))) (among k (keysNamed (messageEntries n (logEntries log))))
-        (sym (among-append k (keysNamed (messageEntries n (takenEntries m))) (keysNamed (messageEntries n (logEntries log))))
-        ∙ ap (among k) (sym (named-append (messageEntries n (takenEntries m)) (messageEntries n (logEntries log))))
-        ∙ ap (λ (l : List (List ℕ)). among k (keysNamed l)) (sym (entries-append n (takenEntries m) (logEntries log)))
-        ∙ e)
-
-    mine : messageEntries n (takenEntries m) ≡ on (eqb (m .number) n) (entriesAs (kindFor (m .stands)) (m .number) (m .sender) (m .bodies)) []
-    mine = ap (messageEntries n) (taken-entries m) ∙ entries-of (kindFor (m .stands)) (m .number) (m .sender) (h .0 .fits) n (m .bodies)
-
-    skip : (t : Bool) → Each (λ (u : List ℕ). same (keyOf u) k ≡ false) (m .bodies) → replayed rule k held [] ≡ replayed rule k held (on t (m .bodies) [])
-    skip true o = replayed-skip rule k held [] tt ∙ sym (replayed-skip rule k held (m .bodies) o)
-    skip false o = refl
-
-    one : (t : Bool) → eqb (m .number) n ≡ t
-        → replayed rule k held (on (on t (undone m) m .stands) (on t (undone m) m .bodies) [])
-        ≡ replayed rule k held (on (m .stands) (m .bodies) [])
-    one false f = refl
-    one true f =
-        skip (m .stands)
-        (others (kindFor (m .stands)) (m .number) (m .sender) k (m .bodies) (updates-wide (m .bodies) (h .0 .updates))
-        (ap (λ (l : List (List ℕ)). among k (keysNamed l)) (sym (mine ∙ ap (λ (t : Bool). on t (entriesAs (kindFor (m .stands)) (m .number) (m .sender) (m .bodies)) []) f)) ∙ both-out .0))

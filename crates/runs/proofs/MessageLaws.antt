@@ -1,4 +1,4 @@
--- A message that is accepted keeps the day with its plan and log. Assumes nothing.
+-- A message that is accepted keeps the book with its plan and log. Assumes nothing.
 use mathlib.Core.Path.{_≡_, refl, sym, ap, _∙_, subst, subst₂}
 use mathlib.Core.Bool.{true}
 use mathlib.Core.List.{List, [], _∷_, _++_, map}
@@ -23,23 +23,20 @@ use Rattle.reader.specs.Rules.{readingOf, itemsOf}
 use Rattle.reader.proofs.RangeLaws.{rows-in-range}
 use Rattle.reader.proofs.AnswerLaws.{rows-counted, accepted-each, desk-nothing}
 use Rattle.keys.specs.Replay.{takenAll}
-use Rattle.keys.proofs.ReplayLaws.{each-both, takenAll-append}
-use Rattle.update.specs.Rule.{rowRule}
-use Rattle.table.specs.Rules.{tableRoom}
+use Rattle.keys.proofs.ReplayLaws.{each-both}
 use Rattle.book.specs.Entries.{entry-wide, planEntry, entriesOf, updatesIn}
-use Rattle.book.specs.Rules.{bookRoom, nextNumber, planRows}
+use Rattle.book.specs.Rules.{bookRoom, bookSound, nextNumber}
 use Rattle.book.proofs.SoundLaws.{sound-facts, used-within}
 use Rattle.book.proofs.WriteLaws.{length-entriesOf}
 use Rattle.book.proofs.AfterLaws.{after-message}
 use Rattle.calls.specs.Answers.{isAccepted}
-use Rattle.calls.specs.Message.{messageRows, numberFor, rowsTaken, messageAnswer, bookTaking, tableTaking, countsTaking, takenBy, messageLeaves}
+use Rattle.calls.specs.Message.{messageRows, numberFor, messageAnswer, bookTaking, tableTaking, countsTaking, takenBy, messageLeaves}
 use Rattle.calls.proofs.AcceptedLaws.{Passed, passed, passes}
 use Rattle.calls.proofs.TakenLaws.{IsBody, message-wide}
 use Rattle.calls.specs.Leaves.{Day}
-use Rattle.runs.specs.Runs.{Call, replyTo, after, Taken, Deed, deedOf, noted, logEntries, logStanding}
-use Rattle.runs.proofs.LogLaws.{Update, NotedFrom, noted-append, log-more, standing-more, log-least, log-next, standing-updates}
-use Rattle.runs.proofs.RowsLaws.{replay}
-use Rattle.runs.proofs.FollowLaws.{Follows, length-plans, length-log, write-behind, stored-sound, stored-rows}
+use Rattle.runs.specs.Runs.{Call, replyTo, after, Taken, Deed, deedOf, noted, logEntries}
+use Rattle.runs.proofs.LogLaws.{Update, noted-append, log-more, log-least, log-next}
+use Rattle.runs.proofs.FollowLaws.{Holds, length-plans, length-log, write-behind}
 
 -- the day once the bodies of a message are taken
 abbrev pub takes : List (List ℕ) → ℕ → Day → Day
@@ -64,7 +61,7 @@ takes-none sender x =
     let r = sym (length-rowsOf row-wide (x .counts .rows) (x .table)) in
     λ i. record { book = b i; table = t i; counts = record { used = u i; rows = r i } }
 
-module _ (plan : List (List ℕ)) (lent : List ℕ) (x : Day) (log : List Taken) (f : Follows plan lent x log) where
+module _ (plan : List (List ℕ)) (lent : List ℕ) (x : Day) (log : List Taken) (f : Holds plan lent x log) where
   -- the number of a message with rows
   abbrev next : ℕ
   next = nextNumber (updatesIn (x .counts .used) (x .book))
@@ -72,36 +69,26 @@ module _ (plan : List (List ℕ)) (lent : List ℕ) (x : Day) (log : List Taken)
   pub next-is : next ≡ suc (length log)
   next-is = ap nextNumber (f .updates) ∙ log-next log (f .numbered)
 
-  next-fits : next < 256 ^ 4
-  next-fits =
-      let a = next-is in
-      let b = log-least 0 log (f .numbered) in
-      let c = used-within (x .counts .used) (x .book) (sound-facts (x .counts .used) (x .book) (f .book-sound)) .1 in
-      let d = f .used-is in
-      omega arith
+  module _ (sound : bookSound (x .counts .used) (x .book) ≡ true) (bodies : List (List ℕ)) (sender : ℕ) (are : Each Update bodies) (some : 0 < length bodies) (from : 1 ≤ sender)
+      (room : x .counts .used + length bodies * entry-wide ≤ bookRoom (x .book)) where
+    next-fits : next < 256 ^ 4
+    next-fits =
+        let a = next-is in
+        let b = log-least 0 log (f .numbered) in
+        let c = used-within (x .counts .used) (x .book) (sound-facts (x .counts .used) (x .book) sound) .1 in
+        let d = f .used-is in
+        omega arith
 
-  module _ (bodies : List (List ℕ)) (sender : ℕ) (are : Each Update bodies) (some : 0 < length bodies) (from : 1 ≤ sender)
-      (book-room : x .counts .used + length bodies * entry-wide ≤ bookRoom (x .book)) (table-room : length (rowsTaken bodies (x .table) (x .counts .rows)) ≤ tableRoom (x .table)) where
     abbrev more : List Taken
     more = log ++ record { number = next; sender = sender; bodies = bodies; stands = true } ∷ []
 
-    more-numbered : NotedFrom 0 more
-    more-numbered = noted-append 0 log _ (f .numbered) record { follows = next-is ∙ ap suc (sym (zero-add (length log))); fits = next-fits; filled = some; updates = are }
-
-    more-rows : rowsTaken bodies (x .table) (x .counts .rows) ≡ replay plan (logStanding more)
-    more-rows =
-        ap (takenAll rowRule bodies) (f .rows-are)
-        ∙ sym (takenAll-append rowRule (logStanding log) bodies (planRows plan))
-        ∙ ap (λ (us : List (List ℕ)). replay plan us) (sym (standing-more log next sender bodies))
-
-    more-follows : Follows plan lent (takes bodies sender x) more
-    unfolding bookTaking tableTaking
-    more-follows =
-        let b = after-message (x .counts .used) (x .book) (f .book-sound) sender bodies are from book-room in
-        let us = standing-updates 0 more more-numbered in
+    more-holds : Holds plan lent (takes bodies sender x) more
+    unfolding bookTaking
+    more-holds =
+        let b = after-message (x .counts .used) (x .book) sound sender bodies are from room in
         record {
           is-plan = f .is-plan;
-          numbered = more-numbered;
+          numbered = noted-append 0 log _ (f .numbered) record { follows = next-is ∙ ap suc (sym (zero-add (length log))); fits = next-fits; filled = some; updates = are };
           book-is =
               ap (over (x .counts .used) (flat (entriesOf next sender bodies))) (f .book-is)
               ∙ write-behind (x .counts .used) (flat (map planEntry plan)) (flat (logEntries log)) (flat (entriesOf next sender bodies)) lent
@@ -112,11 +99,8 @@ module _ (plan : List (List ℕ)) (lent : List ℕ) (x : Day) (log : List Taken)
               let m = length-entriesOf next sender bodies in
               let u = f .used-is in
               omega arith;
-          book-sound = b .0;
           plans = b .2 ∙ f .plans;
           updates = b .3 ∙ ap (λ (l : List (List ℕ)). l ++ entriesOf next sender bodies) (f .updates) ∙ sym (log-more log next sender bodies);
-          table-sound = stored-sound plan (logStanding more) _ (f .is-plan) us more-rows (x .counts .rows) (x .table) table-room;
-          rows-are = stored-rows plan (logStanding more) _ (f .is-plan) us more-rows (x .counts .rows) (x .table) table-room;
         }
 
 -- ---- the call
@@ -157,15 +141,15 @@ module _ (d : List ℕ) (sender : ℕ) (register : List ℕ) (x : Day) where
     log-after : (log : List Taken) → notes (numberFor sent (x .counts .used) (x .book)) sender sent log ≡ noted (deedOf call (replyTo call x)) log
     log-after log = rw (passes d register (x .book) (x .table) sender (x .counts) went)
 
-    pub message-follows : (plan : List (List ℕ)) (lent : List ℕ) (log : List Taken) → Follows plan lent x log
-        → Follows plan lent (after call x) (noted (deedOf call (replyTo call x)) log)
-    message-follows plan lent log f = subst₂ (Follows plan lent) day-after (log-after log) (go sent refl)
+    pub message-holds : (plan : List (List ℕ)) (lent : List ℕ) (log : List Taken) → bookSound (x .counts .used) (x .book) ≡ true → Holds plan lent x log
+        → Holds plan lent (after call x) (noted (deedOf call (replyTo call x)) log)
+    message-holds plan lent log sound f = subst₂ (Holds plan lent) day-after (log-after log) (go sent refl)
       where
-        go : (bodies : List (List ℕ)) → sent ≡ bodies → Follows plan lent (takes sent sender x) (notes (numberFor sent (x .counts .used) (x .book)) sender sent log)
-        go [] h = rw h (subst (λ (y : Day). Follows plan lent y log) (takes-none sender x) f)
+        go : (bodies : List (List ℕ)) → sent ≡ bodies → Holds plan lent (takes sent sender x) (notes (numberFor sent (x .counts .used) (x .book)) sender sent log)
+        go [] h = rw h (subst (λ (y : Day). Holds plan lent y log) (takes-none sender x) f)
         go (b ∷ l) h =
             let some : 0 < length sent = rw h (omega arith) in
             let k : length sent ≡ 0 → ⊥ = λ z. omega arith in
             let m : nextNumber (updatesIn (x .counts .used) (x .book)) ≡ 0 → ⊥ = λ z. let n = next-is plan lent x log f in omega arith in
             rw (ne-eqb (length sent) 0 k, ne-eqb (nextNumber (updatesIn (x .counts .used) (x .book))) 0 m)
-            (more-follows plan lent x log f sent sender sent-updates some (from-sender register d sender (went .rows .0) (went .rows .1) some) (went .in-book) (went .in-table))
+            (more-holds plan lent x log f sound sent sender sent-updates some (from-sender register d sender (went .rows .0) (went .rows .1) some) (went .in-book))

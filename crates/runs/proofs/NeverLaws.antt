@@ -6,9 +6,8 @@ use mathlib.Core.Logic.{_⊎_, inl, inr}
 use Prim.Native.Nat.{ℕ, suc, _-_, _≤_, _<_}
 use native.Mathlib.Omega.{arith}
 use lib.Dec.{eqb, ltb}
-use borrow.Author.Tests.{ltb-true, ltb-false, eqb-true, eqb-false, eq-eqb, ne-eqb}
+use borrow.Author.Tests.{ltb-true, ltb-false, eqb-true, eqb-false, eq-eqb}
 use Rattle.lists.specs.Logic.{on}
-use Rattle.lists.specs.Each.{Each}
 use Rattle.lists.proofs.LogicLaws.{tests-equal}
 use Rattle.calls.specs.Leaves.{Day}
 use Rattle.runs.specs.Runs.{Call, replyTo, after, Taken, undone, struck, Deed, deedOf, noted, andThen, logAfter, deedsAfter, logStanding, oneLess, never}

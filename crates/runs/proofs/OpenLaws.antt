@@ -1,7 +1,7 @@
 -- The day that an accepted open leaves follows its plan, with an empty log. Assumes nothing.
-use mathlib.Core.Path.{_≡_, refl, sym, ap, subst, subst₂}
+use mathlib.Core.Path.{_≡_, sym, ap, ap₂, _∙_, subst, subst₂}
 use mathlib.Core.Bool.{true}
-use mathlib.Core.List.{List, [], _∷_, map, append-nil}
+use mathlib.Core.List.{List, [], map, append-nil}
 use Prim.Native.Nat.{ℕ, _-_, _*_, _≤_}
 use native.Mathlib.Nat.{zero-mul}
 use native.Mathlib.Omega.{arith}
@@ -13,18 +13,20 @@ use Rattle.passage.specs.Layout.{row-wide}
 use Rattle.keys.specs.Sorted.{sortedRows}
 use Rattle.keys.specs.Replay.{takenAll}
 use Rattle.table.specs.Rules.{tableRoom, tableSound}
-use Rattle.book.specs.Entries.{plan-wide, planEntry}
-use Rattle.book.specs.Rules.{planRows, bookRoom}
+use Rattle.update.specs.Rule.{rowRule}
+use Rattle.book.specs.Entries.{plan-wide, planEntry, planBodies, updatesIn}
+use Rattle.book.specs.Rules.{bookSound, standing, planRows, bookRoom}
 use Rattle.book.proofs.AfterLaws.{after-open}
 use Rattle.calls.specs.declared.Counts.{Counts}
 use Rattle.calls.specs.Answers.{isAccepted}
 use Rattle.calls.specs.Open.{passagesOf, planOf, openAnswer, openedBy, openLeaves}
 use Rattle.calls.proofs.OpenedLaws.{Opened, open-taken, each-putAll, passages-in-range, plan-length, plan-sorted}
 use Rattle.calls.specs.Leaves.{Day}
-use Rattle.runs.specs.Runs.{opened, logEntries, logStanding}
+use Rattle.runs.specs.Runs.{opened, logEntries}
+use Rattle.runs.specs.Claims.{Agrees}
 use Rattle.runs.proofs.LogLaws.{each-so}
-use Rattle.runs.proofs.RowsLaws.{Planned}
-use Rattle.runs.proofs.FollowLaws.{Follows, stored-sound, stored-rows}
+use Rattle.runs.proofs.RowsLaws.{Planned, plan-rows, sorted-plan, rows-stored, stored-read}
+use Rattle.runs.proofs.FollowLaws.{Holds, Follows}
 
 -- rows written from the start on are stored where there were none
 write-store : (w : ℕ) (rs : List (List ℕ)) (t : List ℕ) → store w 0 rs t ≡ over 0 (flat rs) t
@@ -68,22 +70,32 @@ module _ (planning calendar book table : List ℕ) (c : Counts) (e : isAccepted 
   unfolding openLeaves openedBy
   day-opened = rw e
 
-  begins-follows : Follows plan book begins []
-  unfolding logEntries logStanding takenAll flat
-  begins-follows =
-      let b = after-open book plan plan-planned rising plan-book-room in
-      let h : length (planRows plan) ≤ tableRoom table = rw (length-rows, counted) (went .table-room) in
+  after-book : (bookSound (length plan * plan-wide) (begins .book) ≡ true) × (planBodies (length plan * plan-wide) (begins .book) ≡ plan) × (updatesIn (length plan * plan-wide) (begins .book) ≡ [])
+  after-book = after-open book plan plan-planned rising plan-book-room
+
+  begins-holds : Holds plan book begins []
+  unfolding logEntries flat
+  begins-holds =
       record {
         is-plan = (plan-planned, rising);
         numbered = tt;
         book-is = ap (λ (v : List ℕ). over 0 v book) (sym (append-nil (flat (map planEntry plan))));
         used-is = omega arith;
-        book-sound = b .0;
-        plans = b .1;
-        updates = b .2;
-        table-sound = subst₂ (λ (n : ℕ) (t : List ℕ). tableSound n t ≡ true) length-rows (write-store row-wide (planRows plan) table) (stored-sound plan [] (planRows plan) (plan-planned, rising) tt refl 0 table h);
-        rows-are = subst₂ (λ (n : ℕ) (t : List ℕ). rowsOf row-wide n t ≡ planRows plan) length-rows (write-store row-wide (planRows plan) table) (stored-rows plan [] (planRows plan) (plan-planned, rising) tt refl 0 table h);
+        plans = after-book .1;
+        updates = after-book .2;
       }
 
+  begins-agrees : Agrees begins
+  unfolding takenAll standing
+  begins-agrees =
+      let room : length (planRows plan) ≤ tableRoom table = rw (length-rows, counted) (went .table-room) in
+      let rows = plan-rows plan plan-planned in
+      let stored = rows-stored 0 (planRows plan) table rows (sorted-plan plan plan-planned rising) room in
+      let read = stored-read 0 (planRows plan) table rows room in (
+        (after-book .0, subst₂ (λ (n : ℕ) (t : List ℕ). tableSound n t ≡ true) length-rows (write-store row-wide (planRows plan) table) stored),
+        subst₂ (λ (n : ℕ) (t : List ℕ). rowsOf row-wide n t ≡ planRows plan) length-rows (write-store row-wide (planRows plan) table) read
+            ∙ sym (ap₂ (λ (us bodies : List (List ℕ)). takenAll rowRule (standing us) (planRows bodies)) (after-book .2) (after-book .1)),
+      )
+
   pub open-follows : Follows plan book (opened planning calendar book table c) []
-  open-follows = subst (λ (x : Day). Follows plan book x []) day-opened begins-follows
+  open-follows = subst (λ (x : Day). Follows plan book x []) day-opened record { agrees = begins-agrees; holds = begins-holds }

@@ -1,4 +1,4 @@
--- A withdrawal that is accepted keeps the day with its plan and log. Assumes nothing.
+-- A withdrawal that is accepted keeps the book with its plan and log. Assumes nothing.
 use mathlib.Core.Path.{_≡_, sym, ap, _∙_, subst₂}
 use mathlib.Core.Bool.{true}
 use mathlib.Core.List.{List, map}
@@ -8,16 +8,14 @@ use lib.ListN.{length}
 use Rattle.lists.specs.Part.{over}
 use Rattle.lists.specs.Rows.{flat}
 use Rattle.book.specs.Entries.{plan-wide, planEntry, planCount, updatesIn}
-use Rattle.book.specs.Rules.{withdrawn}
+use Rattle.book.specs.Rules.{bookSound, withdrawn}
 use Rattle.calls.specs.Answers.{isAccepted}
 use Rattle.calls.specs.Withdraw.{rowsWithout, withdrawAnswer, bookWithout, tableWithout, withoutBy, withdrawLeaves}
-use Rattle.calls.proofs.AcceptedLaws.{left}
 use Rattle.calls.specs.Leaves.{Day}
-use Rattle.runs.specs.Runs.{Call, replyTo, after, Taken, struck, deedOf, noted, logEntries, logStanding}
-use Rattle.runs.proofs.LogLaws.{NotedFrom, log-struck, log-withdrawn, length-withdrawn, standing-updates}
-use Rattle.runs.proofs.RowsLaws.{replay, rows-struck}
+use Rattle.runs.specs.Runs.{Call, replyTo, after, Taken, struck, deedOf, noted, logEntries}
+use Rattle.runs.proofs.LogLaws.{NotedFrom, log-struck, log-withdrawn, length-withdrawn}
 use Rattle.book.proofs.MarkLaws.{book-less}
-use Rattle.runs.proofs.FollowLaws.{Follows, length-plans, length-log, write-again, plan-count, stored-sound, stored-rows}
+use Rattle.runs.proofs.FollowLaws.{Holds, length-plans, length-log, write-again, plan-count}
 
 module _ (n sender : ℕ) (x : Day) (e : isAccepted (withdrawAnswer n sender (x .book) (x .table) (x .counts)) ≡ true) where
   abbrev call : Call
@@ -42,7 +40,7 @@ module _ (n sender : ℕ) (x : Day) (e : isAccepted (withdrawAnswer n sender (x 
   log-after : (log : List Taken) → map (struck n) log ≡ noted (deedOf call (replyTo call x)) log
   log-after log = rw e
 
-  module _ (plan : List (List ℕ)) (lent : List ℕ) (log : List Taken) (f : Follows plan lent x log) where
+  module _ (plan : List (List ℕ)) (lent : List ℕ) (log : List Taken) (sound : bookSound (x .counts .used) (x .book) ≡ true) (f : Holds plan lent x log) where
     abbrev less : List Taken
     less = map (struck n) log
 
@@ -55,19 +53,13 @@ module _ (n sender : ℕ) (x : Day) (e : isAccepted (withdrawAnswer n sender (x 
     less-length : length (logEntries less) ≡ length (logEntries log)
     less-length = ap length (sym (log-withdrawn n 0 log (f .numbered))) ∙ length-withdrawn n (logEntries log)
 
-    less-rows : without ≡ replay plan (logStanding less)
-    unfolding rowsWithout
-    less-rows = rw (f .plans, f .updates, f .rows-are) (rows-struck plan (f .is-plan) log (f .numbered) n)
-
     plans-end : planCount (x .counts .used) (x .book) * plan-wide ≡ length (flat (map planEntry plan))
     plans-end = ap (λ (m : ℕ). m * plan-wide) (sym (plan-count (x .counts .used) (x .book)) ∙ ap length (f .plans)) ∙ sym (length-plans plan (f .is-plan .0))
 
-    less-follows : Follows plan lent leaves less
-    unfolding bookWithout tableWithout
-    less-follows =
-        let b = book-less (x .counts .used) (x .book) n (f .book-sound) in
-        let us = standing-updates 0 less less-numbered in
-        let h = left (x .book) (x .table) n sender (x .counts) e .in-table in
+    less-holds : Holds plan lent leaves less
+    unfolding bookWithout
+    less-holds =
+        let b = book-less (x .counts .used) (x .book) n sound in
         record {
           is-plan = f .is-plan;
           numbered = less-numbered;
@@ -77,12 +69,9 @@ module _ (n sender : ℕ) (x : Day) (e : isAccepted (withdrawAnswer n sender (x 
               ∙ write-again _ (flat (map planEntry plan)) (flat (logEntries log)) (flat (logEntries less)) lent plans-end
               (let p = length-log log (f .numbered) in let q = length-log less less-numbered in let r = less-length in omega arith);
           used-is = let u = f .used-is in let r = less-length in omega arith;
-          book-sound = b .0;
           plans = b .1 ∙ f .plans;
           updates = b .2 ∙ less-updates;
-          table-sound = stored-sound plan (logStanding less) without (f .is-plan) us less-rows (x .counts .rows) (x .table) h;
-          rows-are = stored-rows plan (logStanding less) without (f .is-plan) us less-rows (x .counts .rows) (x .table) h;
         }
 
-    pub withdraw-follows : Follows plan lent (after call x) (noted (deedOf call (replyTo call x)) log)
-    withdraw-follows = subst₂ (Follows plan lent) day-after (log-after log) less-follows
+    pub withdraw-holds : Holds plan lent (after call x) (noted (deedOf call (replyTo call x)) log)
+    withdraw-holds = subst₂ (Holds plan lent) day-after (log-after log) less-holds

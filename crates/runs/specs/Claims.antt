@@ -11,8 +11,8 @@ use Rattle.passage.specs.Layout.{row-wide}
 use Rattle.keys.specs.Replay.{takenAll}
 use Rattle.update.specs.Rule.{rowRule}
 use Rattle.table.specs.Rules.{tableSound}
-use Rattle.book.specs.Entries.{plan-wide, entry-wide, planEntry, updatesIn}
-use Rattle.book.specs.Rules.{bookSound, nextNumber, planRows}
+use Rattle.book.specs.Entries.{plan-wide, entry-wide, planEntry, planBodies, updatesIn}
+use Rattle.book.specs.Rules.{bookSound, nextNumber, standing, planRows}
 use Rattle.calls.specs.declared.Counts.{Counts}
 use Rattle.calls.specs.Answers.{isAccepted}
 use Rattle.calls.specs.Open.{openAnswer}
@@ -52,11 +52,27 @@ StaysSound =
 abbrev pub CallsKeepSound : Type 0
 CallsKeepSound = (call : Call) (x : Day) → Sound x → Sound (after call x)
 
+-- the rows of a day's table
+abbrev pub rowsIn : Day → List (List ℕ)
+rowsIn x = rowsOf row-wide (x .counts .rows) (x .table)
+
+-- the rows that a day's own book gives: the plan in it, and the updates that stand in it
+abbrev pub rowsByBook : Day → List (List ℕ)
+rowsByBook x = takenAll rowRule (standing (updatesIn (x .counts .used) (x .book))) (planRows (planBodies (x .counts .used) (x .book)))
+
+-- the day is sound, and its table agrees with its book
+abbrev pub Agrees : Day → Type 0
+Agrees x = Sound x × (rowsIn x ≡ rowsByBook x)
+
+-- so it goes on under any call, accepted or refused, whatever the day began with
+abbrev pub CallsKeepAgreeing : Type 0
+CallsKeepAgreeing = (call : Call) (x : Day) → Agrees x → Agrees (after call x)
+
 -- (b) the table's rows are the replay of the plan and the standing rows, byte for byte
 abbrev pub TableIsReplay : Type 0
 TableIsReplay =
     AfterRuns
-    (λ plan book x log. rowsOf row-wide (x .counts .rows) (x .table) ≡ takenAll rowRule (logStanding log) (planRows plan))
+    (λ plan book x log. rowsIn x ≡ takenAll rowRule (logStanding log) (planRows plan))
 
 -- what is known after a run on a day that was opened: the plan, the day, the log, and what the calls did, each since the last open that was accepted
 pub record Run : Type 0 where
@@ -82,10 +98,6 @@ OfTwoRuns P =
     → isAccepted (openAnswer planning calendar book table) ≡ true
     → isAccepted (openAnswer planning′ calendar′ book′ table′) ≡ true
     → P (runOf planning calendar book table c calls) (runOf planning′ calendar′ book′ table′ c′ calls′)
-
--- the rows of a day's table
-abbrev pub rowsIn : Day → List (List ℕ)
-rowsIn x = rowsOf row-wide (x .counts .rows) (x .table)
 
 -- two runs with one plan whose logs have the same standing rows leave the same rows
 abbrev pub SameStandingSameRows : Type 0
@@ -132,5 +144,5 @@ BoardsChangeNothing =
 -- all of these
 abbrev pub All : Type 0
 All =
-    BookIsPlanAndLog × StaysSound × CallsKeepSound × TableIsReplay × SameStandingSameRows × AsIfNever × SameRowsSameBoards × NumberedInOrder × NumbersNeverReturn
+    BookIsPlanAndLog × StaysSound × CallsKeepSound × CallsKeepAgreeing × TableIsReplay × SameStandingSameRows × AsIfNever × SameRowsSameBoards × NumberedInOrder × NumbersNeverReturn
     × RefusedChangesNothing × BoardsChangeNothing

@@ -7,6 +7,7 @@ use Prim.Native.Nat.{ℕ, zero, suc, _+_, _*_, _≤_}
 use native.Mathlib.Numerals.{add-one}
 use native.Mathlib.Omega.{arith}
 use lib.ListN.{length, take}
+use Rattle.book.specs.Rules.{keysNamed}
 use Rattle.lists.specs.Text.{same}
 use Rattle.lists.specs.Part.{part}
 use Rattle.lists.specs.Rows.{rowsOf}
@@ -19,7 +20,6 @@ use Rattle.keys.proofs.KeyLaws.{cmp-same, Cases, cases}
 use Rattle.keys.proofs.ReplayLaws.{among}
 use Rattle.sorting.specs.Rules.{keyAt, keysOf, placed, sortedPlaces}
 use Rattle.book.specs.Entries.{entry-wide, body-at, entryBody}
-use Rattle.calls.specs.Withdraw.{keysNamed}
 use Rattle.withdrawals_replay.specs.inner.Worked.{namesAt}
 use Rattle.withdrawals.proofs.RowsLaws.{or-swap}
 

@@ -26,11 +26,11 @@ use Rattle.sorting.specs.Rules.{keyAt, sortedPlaces}
 use Rattle.sorting.proofs.PlaceLaws.{own-keyAt, length-keysOf}
 use Rattle.sorting.proofs.SortedPlacesLaws.{places-below, places-most, places-sorted}
 use Rattle.book.specs.Entries.{entry-wide, body-at, planCount, plansIn, planBodies, updatesIn}
-use Rattle.book.specs.Rules.{bookSound, messageEntries, withdrawn, standing, planRows, rowFor}
+use Rattle.book.specs.Rules.{keysNamed, bookSound, messageEntries, withdrawn, standing, planRows, rowFor}
 use Rattle.book.proofs.PlanLaws.{wide-bodies}
 use Rattle.book.proofs.SoundLaws.{sound-facts, used-within, plans-within}
 use Rattle.book.proofs.SplitLaws.{wide-updates}
-use Rattle.calls.specs.Withdraw.{keysNamed, rowsWithout, tableWithout}
+use Rattle.calls.specs.Withdraw.{rowsWithout, tableWithout}
 use Rattle.withdrawals_replay.specs.inner.Slots.{slotsOf, settled, weights}
 use Rattle.withdrawals.specs.inner.Steps.{MessageAt, namesIn, workedOut}
 use Rattle.withdrawals_replay.proofs.SlotLaws.{planned-key, wide-standing, wide-withdrawn, worked-key, worked-row, worked-wide}
