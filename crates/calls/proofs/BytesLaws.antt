@@ -23,7 +23,7 @@ use Rattle.book.proofs.SoundLaws.{room-within}
 use Rattle.book.proofs.WriteLaws.{wide-entriesOf, length-entriesOf}
 use Rattle.calls.specs.declared.Counts.{Counts}
 use Rattle.calls.specs.Answers.{numbers, isAccepted}
-use Rattle.calls.specs.Message.{messageRows, numberFor, rowsTaken, bookTaking, tableTaking, countsTaking, messageAnswer, takenBy, messageLeaves}
+use Rattle.calls.specs.Message.{messageRows, nextIn, numberFor, rowsTaken, bookTaking, tableTaking, countsTaking, messageAnswer, takenBy, messageLeaves}
 use Rattle.calls.specs.Withdraw.{rowsWithout, withdrawAnswer, tableWithout, withoutBy, withdrawLeaves}
 use Rattle.calls.specs.Claims.{RowsAreDataLines, MessageNumbered, RowsGoToBook, FreedAndKept, TableFreedAndKept}
 use Rattle.calls.proofs.AcceptedLaws.{passed, passes, sound-parts, left}
@@ -37,10 +37,10 @@ rows-are-lines d = refl
 -- ---- number
 
 -- no rows change nothing
-none-book : (bodies : List (List ℕ)) → length bodies ≡ 0 → (sender : ℕ) (book : List ℕ) (used : ℕ) → bookTaking bodies sender book used ≡ book
+none-book : (n : ℕ) (bodies : List (List ℕ)) → length bodies ≡ 0 → (sender : ℕ) (book : List ℕ) (used : ℕ) → bookTaking n bodies sender book used ≡ book
 unfolding bookTaking entriesOf flat
-none-book [] h sender book used = over-nil used book
-none-book (b ∷ bs) h sender book used = absurd (omega arith)
+none-book n [] h sender book used = over-nil used book
+none-book n (b ∷ bs) h sender book used = absurd (omega arith)
 
 none-table : (bodies : List (List ℕ)) → length bodies ≡ 0 → (table : List ℕ) (n : ℕ) → tableTaking bodies table n ≡ table
 unfolding tableTaking takenAll
@@ -69,7 +69,7 @@ message-numbered d register book table sender c e =
       λ h. (
         n ∙ number-none (messageRows d) (c .used) book h,
         rw e (none-counts (messageRows d) h table c),
-        rw e (none-book (messageRows d) h sender book (c .used)),
+        rw e (none-book (nextIn (c .used) book) (messageRows d) h sender book (c .used)),
         rw e (none-table (messageRows d) h table (c .rows)),
       ),
       λ h. n ∙ number-some (messageRows d) (c .used) book h,
@@ -81,12 +81,11 @@ entries-are : (n sender : ℕ) (bodies : List (List ℕ)) → entriesOf n sender
 unfolding entriesOf entryOf
 entries-are n sender bodies = refl
 
-book-taken : (bodies : List (List ℕ)) (sender : ℕ) (book : List ℕ) (used : ℕ) → Wide body-wide bodies → used + length bodies * entry-wide ≤ bookRoom book
-    → bookTaking bodies sender book used
-    ≡ take used book ++ (flat (map (λ (row : List ℕ). 2 ∷ spelled 4 (nextNumber (updatesIn used book)) ++ sender ∷ row) bodies) ++ drop (used + length bodies * entry-wide) book)
+book-taken : (n : ℕ) (bodies : List (List ℕ)) (sender : ℕ) (book : List ℕ) (used : ℕ) → Wide body-wide bodies → used + length bodies * entry-wide ≤ bookRoom book
+    → bookTaking n bodies sender book used
+    ≡ take used book ++ (flat (map (λ (row : List ℕ). 2 ∷ spelled 4 n ++ sender ∷ row) bodies) ++ drop (used + length bodies * entry-wide) book)
 unfolding bookTaking
-book-taken bodies sender book used w h =
-    let n = nextNumber (updatesIn used book) in
+book-taken n bodies sender book used w h =
     let l : length (flat (entriesOf n sender bodies)) ≡ length bodies * entry-wide =
     length-flat entry-wide (entriesOf n sender bodies) (wide-entriesOf n sender bodies w) ∙ ap (λ (m : ℕ). m * entry-wide) (length-entriesOf n sender bodies) in
     let r = room-within book .0 in
@@ -98,7 +97,7 @@ pub rows-to-book : RowsGoToBook
 unfolding messageLeaves takenBy
 rows-to-book d register book table sender c e =
     let p = passed d register book table sender c e in
-    rw e (refl, book-taken (messageRows d) sender book (c .used) (message-wide register sender d (p .rows .0) (p .rows .1)) (p .in-book))
+    rw e (refl, book-taken (nextIn (c .used) book) (messageRows d) sender book (c .used) (message-wide register sender d (p .rows .0) (p .rows .1)) (p .in-book))
 
 -- ---- table
 

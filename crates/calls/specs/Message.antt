@@ -30,9 +30,12 @@ messageSound register book table c = registerSound register && (bookSound (c .us
 unfoldable pub messageRows : List ℕ → List (List ℕ)
 messageRows dossier = dataRows Tables.Message (itemsOf Tables.Message dossier)
 
--- its number: 0 where it has no rows
+-- the number that a book gives next, and that of a message: 0 where it has no rows
+abbrev pub nextIn : ℕ → List ℕ → ℕ
+nextIn used book = nextNumber (updatesIn used book)
+
 abbrev pub numberFor : List (List ℕ) → ℕ → List ℕ → ℕ
-numberFor bodies used book = on (eqb (length bodies) 0) 0 (nextNumber (updatesIn used book))
+numberFor bodies used book = on (eqb (length bodies) 0) 0 (nextIn used book)
 
 -- the table's rows once the bodies are applied, in order
 abbrev pub rowsTaken : List (List ℕ) → List ℕ → ℕ → List (List ℕ)
@@ -53,9 +56,9 @@ messageAnswer dossier sender register book table c =
 
 -- ---- afterwards
 
--- the book with the entries behind its used bytes
-unfoldable pub bookTaking : List (List ℕ) → ℕ → List ℕ → ℕ → List ℕ
-bookTaking bodies sender book used = over used (flat (entriesOf (nextNumber (updatesIn used book)) sender bodies)) book
+-- the book with the entries of message n behind its used bytes
+unfoldable pub bookTaking : ℕ → List (List ℕ) → ℕ → List ℕ → ℕ → List ℕ
+bookTaking n bodies sender book used = over used (flat (entriesOf n sender bodies)) book
 
 unfoldable pub tableTaking : List (List ℕ) → List ℕ → ℕ → List ℕ
 tableTaking bodies table n = store row-wide n (rowsTaken bodies table n) table
@@ -67,7 +70,7 @@ countsTaking bodies table c = countsOf (c .used + length bodies * entry-wide) (l
 unfoldable pub takenBy : Answer → List (List ℕ) → ℕ → List ℕ → List ℕ → Counts → Leaves
 takenBy answer bodies sender book table c =
     leavesBy answer
-    (dayOf (bookTaking bodies sender book (c .used)) (tableTaking bodies table (c .rows)) (countsTaking bodies table c))
+    (dayOf (bookTaking (nextIn (c .used) book) bodies sender book (c .used)) (tableTaking bodies table (c .rows)) (countsTaking bodies table c))
     (dayOf book table c)
 
 unfoldable pub messageLeaves : List ℕ → ℕ → List ℕ → List ℕ → List ℕ → Counts → Leaves

@@ -42,6 +42,9 @@ openAnswer planning calendar book table =
 
 -- ---- afterwards
 
+abbrev pub countsOpened : List (List ℕ) → Counts
+countsOpened plan = countsOf (length plan * plan-wide) (length plan)
+
 -- what an answer leaves: the plan as entries and rows from the start on, bytes behind them kept, or the day as it was
 unfoldable pub openedBy : Answer → List (List ℕ) → List ℕ → List ℕ → Counts → Leaves
 openedBy answer plan book table c =
@@ -49,7 +52,7 @@ openedBy answer plan book table c =
     (dayOf
     (over 0 (flat (map planEntry plan)) book)
     (over 0 (flat (planRows plan)) table)
-    (countsOf (length plan * plan-wide) (length plan)))
+    (countsOpened plan))
     (dayOf book table c)
 
 unfoldable pub openLeaves : List ℕ → List ℕ → List ℕ → List ℕ → Counts → Leaves

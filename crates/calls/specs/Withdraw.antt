@@ -54,6 +54,9 @@ bookWithout n book used = over (planCount used book * plan-wide) (flat (withdraw
 unfoldable pub tableWithout : ℕ → List ℕ → ℕ → List ℕ → ℕ → List ℕ
 tableWithout n book used table m = store row-wide m (rowsWithout n book used table m) table
 
+abbrev pub countsWithout : List (List ℕ) → Counts → Counts
+countsWithout rows c = countsOf (c .used) (length rows)
+
 -- what an answer leaves: message n withdrawn, or the day as it was
 unfoldable pub withoutBy : Answer → ℕ → List ℕ → List ℕ → Counts → Leaves
 withoutBy answer n book table c =
@@ -61,7 +64,7 @@ withoutBy answer n book table c =
     (dayOf
     (bookWithout n book (c .used))
     (tableWithout n book (c .used) table (c .rows))
-    (countsOf (c .used) (length (rowsWithout n book (c .used) table (c .rows)))))
+    (countsWithout (rowsWithout n book (c .used) table (c .rows)) c))
     (dayOf book table c)
 
 unfoldable pub withdrawLeaves : ℕ → ℕ → List ℕ → List ℕ → Counts → Leaves

@@ -29,7 +29,7 @@ use Rattle.calls.specs.declared.Counts.{Counts}
 use Rattle.calls.specs.declared.Outcome.{Outcome}
 use Rattle.calls.specs.Answers.{isAccepted}
 use Rattle.calls.specs.Leaves.{countsOf, outcomeOf, leaves}
-use Rattle.calls.specs.Message.{rowsTaken, roomFor, countsTaking, bookTaking, tableTaking, takenBy}
+use Rattle.calls.specs.Message.{nextIn, rowsTaken, roomFor, countsTaking, bookTaking, tableTaking, takenBy}
 use Rattle.calls.proofs.LeavesLaws.{leaves-refused, leaves-accepted}
 use Rattle.messages.specs.inner.Steps.{takenLeaves}
 
@@ -45,7 +45,7 @@ module _ (bodies : List (List ℕ)) (sender : ℕ) (book table : List ℕ) (c : 
 
   -- an acceptance
   accepts : (n : ℕ) → roomFor bodies book table c ≡ Accepted n → (r : Outcome) (b t : List ℕ) (k : Counts) → r ≡ outcomeOf (Accepted n) k → k ≡ countsTaking bodies table c
-      → b ≡ bookTaking bodies sender book (c .used) → t ≡ tableTaking bodies table (c .rows) → Left r b t
+      → b ≡ bookTaking (nextIn (c .used) book) bodies sender book (c .used) → t ≡ tableTaking bodies table (c .rows) → Left r b t
   unfolding takenLeaves takenBy
   accepts n e r b t k h l f g = leaves-accepted (roomFor bodies book table c) n _ _ e r b t k h l f g
 
@@ -68,7 +68,7 @@ module _ (bodies : List (List ℕ)) (sender : ℕ) (book table : List ℕ) (c : 
 
     pub fits : (length bodies ≡ 0 → ⊥) → c .used + length bodies * entry-wide ≤ bookRoom book → (n : ℕ) → f ≡ Count n → (r : Outcome) (b : List ℕ) (k : ℕ) → k ≡ length bodies
         → r ≡ outcomeOf (Accepted (nextNumber (updatesIn (c .used) book))) (countsOf (c .used + k * entry-wide) n)
-        → b ≡ bookTaking bodies sender book (c .used) → Left r b t
+        → b ≡ bookTaking (nextIn (c .used) book) bodies sender book (c .used) → Left r b t
     unfolding roomFor tableTaking
     fits some h n e r b k l x z =
         let within = count-told (c .rows) most rs table n (sym (p .0) ∙ e) in
@@ -95,7 +95,7 @@ module _ (sender : ℕ) (book table : List ℕ) (c : Counts) (sound : (bookSound
       let t : length (rowsTaken [] table (c .rows)) ≤ tableRoom table = rw none-count (sound-within (c .rows) table (sound .1)) in
       rw (le-leb _ _ u, le-leb _ _ t)
 
-  none-book : book ≡ bookTaking [] sender book (c .used)
+  none-book : book ≡ bookTaking (nextIn (c .used) book) [] sender book (c .used)
   unfolding bookTaking entriesOf flat
   none-book = sym (over-nil (c .used) book)
 

@@ -14,7 +14,7 @@ use Rattle.book.specs.Entries.{entry-wide, entriesOf, updatesIn}
 use Rattle.book.specs.Rules.{bookRoom, nextNumber}
 use Rattle.book.proofs.SoundLaws.{room-within}
 use Rattle.book.proofs.WriteLaws.{wide-entriesOf, length-entriesOf}
-use Rattle.calls.specs.Message.{bookTaking}
+use Rattle.calls.specs.Message.{nextIn, bookTaking}
 
 module _ (staging : List ℕ) (n : ℕ) (staged : n * body-wide ≤ length staging) (book : List ℕ) (used : ℕ) where
   abbrev bodies : List (List ℕ)
@@ -28,7 +28,7 @@ module _ (staging : List ℕ) (n : ℕ) (staged : n * body-wide ≤ length stagi
   -- the free tail once the entries are in it, as part of the book
   pub tail-back : (number sender : ℕ) (tail : List ℕ) → used + n * entry-wide ≤ bookRoom book → number ≡ nextNumber (updatesIn used book)
       → tail ≡ over 0 (flat (entriesOf number sender bodies)) (take (length book - used) (drop used book))
-      → take used book ++ (tail ++ drop (length book - used) (drop used book)) ≡ bookTaking bodies sender book used
+      → take used book ++ (tail ++ drop (length book - used) (drop used book)) ≡ bookTaking (nextIn used book) bodies sender book used
   unfolding bookTaking
   tail-back number sender tail room e h =
       let w = room-within book in

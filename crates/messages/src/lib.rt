@@ -15,7 +15,7 @@ ghost use Rattle.book.specs.Rules.{bookSound, bookRoom, nextNumber};
 ghost use Rattle.calls.specs.declared.Answer.the-variants.{Accepted};
 ghost use Rattle.calls.specs.Answers.{numbers};
 ghost use Rattle.calls.specs.Leaves.{countsOf, outcomeOf, leaves};
-ghost use Rattle.calls.specs.Message.{messageSound, bookTaking, messageLeaves};
+ghost use Rattle.calls.specs.Message.{nextIn, messageSound, bookTaking, messageLeaves};
 ghost use Rattle.calls.specs.Numbers.{messageNumbers};
 ghost use Rattle.messages.specs.inner.Steps.{HoldsRows, takenLeaves};
 
@@ -122,7 +122,7 @@ fn write_rows(
     requires { ⌜ used + count * entry-wide ≤ bookRoom (now book) ⌝ }
     ensures outcome { λ r. ⌜ r
         ≡ outcomeOf (Accepted (nextNumber (updatesIn used (now (book .entry))))) (countsOf (used + count * entry-wide) rows) ⌝ }
-    ensures entries { λ _. ⌜ now (book .exit) ≡ bookTaking (rowsOf body-wide count (now (staging .entry))) sender (now (book .entry)) used ⌝ }
+    ensures entries { λ _. ⌜ now (book .exit) ≡ bookTaking (nextIn used (now (book .entry))) (rowsOf body-wide count (now (staging .entry))) sender (now (book .entry)) used ⌝ }
 {
     let number = book_write::next_number(book, used);
     book_write::write_entries(&mut book[used..], number, sender, staging, count);

@@ -15,8 +15,8 @@ use Rattle.calls.specs.Message.{takenBy, messageLeaves}
 use Rattle.calls.specs.Withdraw.{withoutBy, withdrawLeaves}
 use Rattle.calls.specs.Open.{openedBy, openLeaves}
 use Rattle.calls.specs.Leaves.{Day}
-use Rattle.runs.specs.Runs.{Call, Reply, replyTo, isListed, isDone, after, opened, Taken, Deed, deedOf, noted, Begun, begunBy, begunIf, dayAfter, logAfter, begunAfter}
-use Rattle.runs.specs.Claims.{AfterRuns, Sound, CallsKeepSound, Agrees, CallsKeepAgreeing, TableIsReplay, rowsIn, SameStandingSameRows, AsIfNever, SameRowsSameBoards, NumberedInOrder, RefusedChangesNothing, BoardsChangeNothing, All}
+use Rattle.runs.specs.Runs.{Call, Reply, replyTo, isListed, isDone, after, opened, Taken, Deed, deedOf, done, noted, Begun, begunBy, begunIf, dayAfter, logAfter, begunAfter}
+use Rattle.runs.specs.Claims.{AfterRuns, Sound, CallsKeepSound, Agrees, CallsKeepAgreeing, TableIsReplay, rowsIn, SameStandingSameRows, AsIfNever, SameRowsSameBoards, NumberedInOrder, RefusedChangesNothing, CallsAreDeeds, BoardsChangeNothing, All}
 use Rattle.board.specs.declared.Listing.the-variants.{OutOfRange, Unsound}
 use Rattle.board.specs.Rules.{listed, boardOf, boardWith, fitted, boardLeaves}
 use Rattle.board_show.specs.Ask.{Question, asksInRange}
@@ -24,7 +24,7 @@ use Rattle.board_show.specs.Show.{shows}
 use Rattle.runs.proofs.LogLaws.{NotedFrom}
 use Rattle.runs.proofs.NeverLaws.{same-standing}
 use Rattle.runs.proofs.FollowLaws.{Holds, Follows, rows-replayed}
-use Rattle.runs.proofs.MessageLaws.{message-holds, next-is}
+use Rattle.runs.proofs.MessageLaws.{message-holds, message-deed, next-is}
 use Rattle.runs.proofs.WithdrawLaws.{withdraw-holds}
 use Rattle.runs.proofs.OpenLaws.{open-follows}
 use Rattle.runs.proofs.SoundLaws.{accepted-sound, accepted-agrees}
@@ -143,6 +143,20 @@ calls-keep-sound call x s = go (isDone (replyTo call x)) refl
     go true e = accepted-sound call x s e
     go false e = subst Sound (sym (refused call x e .0)) s
 
+accepted-deed : (call : Call) (x : Day) → isDone (replyTo call x) ≡ true → after call x ≡ done (deedOf call (replyTo call x)) x
+unfolding openLeaves openedBy withdrawLeaves withoutBy
+accepted-deed (Call.reopen planning calendar) x e = rw e
+accepted-deed (Call.message d sender register) x e = message-deed d sender register x e
+accepted-deed (Call.withdraw n sender) x e = rw e
+accepted-deed (Call.look question places) x e = rw e
+
+calls-are-deeds : CallsAreDeeds
+calls-are-deeds call x = go (isDone (replyTo call x)) refl
+  where
+    go : (t : Bool) → isDone (replyTo call x) ≡ t → after call x ≡ done (deedOf call (replyTo call x)) x
+    go true e = accepted-deed call x e
+    go false e = let r = refused call x e in r .0 ∙ ap (λ (d : Deed). done d x) (sym (r .1))
+
 calls-keep-agreeing : CallsKeepAgreeing
 calls-keep-agreeing call x a = go (isDone (replyTo call x)) refl
   where
@@ -163,5 +177,6 @@ claims = (
   numbered-in-order,
   λ planning calendar book table c calls e. next-is _ _ _ _ (follows planning calendar book table c calls e .holds),
   refused,
+  calls-are-deeds,
   boards-nothing,
 )

@@ -30,11 +30,11 @@ use Rattle.book.proofs.SoundLaws.{sound-facts, used-within}
 use Rattle.book.proofs.WriteLaws.{length-entriesOf}
 use Rattle.book.proofs.AfterLaws.{after-message}
 use Rattle.calls.specs.Answers.{isAccepted}
-use Rattle.calls.specs.Message.{messageRows, numberFor, messageAnswer, bookTaking, tableTaking, countsTaking, takenBy, messageLeaves}
+use Rattle.calls.specs.Message.{messageRows, nextIn, numberFor, messageAnswer, bookTaking, tableTaking, countsTaking, takenBy, messageLeaves}
 use Rattle.calls.proofs.AcceptedLaws.{Passed, passed, passes}
 use Rattle.calls.proofs.TakenLaws.{IsBody, message-wide}
 use Rattle.calls.specs.Leaves.{Day}
-use Rattle.runs.specs.Runs.{Call, replyTo, after, Taken, Deed, deedOf, noted, logEntries}
+use Rattle.runs.specs.Runs.{Call, replyTo, after, Taken, Deed, deedOf, done, noted, logEntries}
 use Rattle.runs.proofs.LogLaws.{Update, noted-append, log-more, log-least, log-next}
 use Rattle.runs.proofs.FollowLaws.{Holds, length-plans, length-log, write-behind}
 
@@ -42,7 +42,7 @@ use Rattle.runs.proofs.FollowLaws.{Holds, length-plans, length-log, wri
 abbrev pub takes : List (List ℕ) → ℕ → Day → Day
 takes bodies sender x =
     record {
-      book = bookTaking bodies sender (x .book) (x .counts .used);
+      book = bookTaking (nextIn (x .counts .used) (x .book)) bodies sender (x .book) (x .counts .used);
       table = tableTaking bodies (x .table) (x .counts .rows);
       counts = countsTaking bodies (x .table) (x .counts);
     }
@@ -117,6 +117,11 @@ from-sender register d zero n r h =
     omega arith
 from-sender register d (suc s) n r h = omega arith
 
+-- no message with rows has number 0
+next-some : (us : List (List ℕ)) → nextNumber us ≡ 0 → ⊥
+unfolding nextNumber
+next-some us e = omega arith
+
 module _ (d : List ℕ) (sender : ℕ) (register : List ℕ) (x : Day) where
   abbrev call : Call
   call = Call.message d sender register
@@ -140,6 +145,20 @@ module _ (d : List ℕ) (sender : ℕ) (register : List ℕ) (x : Day) where
 
     log-after : (log : List Taken) → notes (numberFor sent (x .counts .used) (x .book)) sender sent log ≡ noted (deedOf call (replyTo call x)) log
     log-after log = rw (passes d register (x .book) (x .table) sender (x .counts) went)
+
+    -- the deed of a message with rows, and of one without
+    pub message-deed : after call x ≡ done (deedOf call (replyTo call x)) x
+    message-deed = sym day-after ∙ go sent refl ∙ ap (λ (d : Deed). done d x) deed-is
+      where
+        deed-is : on (eqb (numberFor sent (x .counts .used) (x .book)) 0) Deed.nothing (Deed.took (numberFor sent (x .counts .used) (x .book)) sender sent) ≡ deedOf call (replyTo call x)
+        deed-is = rw (passes d register (x .book) (x .table) sender (x .counts) went)
+
+        go : (bodies : List (List ℕ)) → sent ≡ bodies
+            → takes sent sender x ≡ done (on (eqb (numberFor sent (x .counts .used) (x .book)) 0) Deed.nothing (Deed.took (numberFor sent (x .counts .used) (x .book)) sender sent)) x
+        go [] h = rw h (sym (takes-none sender x))
+        go (b ∷ l) h =
+            let k : length sent ≡ 0 → ⊥ = λ z. let some : 0 < length sent = rw h (omega arith) in omega arith in
+            rw (ne-eqb (length sent) 0 k, ne-eqb (nextIn (x .counts .used) (x .book)) 0 (next-some (updatesIn (x .counts .used) (x .book))))
 
     pub message-holds : (plan : List (List ℕ)) (lent : List ℕ) (log : List Taken) → bookSound (x .counts .used) (x .book) ≡ true → Holds plan lent x log
         → Holds plan lent (after call x) (noted (deedOf call (replyTo call x)) log)

@@ -31,7 +31,7 @@ none-from = refl
 then-noted : (deeds : List Deed) (d : Deed) → noted d (logFrom deeds []) ≡ logFrom (andThen deeds d) []
 then-noted deeds (Deed.took n sender rows) = sym (one-more deeds (Deed.took n sender rows) [])
 then-noted deeds (Deed.struckOut n) = sym (one-more deeds (Deed.struckOut n) [])
-then-noted deeds Deed.began = none-from
+then-noted deeds (Deed.began plan) = none-from
 then-noted deeds Deed.nothing = refl
 
 log-of-deeds : (calls : List Call) (x : Day) (deeds : List Deed) → logAfter calls x (logFrom deeds []) ≡ logFrom (deedsAfter calls x deeds) []
@@ -144,7 +144,7 @@ last-without n log m t e = without-append n log (m ∷ []) ∙ ap (λ (b : Bool)
 never-log : (n : ℕ) (deeds : List Deed) (log : List Taken) → logFrom (never n deeds) (without n log) ≡ without n (logFrom deeds log)
 unfolding logFrom never
 never-log n [] log = refl
-never-log n (Deed.began ∷ deeds) log = ap (logFrom (never n deeds)) (none-without n) ∙ never-log n deeds []
+never-log n (Deed.began plan ∷ deeds) log = ap (logFrom (never n deeds)) (none-without n) ∙ never-log n deeds []
 never-log n (Deed.nothing ∷ deeds) log = never-log n deeds log
 never-log n (Deed.took k sender rows ∷ deeds) log = go (eqb k n) refl ∙ never-log n deeds (noted (Deed.took k sender rows) log)
   where

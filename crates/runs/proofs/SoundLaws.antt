@@ -26,7 +26,7 @@ use Rattle.book.proofs.SplitLaws.{wide-updates}
 use Rattle.book.proofs.StandingLaws.{standing-append, standing-ranges, sound-plan-ranges}
 use Rattle.book.proofs.AgreeLaws.{agrees-withdrawn}
 use Rattle.book.proofs.AfterLaws.{after-message}
-use Rattle.calls.specs.Message.{bookTaking, tableTaking}
+use Rattle.calls.specs.Message.{nextIn, bookTaking, tableTaking}
 use Rattle.calls.specs.Withdraw.{rowsWithout, bookWithout, tableWithout}
 use Rattle.calls.proofs.AcceptedLaws.{Passed, left}
 use Rattle.calls.proofs.TakenLaws.{keeps}
@@ -76,7 +76,7 @@ module _ (d : List ℕ) (sender : ℕ) (register : List ℕ) (x : Day) (s : Soun
       (sorted-takenAll rowRule bodies _ (sound-sorted (x .counts .rows) (x .table) (s .1)))
       (went .in-table)
 
-  book-taken : 0 < length bodies → bookSound (x .counts .used + length bodies * entry-wide) (bookTaking bodies sender (x .book) (x .counts .used)) ≡ true
+  book-taken : 0 < length bodies → bookSound (x .counts .used + length bodies * entry-wide) (bookTaking (nextIn (x .counts .used) (x .book)) bodies sender (x .book) (x .counts .used)) ≡ true
   unfolding bookTaking
   book-taken some =
       after-message (x .counts .used) (x .book) (s .0) sender bodies (Message.sent-updates d sender register x e)
@@ -108,7 +108,7 @@ module _ (d : List ℕ) (sender : ℕ) (register : List ℕ) (x : Day) (s : Soun
       ∙ ap (takenAll rowRule bodies) a
       ∙ sym (takenAll-append rowRule (standing us) bodies (planRows ps))
       ∙ ap (λ (l : List (List ℕ)). takenAll rowRule l (planRows ps)) (sym (ap standing (b .3) ∙ added))
-      ∙ ap (λ (l : List (List ℕ)). takenAll rowRule (standing (updatesIn (x .counts .used + length bodies * entry-wide) (bookTaking bodies sender (x .book) (x .counts .used)))) (planRows l)) (sym (b .2))
+      ∙ ap (λ (l : List (List ℕ)). takenAll rowRule (standing (updatesIn (x .counts .used + length bodies * entry-wide) (bookTaking (nextIn (x .counts .used) (x .book)) bodies sender (x .book) (x .counts .used)))) (planRows l)) (sym (b .2))
 
   message-agrees : rowsIn x ≡ rowsByBook x → rowsIn (after (Call.message d sender register) x) ≡ rowsByBook (after (Call.message d sender register) x)
   message-agrees a = subst (λ (y : Day). rowsIn y ≡ rowsByBook y) (Message.day-after d sender register x e) (go bodies refl)

@@ -19,7 +19,7 @@ use Rattle.calls.specs.Open.{openAnswer}
 use Rattle.calls.specs.Leaves.{Day}
 use Rattle.board.specs.Rules.{boardLeaves}
 use Rattle.board_show.specs.Ask.{Question}
-use Rattle.runs.specs.Runs.{Call, Reply, replyTo, isListed, isDone, after, opened, Taken, Deed, deedOf, begunBy, dayAfter, logAfter, deedsAfter, begunAfter, logEntries, logStanding, never}
+use Rattle.runs.specs.Runs.{Call, Reply, replyTo, isListed, isDone, after, opened, Taken, Deed, deedOf, done, begunBy, dayAfter, logAfter, deedsAfter, begunAfter, logEntries, logStanding, never}
 
 -- P holds of the plan, the book that its open was lent, the day and the log after any run on a day that was opened; opens in the run too, refused
 -- or accepted
@@ -134,6 +134,10 @@ NumbersNeverReturn = AfterRuns (λ plan book x log. nextNumber (updatesIn (x .co
 abbrev pub RefusedChangesNothing : Type 0
 RefusedChangesNothing = (call : Call) (x : Day) → isDone (replyTo call x) ≡ false → (after call x ≡ x) × (deedOf call (replyTo call x) ≡ Deed.nothing)
 
+-- a call leaves the day that its deed makes of it: nothing else of a call matters to the day
+abbrev pub CallsAreDeeds : Type 0
+CallsAreDeeds = (call : Call) (x : Day) → after call x ≡ done (deedOf call (replyTo call x)) x
+
 -- nor does a board change the day, and a refused one leaves its places as they were
 abbrev pub BoardsChangeNothing : Type 0
 BoardsChangeNothing =
@@ -145,4 +149,4 @@ BoardsChangeNothing =
 abbrev pub All : Type 0
 All =
     BookIsPlanAndLog × StaysSound × CallsKeepSound × CallsKeepAgreeing × TableIsReplay × SameStandingSameRows × AsIfNever × SameRowsSameBoards × NumberedInOrder × NumbersNeverReturn
-    × RefusedChangesNothing × BoardsChangeNothing
+    × RefusedChangesNothing × CallsAreDeeds × BoardsChangeNothing

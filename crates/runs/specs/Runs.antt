@@ -4,15 +4,17 @@ use mathlib.Core.Bool.{Bool, true, false}
 use mathlib.Core.List.{List, [], _∷_, _++_, map}
 use lib.Dec.{eqb, ltb}
 use Rattle.lists.specs.Logic.{on}
-use Rattle.book.specs.Entries.{entriesOf}
-use Rattle.book.specs.Rules.{markedWithdrawn}
+use Rattle.lists.specs.Part.{over}
+use Rattle.lists.specs.Rows.{flat}
+use Rattle.book.specs.Entries.{planEntry, entriesOf}
+use Rattle.book.specs.Rules.{markedWithdrawn, planRows}
 use Rattle.calls.specs.declared.Answer.{Answer}
 use Rattle.calls.specs.declared.Counts.{Counts}
 use Rattle.calls.specs.Answers.{numbers, isAccepted}
 use Rattle.calls.specs.Leaves.{Day, dayOf, Leaves}
-use Rattle.calls.specs.Message.{messageRows, messageAnswer, messageLeaves}
-use Rattle.calls.specs.Withdraw.{withdrawAnswer, withdrawLeaves}
-use Rattle.calls.specs.Open.{planOf, openAnswer, openLeaves}
+use Rattle.calls.specs.Message.{messageRows, messageAnswer, bookTaking, tableTaking, countsTaking, messageLeaves}
+use Rattle.calls.specs.Withdraw.{rowsWithout, withdrawAnswer, bookWithout, tableWithout, countsWithout, withdrawLeaves}
+use Rattle.calls.specs.Open.{planOf, openAnswer, countsOpened, openLeaves}
 use Rattle.board.specs.declared.Listing.{Listing}
 use Rattle.board.specs.declared.Listing.the-variants.{Listed, Unsound, OutOfRange}
 use Rattle.board.specs.Rules.{Board, boardLeaves}
@@ -77,11 +79,11 @@ undone m = record { number = m .number; sender = m .sender; bodies = m .bodies; 
 abbrev pub struck : ℕ → Taken → Taken
 struck n m = on (eqb (m .number) n) (undone m) m
 
--- what a call did to a day: it took a message's rows (number, sender, rows), struck a message out, began the day anew, or nothing
+-- what a call did to a day: it took a message's rows (number, sender, rows), struck a message out, began the day anew with a plan, or nothing
 pub data Deed : Type 0 where
   took : ℕ → ℕ → List (List ℕ) → Deed
   struckOut : ℕ → Deed
-  began : Deed
+  began : List (List ℕ) → Deed
   nothing : Deed
 
 -- the number that a reply gives
@@ -92,7 +94,7 @@ numberGiven (showed board) = 0
 -- by the call, whether it was done, and the number that it got: a message without rows gets 0
 abbrev pub deedIf : Bool → Call → ℕ → Deed
 deedIf false call n = nothing
-deedIf true (reopen planning calendar) n = began
+deedIf true (reopen planning calendar) n = began (planOf planning calendar)
 deedIf true (message dossier sender register) n = on (eqb n 0) nothing (took n sender (messageRows dossier))
 deedIf true (withdraw m sender) n = struckOut m
 deedIf true (look question places) n = nothing
@@ -100,18 +102,30 @@ deedIf true (look question places) n = nothing
 abbrev pub deedOf : Call → Reply → Deed
 deedOf call reply = deedIf (isDone reply) call (numberGiven reply)
 
+-- the day once it is done
+abbrev pub done : Deed → Day → Day
+done (took n sender rows) x =
+    dayOf (bookTaking n rows sender (x .book) (x .counts .used)) (tableTaking rows (x .table) (x .counts .rows)) (countsTaking rows (x .table) (x .counts))
+done (struckOut n) x =
+    dayOf
+    (bookWithout n (x .book) (x .counts .used))
+    (tableWithout n (x .book) (x .counts .used) (x .table) (x .counts .rows))
+    (countsWithout (rowsWithout n (x .book) (x .counts .used) (x .table) (x .counts .rows)) (x .counts))
+done (began plan) x = dayOf (over 0 (flat (map planEntry plan)) (x .book)) (over 0 (flat (planRows plan)) (x .table)) (countsOpened plan)
+done nothing x = x
+
 -- what is noted of a deed
 abbrev pub noted : Deed → List Taken → List Taken
 noted (took n sender rows) log = log ++ record { number = n; sender = sender; bodies = rows; stands = true } ∷ []
 noted (struckOut n) log = map (struck n) log
-noted began log = []
+noted (began plan) log = []
 noted nothing log = log
 
 -- the deeds since the day began, with one more
 abbrev pub andThen : List Deed → Deed → List Deed
 andThen deeds (took n sender rows) = deeds ++ took n sender rows ∷ []
 andThen deeds (struckOut n) = deeds ++ struckOut n ∷ []
-andThen deeds began = []
+andThen deeds (began plan) = []
 andThen deeds nothing = deeds
 
 -- ---- what a day began with
@@ -175,5 +189,5 @@ unfoldable pub never : ℕ → List Deed → List Deed
 never n [] = []
 never n (took k sender rows ∷ deeds) = on (eqb k n) (never n deeds) (took (oneLess n k) sender rows ∷ never n deeds)
 never n (struckOut k ∷ deeds) = on (eqb k n) (never n deeds) (struckOut (oneLess n k) ∷ never n deeds)
-never n (began ∷ deeds) = began ∷ never n deeds
+never n (began plan ∷ deeds) = began plan ∷ never n deeds
 never n (nothing ∷ deeds) = nothing ∷ never n deeds
