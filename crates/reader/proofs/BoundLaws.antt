@@ -127,7 +127,7 @@ right :
 right ls l name k e = must-cell ls l name k e .1
 
 -- the ninth column of a message is its stamp
-message-long : (ls : List (List ℕ)) (l : List ℕ) → wrongColumn Message ls l ≡ 0 → 27 ≤ length l + 2
+pub message-long : (ls : List (List ℕ)) (l : List ℕ) → wrongColumn Message ls l ≡ 0 → 27 ≤ length l + 2
 unfolding columnsIn messageColumns columnAt
 message-long ls l e =
     let m = right ls l "LastUpdateTimeStamp" Kinds.Stamp (all-right Message ls l e 8 (omega arith)) in

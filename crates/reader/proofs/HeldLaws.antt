@@ -60,12 +60,12 @@ module _ (labels : List (List ℕ)) (line : List ℕ) (name : String) (k : Kind)
       go false q e = absurd (let z : _≡_ {A = ℕ} 0 1 = cc in omega arith)
 
   -- one that may be absent gives that, or what is kept then
-  may-cell : (a : ℕ) → some (cellUnder labels line (may name k (a ∷ []))) ≡ true
-      → (cellUnder labels line (may name k (a ∷ [])) ≡ a ∷ []) ⊎ ((cellUnder labels line (may name k (a ∷ [])) ≡ fromField) × (some fromField ≡ true))
-  may-cell a = go (ltb (columnOf (bytes name) labels) (length labels)) (same (fieldAt (columnOf (bytes name) labels) line) null)
+  may-cell : (a : ℕ) (more : List ℕ) → some (cellUnder labels line (may name k (a ∷ more))) ≡ true
+      → (cellUnder labels line (may name k (a ∷ more)) ≡ a ∷ more) ⊎ ((cellUnder labels line (may name k (a ∷ more)) ≡ fromField) × (some fromField ≡ true))
+  may-cell a more = go (ltb (columnOf (bytes name) labels) (length labels)) (same (fieldAt (columnOf (bytes name) labels) line) null)
     where
-      go : (b d : Bool) → some (on b (on d (a ∷ []) fromField) (a ∷ [])) ≡ true
-          → (on b (on d (a ∷ []) fromField) (a ∷ []) ≡ a ∷ []) ⊎ ((on b (on d (a ∷ []) fromField) (a ∷ []) ≡ fromField) × (some fromField ≡ true))
+      go : (b d : Bool) → some (on b (on d (a ∷ more) fromField) (a ∷ more)) ≡ true
+          → (on b (on d (a ∷ more) fromField) (a ∷ more) ≡ a ∷ more) ⊎ ((on b (on d (a ∷ more) fromField) (a ∷ more) ≡ fromField) × (some fromField ≡ true))
       go true true e = inl refl
       go true false e = inr (refl, e)
       go false d e = inl refl
@@ -113,16 +113,20 @@ module _ {t : Table} {ls : List (List ℕ)} {l : List ℕ} (right : Right t ls l
       → (some (cell k stop (fieldOf name)) ≡ true → P (number (cell k stop (fieldOf name)))) → P (getD body at 0)
   byte-in at k name P h x f = subst P (number-byte at h) (spelled-in at 1 k name x P f)
 
-  -- an optional of one byte: what is kept of an absent one, or what its field gives
+  -- an optional of any width: what is kept of an absent one, or what its field gives
+  pub optional-part : (at w : ℕ) (k : Kind) (a : ℕ) (more : List ℕ) (name : String) (P : List ℕ → Type 0) → Stands at w (may name k (a ∷ more))
+      → (some (cell k stop (fieldOf name)) ≡ true → P (cell k stop (fieldOf name))) → P (part at w body) ⊎ (part at w body ≡ a ∷ more)
+  optional-part at w k a more name P x f =
+      ⊎-elim (λ q. inr (x .0 ∙ q)) (λ q. inl (subst P (sym (x .0 ∙ q .0)) (f (q .1)))) (may-cell ls l name k a more (x .1))
+
+  -- and of one byte
   pub optional-in : (at : ℕ) (k : Kind) (a : ℕ) (name : String) (P : ℕ → Type 0) → at < rowWidth t → Stands at 1 (may name k (a ∷ []))
       → (some (cell k stop (fieldOf name)) ≡ true → P (number (cell k stop (fieldOf name)))) → P (getD body at 0) ⊎ (getD body at 0 ≡ a)
   unfolding number
   optional-in at k a name P h x f =
       let z : a * 256 ^ 0 + 0 ≡ a = omega arith in
-      ⊎-elim
-      (λ q. inr (sym (number-byte at h) ∙ ap number (x .0 ∙ q) ∙ z))
-      (λ q. inl (subst P (ap number (sym (x .0 ∙ q .0)) ∙ number-byte at h) (f (q .1))))
-      (may-cell ls l name k a (x .1))
+      ⊎-elim (λ q. inl (subst P (number-byte at h) q)) (λ q. inr (sym (number-byte at h) ∙ ap number q ∙ z))
+      (optional-part at 1 k a [] name (λ (bs : List ℕ). P (number bs)) x f)
 
   -- times, where the stop type stands at this place
   module _ (at : ℕ) (h : at < rowWidth t) (type : Stands at 1 (must "JourneyStopType" Kinds.StopType)) where

@@ -1,11 +1,11 @@
-use Prim.Native.Nat.{ℕ, suc, _+_, _/_, _≤_, _<_}
+use Prim.Native.Nat.{ℕ, zero, suc, _+_, _/_, _≤_, _<_}
 use native.Mathlib.Omega.{arith}
 use native.Mathlib.Numerals.{add-one}
 use mathlib.Core.Path.{_≡_, refl, sym, ap, subst, _∙_}
 use mathlib.Core.Bool.{Bool, true, false, not}
 use mathlib.Core.List.{List, [], _∷_, _++_, append-assoc, append-nil}
-use borrow.Author.Tests.{eqb-true}
-use lib.Dec.{eqb}
+use borrow.Author.Tests.{ltb-true, ltb-false, eqb-true}
+use lib.Dec.{eqb, ltb}
 use lib.ListN.{length, drop}
 use lib.Seq.{take-nil}
 use Rattle.lists.specs.Logic.{on}
@@ -26,7 +26,7 @@ use Rattle.rows.specs.declared.Shape.{Shape}
 use Rattle.rows.specs.declared.Read.{Read}
 use Rattle.rows.specs.inner.Shape.{shapeOf}
 use Rattle.rows.specs.inner.Reading.{readBy}
-use Rattle.reader.specs.Rules.{firstLine, firstColumn, answerTo, itemsOf}
+use Rattle.reader.specs.Rules.{firstLine, firstColumn, answerTo}
 use Rattle.reader.specs.Staging.{rowsUpTo, laid}
 use Rattle.reader.specs.inner.Settled.{answeredBy}
 use Rattle.reader_step.specs.inner.Step.{moved, misformed, labelled, mistyped, disowned, oneRowMore, rowStep, dataStep, labelStep, stepAt, stepBy, stageBy, lineStep, lineStaged, Fresh}
@@ -39,17 +39,17 @@ use Rattle.register.specs.Register.{maySend}
 
 -- The loop over a dossier's lines: what holds at its start, after a line, and at each way out. Assumes nothing.
 
--- after some lines of d: s is kept of them, rest is left, and st is the staging area
-pub record Reading (t : Table) (register : List ℕ) (sender : ℕ) (d st₀ : List ℕ) (s : State) (rest st : List ℕ) : Type 0 where
+-- after some of all the lines: s is kept of them, ls are left, and st is the staging area. Over lines and not bytes: whoever has lines one by one may use it.
+pub record Reading (t : Table) (register : List ℕ) (sender : ℕ) (all-lines : List (List ℕ)) (st₀ : List ℕ) (s : State) (ls : List (List ℕ)) (st : List ℕ) : Type 0 where
   pub place : Place
   pub done : List (List ℕ)
   pub agrees : Agrees t s place
   pub form : s .form ≡ 0
   pub from : 1 ≤ s .line
-  pub left : s .line + length rest ≤ length d + 1
+  pub left : s .line + length ls ≡ length all-lines + 1
   pub few : s .rows < s .line
-  pub answer : answerTo t register sender (itemsOf t d) ≡ settledFrom t register sender s (items t place (s .line) (lines rest))
-  pub rows : rowsUpTo t register sender (itemsOf t d) ≡ done ++ rowsFrom t register sender s (items t place (s .line) (lines rest))
+  pub answer : answerTo t register sender (items t outside 1 all-lines) ≡ settledFrom t register sender s (items t place (s .line) ls)
+  pub rows : rowsUpTo t register sender (items t outside 1 all-lines) ≡ done ++ rowsFrom t register sender s (items t place (s .line) ls)
   pub area : st ≡ laid t done st₀
   pub all : Wide (rowWidth t) done
   pub count : clean s ≡ true → length done ≡ s .rows
@@ -98,8 +98,8 @@ unfolding items
 items-cons t p n l ls = refl
 
 -- what comes after the line l at place p, which has the number n
-abbrev comes : Table → Place → ℕ → List ℕ → List ℕ → List Item
-comes t p n l rest = items t (placeAfter t (markOf l) l p) (suc n) (lines rest)
+abbrev comes : Table → Place → ℕ → List ℕ → List (List ℕ) → List Item
+comes t p n l ls = items t (placeAfter t (markOf l) l p) (suc n) ls
 
 items-none : (t : Table) (p : Place) (n : ℕ) → items t p n [] ≡ []
 unfolding items
@@ -130,11 +130,11 @@ settled-none t register sender s =
     ∙ ap (λ (o : ℕ). answeredBy 0 (first (s .wrong) 0) (on (eqb (s .wrong) 0) 0 (s .column)) o (s .rows)) (first-none (s .owner))
     ∙ ap (λ (r : ℕ). answeredBy 0 (first (s .wrong) 0) (on (eqb (s .wrong) 0) 0 (s .column)) (first (s .owner) 0) r) z
 
-module _ (t : Table) (register : List ℕ) (sender : ℕ) (d st₀ : List ℕ) where
+module _ (t : Table) (register : List ℕ) (sender : ℕ) (all-lines : List (List ℕ)) (st₀ : List ℕ) where
   zero-first : (n : ℕ) → 0 + n ≡ n
   zero-first n = omega arith
 
-  pub reading-start : (s : State) → Fresh s → Reading t register sender d st₀ s d st₀
+  pub reading-start : (s : State) → Fresh s → Reading t register sender all-lines st₀ s all-lines st₀
   reading-start s (p, l, f, w, c, o, r, h) =
       record {
         place = outside;
@@ -145,17 +145,16 @@ module _ (t : Table) (register : List ℕ) (sender : ℕ) (d st₀ : List ℕ) w
         left = omega arith;
         few = omega arith;
         answer =
-            answer-counted t register sender (itemsOf t d) (items-numbered t outside 1 (lines d) (omega arith))
-            ∙ rw (l, w, o, r, zero-first (length (rowsUpTo t register sender (itemsOf t d))));
+            answer-counted t register sender (items t outside 1 all-lines) (items-numbered t outside 1 all-lines (omega arith))
+            ∙ rw (l, w, o, r, zero-first (length (rowsUpTo t register sender (items t outside 1 all-lines))));
         rows = rw (l, w, o);
         area = laid-none t st₀;
         all = tt;
         count = λ k. sym r;
       }
 
-  -- a line more: l is the first line of what is left, and rest′ what follows it
-  module _ (s : State) (rest st : List ℕ) (now : Reading t register sender d st₀ s rest st) (some : 0 < length rest)
-      (l rest′ : List ℕ) (line : l ≡ until 13 rest) (after-it : rest′ ≡ drop 1 (past 13 rest))
+  -- a line more: l is the first of the lines that are left
+  module _ (s : State) (l : List ℕ) (ls : List (List ℕ)) (st : List ℕ) (now : Reading t register sender all-lines st₀ s (l ∷ ls) st)
       (n : State) (line-step : n ≡ lineStep t register sender s l) (st′ : List ℕ) (line-staged : st′ ≡ lineStaged t register sender s l st)
       (reads : Reads t register sender l) (fronts : Fronts t l) where
     step : n ≡ stepBy t register sender s l
@@ -164,36 +163,33 @@ module _ (t : Table) (register : List ℕ) (sender : ℕ) (d st₀ : List ℕ) w
     staged : st′ ≡ stageBy t register sender s l st
     staged = line-staged ∙ sym (line-goes t register sender s l st (now .form) .1)
 
-    split : items t (now .place) (s .line) (lines rest) ≡ inFront (seen (markOf l) (s .line) l (now .place)) (comes t (now .place) (s .line) l rest′)
-    split =
-        ap (items t (now .place) (s .line)) (lines-cons rest some ∙ ap (λ (x : List ℕ). x ∷ lines (drop 1 (past 13 rest))) (sym line) ∙ ap (λ (x : List ℕ). l ∷ lines x) (sym after-it))
-        ∙ items-cons t (now .place) (s .line) l (lines rest′)
+    split : items t (now .place) (s .line) (l ∷ ls) ≡ inFront (seen (markOf l) (s .line) l (now .place)) (comes t (now .place) (s .line) l ls)
+    split = items-cons t (now .place) (s .line) l ls
 
-    goes : Goes t register sender s n (seen (markOf l) (s .line) l (now .place)) (placeAfter t (markOf l) l (now .place)) (comes t (now .place) (s .line) l rest′)
+    goes : Goes t register sender s n (seen (markOf l) (s .line) l (now .place)) (placeAfter t (markOf l) l (now .place)) (comes t (now .place) (s .line) l ls)
     goes =
-        subst (λ (x : State). Goes t register sender s x (seen (markOf l) (s .line) l (now .place)) (placeAfter t (markOf l) l (now .place)) (comes t (now .place) (s .line) l rest′)) (sym step)
-        (line-go t register sender s (now .form) (λ e. let f = now .from in omega arith) l reads (comes t (now .place) (s .line) l rest′) (now .place) (now .agrees))
+        subst (λ (x : State). Goes t register sender s x (seen (markOf l) (s .line) l (now .place)) (placeAfter t (markOf l) l (now .place)) (comes t (now .place) (s .line) l ls)) (sym step)
+        (line-go t register sender s (now .form) (λ e. let f = now .from in omega arith) l reads (comes t (now .place) (s .line) l ls) (now .place) (now .agrees))
 
-    stages : Stages t register sender s n (seen (markOf l) (s .line) l (now .place)) (comes t (now .place) (s .line) l rest′) (now .done) st₀ st′
+    stages : Stages t register sender s n (seen (markOf l) (s .line) l (now .place)) (comes t (now .place) (s .line) l ls) (now .done) st₀ st′
     stages =
-        subst (λ (x : State). Stages t register sender s x (seen (markOf l) (s .line) l (now .place)) (comes t (now .place) (s .line) l rest′) (now .done) st₀ st′) (sym step)
-        (subst (λ (x : List ℕ). Stages t register sender s (stepBy t register sender s l) (seen (markOf l) (s .line) l (now .place)) (comes t (now .place) (s .line) l rest′) (now .done) st₀ x)
+        subst (λ (x : State). Stages t register sender s x (seen (markOf l) (s .line) l (now .place)) (comes t (now .place) (s .line) l ls) (now .done) st₀ st′) (sym step)
+        (subst (λ (x : List ℕ). Stages t register sender s (stepBy t register sender s l) (seen (markOf l) (s .line) l (now .place)) (comes t (now .place) (s .line) l ls) (now .done) st₀ x)
         (sym (staged ∙ ap (stageBy t register sender s l) (now .area)))
-        (line-stages t register sender s (now .form) (λ e. let f = now .from in omega arith) (width-some t) (now .done) st₀ (now .all) (now .count) l reads fronts (comes t (now .place) (s .line) l rest′) (now .place) (now .agrees)))
+        (line-stages t register sender s (now .form) (λ e. let f = now .from in omega arith) (width-some t) (now .done) st₀ (now .all) (now .count) l reads fronts (comes t (now .place) (s .line) l ls) (now .place) (now .agrees)))
 
     -- a fault of form ends the reading
-    pub reading-ends : (n .form ≡ 0 → ⊥) → (Form (n .form) ≡ answerTo t register sender (itemsOf t d)) × (st′ ≡ laid t (rowsUpTo t register sender (itemsOf t d)) st₀)
+    pub reading-ends : (n .form ≡ 0 → ⊥) → (Form (n .form) ≡ answerTo t register sender (items t outside 1 all-lines)) × (st′ ≡ laid t (rowsUpTo t register sender (items t outside 1 all-lines)) st₀)
     reading-ends h = (
       sym (now .answer ∙ ap (settledFrom t register sender s) split ∙ goes .0 h),
       stages .area ∙ ap (λ (rs : List (List ℕ)). laid t rs st₀) (sym (now .rows ∙ ap (λ (rs : List (List ℕ)). now .done ++ rs) (ap (rowsFrom t register sender s) split ∙ stages .last h))),
     )
 
     -- else it goes on
-    pub reading-turn : n .form ≡ 0 → Reading t register sender d st₀ n rest′ st′
+    pub reading-turn : n .form ≡ 0 → Reading t register sender all-lines st₀ n ls st′
     reading-turn h =
         let g = goes .1 h in
         let e : n .line ≡ suc (s .line) = goes .2 ∙ add-one (s .line) in
-        let shorter : length rest′ < length rest = subst (λ (x : List ℕ). length x < length rest) (sym after-it) (after-line-shorter rest some) in
         let f = now .few in
         let k = now .left in
         let m : n .rows ≤ s .rows + 1 = subst (λ (x : State). x .rows ≤ s .rows + 1) (sym step) (line-few t register sender s l) in
@@ -205,27 +201,57 @@ module _ (t : Table) (register : List ℕ) (sender : ℕ) (d st₀ : List ℕ) w
           from = omega arith;
           left = omega arith;
           few = omega arith;
-          answer = now .answer ∙ ap (settledFrom t register sender s) split ∙ g .1 ∙ ap (λ (i : ℕ). settledFrom t register sender n (items t (placeAfter t (markOf l) l (now .place)) i (lines rest′))) (sym e);
+          answer = now .answer ∙ ap (settledFrom t register sender s) split ∙ g .1 ∙ ap (λ (i : ℕ). settledFrom t register sender n (items t (placeAfter t (markOf l) l (now .place)) i ls)) (sym e);
           rows =
               now .rows
               ∙ ap (λ (rs : List (List ℕ)). now .done ++ rs) (ap (rowsFrom t register sender s) split ∙ stages .next h)
-              ∙ sym (append-assoc (now .done) (stages .more) (rowsFrom t register sender n (comes t (now .place) (s .line) l rest′)))
-              ∙ ap (λ (i : ℕ). (now .done ++ stages .more) ++ rowsFrom t register sender n (items t (placeAfter t (markOf l) l (now .place)) i (lines rest′))) (sym e);
+              ∙ sym (append-assoc (now .done) (stages .more) (rowsFrom t register sender n (comes t (now .place) (s .line) l ls)))
+              ∙ ap (λ (i : ℕ). (now .done ++ stages .more) ++ rowsFrom t register sender n (items t (placeAfter t (markOf l) l (now .place)) i ls)) (sym e);
           area = stages .area;
           all = stages .all;
           count = stages .count;
         }
 
   -- nothing is left
-  pub reading-done : (s : State) (rest st : List ℕ) → Reading t register sender d st₀ s rest st → length rest ≤ 0
-      → (answeredBy 0 (s .wrong) (s .column) (s .owner) (s .rows) ≡ answerTo t register sender (itemsOf t d)) × (st ≡ laid t (rowsUpTo t register sender (itemsOf t d)) st₀)
+  pub reading-done : (s : State) (st : List ℕ) → Reading t register sender all-lines st₀ s [] st
+      → (answeredBy 0 (s .wrong) (s .column) (s .owner) (s .rows) ≡ answerTo t register sender (items t outside 1 all-lines))
+      × (st ≡ laid t (rowsUpTo t register sender (items t outside 1 all-lines)) st₀)
   unfolding firstLine firstColumn rowsUpTo
-  reading-done s rest st now h =
-      let e : items t (now .place) (s .line) (lines rest) ≡ [] = ap (items t (now .place) (s .line)) (lines-none rest h) ∙ items-none t (now .place) (s .line) in (
+  reading-done s st now =
+      let e = items-none t (now .place) (s .line) in (
         settled-none t register sender s ∙ sym (now .answer ∙ ap (settledFrom t register sender s) e),
         now .area ∙ ap (λ (rs : List (List ℕ)). laid t rs st₀) (sym (now .rows ∙ ap (λ (xs : List Item). now .done ++ rowsFrom t register sender s xs) e ∙ ap (λ (rs : List (List ℕ)). now .done ++ rs) (on-same (clean s) []) ∙ append-nil (now .done))),
       )
 
 -- the staging area keeps its length
-pub reading-length : (t : Table) (register : List ℕ) (sender : ℕ) (d st₀ : List ℕ) (s : State) (rest st : List ℕ) → Reading t register sender d st₀ s rest st → length st ≡ length st₀
-reading-length t register sender d st₀ s rest st now = ap length (now .area) ∙ length-over 0 _ st₀
+pub reading-length : (t : Table) (register : List ℕ) (sender : ℕ) (all-lines : List (List ℕ)) (st₀ : List ℕ) (s : State) (ls : List (List ℕ)) (st : List ℕ)
+    → Reading t register sender all-lines st₀ s ls st → length st ≡ length st₀
+reading-length t register sender all-lines st₀ s ls st now = ap length (now .area) ∙ length-over 0 _ st₀
+
+-- ---- the lines of bytes
+
+-- no more lines than bytes
+lines-few : (n : ℕ) (l : List ℕ) → length l ≤ n → length (lines l) ≤ length l
+lines-few zero l h = rw (lines-none l h) (omega arith)
+lines-few (suc n) l h = go (ltb 0 (length l)) refl (lines-few n (drop 1 (past 13 l)))
+  where
+    go : (t : Bool) → ltb 0 (length l) ≡ t → (length (drop 1 (past 13 l)) ≤ n → length (lines (drop 1 (past 13 l))) ≤ length (drop 1 (past 13 l))) → length (lines l) ≤ length l
+    go true e few =
+        let some = ltb-true 0 (length l) e in
+        let shorter = after-line-shorter l some in
+        let k = few (omega arith) in
+        rw (lines-cons l some) (omega arith)
+    go false e few = rw (lines-none l (ltb-false 0 (length l) e)) (omega arith)
+
+pub lines-most : (d : List ℕ) → length (lines d) ≤ length d
+lines-most d = lines-few (length d) d (omega arith)
+
+-- bytes that are left, and their first line
+module _ (t : Table) (register : List ℕ) (sender : ℕ) (all-lines : List (List ℕ)) (st₀ : List ℕ) (s : State) (rest st : List ℕ) (now : Reading t register sender all-lines st₀ s (lines rest) st) where
+  pub reading-next : (l rest′ : List ℕ) → 0 < length rest → l ≡ until 13 rest → rest′ ≡ drop 1 (past 13 rest) → Reading t register sender all-lines st₀ s (l ∷ lines rest′) st
+  reading-next l rest′ some line after-it =
+      subst (λ (ls : List (List ℕ)). Reading t register sender all-lines st₀ s ls st)
+      (lines-cons rest some ∙ ap (λ (x : List ℕ). x ∷ lines (drop 1 (past 13 rest))) (sym line) ∙ ap (λ (x : List ℕ). l ∷ lines x) (sym after-it)) now
+
+  pub reading-none : length rest ≤ 0 → Reading t register sender all-lines st₀ s [] st
+  reading-none h = subst (λ (ls : List (List ℕ)). Reading t register sender all-lines st₀ s ls st) (lines-none rest h) now

@@ -32,7 +32,7 @@ quiet-field e k b q =
     go true = refl
     go false = refl
 
-quiet-step : (f : Bool) (k : Kind) (b : ℕ) → loud b ≡ false → step (inText f k) b ≡ To (inText (eqb b 124) k)
+pub quiet-step : (f : Bool) (k : Kind) (b : ℕ) → loud b ≡ false → step (inText f k) b ≡ To (inText (eqb b 124) k)
 unfolding step
 quiet-step true k b q = quiet-field (FirstEsc k) k b q
 quiet-step false k b q = quiet-field (InsideEsc k) k b q

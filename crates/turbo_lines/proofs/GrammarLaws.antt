@@ -17,31 +17,32 @@ free-append : (x : ℕ) {l m : List ℕ} → Free x l → Free x m → Free x (l
 free-append x Free.none g = g
 free-append x (Free.byte n f) g = Free.byte n (free-append x f g)
 
--- an escape's letter is no CR
-esc-ret : (e : ℕ) → Esc e → e ≡ 13 → ⊥
-esc-ret e Esc.slash q = omega arith
-esc-ret e Esc.lf q = omega arith
-esc-ret e Esc.bar q = omega arith
-esc-ret e Esc.cr q = omega arith
-
 differ′ : (a b : ℕ) → b < a → a ≡ b → ⊥
 differ′ a b h e = omega arith
 
-plain-ret : (b : ℕ) → Plain b → b ≡ 13 → ⊥
-plain-ret b p q = let h = p .above in omega arith
+-- no byte below 32, CR and LF among them, stands in fields
+module _ (x : ℕ) (low : x < 32) where
+  esc-free : (e : ℕ) → Esc e → e ≡ x → ⊥
+  esc-free e Esc.slash q = omega arith
+  esc-free e Esc.lf q = omega arith
+  esc-free e Esc.bar q = omega arith
+  esc-free e Esc.cr q = omega arith
 
-text-ret : {l : List ℕ} → Text l → Free 13 l
-text-ret Text.empty = Free.none
-text-ret (Text.plain {b} p t) = Free.byte (plain-ret b p) (text-ret t)
-text-ret (Text.esc {e} p t) = Free.byte (differ′ 92 13 (omega arith)) (Free.byte (esc-ret e p) (text-ret t))
+  plain-free : (b : ℕ) → Plain b → b ≡ x → ⊥
+  plain-free b p q = let h = p .above in omega arith
 
-field-ret : {l : List ℕ} → Field l → Free 13 l
-field-ret (Field.text t) = text-ret t
-field-ret Field.null = Free.byte (differ′ 92 13 (omega arith)) (Free.byte (differ′ 48 13 (omega arith)) Free.none)
+  text-free : {l : List ℕ} → Text l → Free x l
+  text-free Text.empty = Free.none
+  text-free (Text.plain {b} p t) = Free.byte (plain-free b p) (text-free t)
+  text-free (Text.esc {e} p t) = Free.byte (differ′ 92 x (omega arith)) (Free.byte (esc-free e p) (text-free t))
 
-fields-ret : {l : List ℕ} → Fields l → Free 13 l
-fields-ret (Fields.one f) = field-ret f
-fields-ret (Fields.more f g) = free-append 13 (field-ret f) (Free.byte (differ′ 124 13 (omega arith)) (fields-ret g))
+  field-free : {l : List ℕ} → Field l → Free x l
+  field-free (Field.text t) = text-free t
+  field-free Field.null = Free.byte (differ′ 92 x (omega arith)) (Free.byte (differ′ 48 x (omega arith)) Free.none)
+
+  pub fields-free : {l : List ℕ} → Fields l → Free x l
+  fields-free (Fields.one f) = field-free f
+  fields-free (Fields.more f g) = free-append x (field-free f) (Free.byte (differ′ 124 x (omega arith)) (fields-free g))
 
 -- a line with no CR, before its line end
 line-before : {f : List ℕ} (r : List ℕ) → Free 13 f → lines (ended f r) ≡ f ∷ lines r
@@ -104,7 +105,7 @@ walked-group f = refl
 -- the two lines that head a table
 walked-head : {t l : List ℕ} (r : List ℕ) → Fields t → Fields l → map walked (lines (headed t l r)) ≡ (Table, t) ∷ (Labels, l) ∷ map walked (lines r)
 walked-head {t} {l} r g h =
-    ap (map walked) (marked-before 84 _ (differ′ 84 13 (omega arith)) (fields-ret g) ∙ ap (λ (ls : List (List ℕ)). (92 ∷ 84 ∷ t) ∷ ls) (marked-before 76 r (differ′ 76 13 (omega arith)) (fields-ret h)))
+    ap (map walked) (marked-before 84 _ (differ′ 84 13 (omega arith)) (fields-free 13 (omega arith) g) ∙ ap (λ (ls : List (List ℕ)). (92 ∷ 84 ∷ t) ∷ ls) (marked-before 76 r (differ′ 76 13 (omega arith)) (fields-free 13 (omega arith) h)))
     ∙ ap (λ (a : MarkedLine). a ∷ walked (92 ∷ 76 ∷ l) ∷ map walked (lines r)) (walked-table t)
     ∙ ap (λ (a : MarkedLine). (Table, t) ∷ a ∷ map walked (lines r)) (walked-labels l)
 
@@ -112,7 +113,7 @@ lines-grammar : {l : List ℕ} (d : Lines l) → map walked (lines l) ≡ linesI
 unfolding linesFrom
 lines-grammar Lines.end = refl
 lines-grammar (Lines.line {f} {r} g d) =
-    ap (map walked) (line-before r (fields-ret g)) ∙ ap (λ (a : MarkedLine). a ∷ map walked (lines r)) (walked-data g) ∙ ap (λ (ls : List MarkedLine). (Data, f) ∷ ls) (lines-grammar d)
+    ap (map walked) (line-before r (fields-free 13 (omega arith) g)) ∙ ap (λ (a : MarkedLine). a ∷ map walked (lines r)) (walked-data g) ∙ ap (λ (ls : List MarkedLine). (Data, f) ∷ ls) (lines-grammar d)
 lines-grammar (Lines.table {t} {l} {r} g h d) =
     walked-head r g h ∙ ap (λ (ls : List MarkedLine). (Table, t) ∷ (Labels, l) ∷ ls) (lines-grammar d)
 
@@ -124,6 +125,6 @@ tables-grammar (Tables.table {t} {l} {r} g h d) =
 
 pub dossier-grammar : {d : List ℕ} (w : WellFormed d) → map walked (lines d) ≡ dossierIn w
 dossier-grammar (WellFormed.dossier {g} {t} f d) =
-    ap (map walked) (marked-before 71 t (differ′ 71 13 (omega arith)) (fields-ret f))
+    ap (map walked) (marked-before 71 t (differ′ 71 13 (omega arith)) (fields-free 13 (omega arith) f))
     ∙ ap (λ (a : MarkedLine). a ∷ map walked (lines t)) (walked-group g)
     ∙ ap (λ (ls : List MarkedLine). (Group, g) ∷ ls) (tables-grammar d)
