@@ -11,13 +11,12 @@ use Rattle.columns.specs.declared.Table.the-variants.{Message, Planning, Calend
 use Rattle.columns.specs.Tables.{rowOf, rowWidth}
 use Rattle.columns.specs.inner.Blank.{widest-row}
 use Rattle.register.specs.Register.{grants, maySend}
-use Rattle.rows.specs.declared.Shape.{Shape}
-use Rattle.rows.specs.inner.Reading.{IsShape}
-use Rattle.rows.proofs.RowLaws.{shape-reads, row-length}
+use Rattle.rows.specs.inner.Shape.{IsShape}
+use Rattle.rows.proofs.RowLaws.{shape-reads, shape-sound, row-length}
 use Rattle.reader_step.specs.declared.State.{State}
 use Rattle.reader.specs.Items.{Place, outside, awaiting, under}
 use Rattle.reader_step.proofs.WidthLaws.{width-most, width-owner}
-use Rattle.reader.proofs.FoldLaws.{Agrees, Reads, shape-fault}
+use Rattle.reader.proofs.FoldLaws.{Agrees, Reads}
 use Rattle.reader.proofs.StageLaws.{Fronts}
 
 -- What the reader uses of the rows below: a shape reads a line as the rule says, and the row stands in front of what is read. Assumes nothing.
@@ -50,4 +49,4 @@ line-fronts t l ls e w = (row-length t ls l w, row-front t (rowOf t ls l) (row-l
 pub holds-shape : (t : Table) (s : State) (p : Place) → Agrees t s p → s .place ≡ 2 → IsShape t (s .shape)
 holds-shape t s outside a h = absurd (omega arith)
 holds-shape t s awaiting a h = absurd (omega arith)
-holds-shape t s (under ls) a h = record { labels = ls; shape = a .1; faultless = ap (λ (x : Shape). x .fault) (a .1) ∙ shape-fault t ls ∙ a .2 }
+holds-shape t s (under ls) a h = rw (a .1) (shape-sound t ls (a .2))

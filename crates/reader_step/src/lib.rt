@@ -6,7 +6,7 @@ use turbo_lines::Mark;
 ghost use mathlib.Core.Path.{_≡_};
 ghost use Prim.Native.Nat.{_≤_, _<_};
 ghost use lib.ListN.{length};
-ghost use Rattle.rows.specs.inner.Reading.{IsShape};
+ghost use Rattle.rows.specs.inner.Shape.{IsShape};
 ghost use Rattle.lists.specs.Text.{same};
 ghost use Rattle.columns.specs.Tables.{tableName};
 ghost use Rattle.reader_step.specs.inner.Step.{moved, misformed, labelled, mistyped, disowned, oneRowMore, rowStep, dataStep, labelStep, placeNamed, stepBy, lineStep, Fresh};

@@ -26,9 +26,9 @@ use Rattle.columns.proofs.CellLaws.{cell-width}
 use Rattle.columns.proofs.PartLaws.{Fit}
 use Rattle.columns.proofs.LayoutLaws.{absent-width, width-at, length-widths, wanted-most}
 use Rattle.rows.specs.declared.Shape.{Shape}
+use Rattle.rows.specs.inner.Shape.{IsShape}
 use Rattle.rows.specs.inner.Reading.{cellAt, perColumn, cellsBy, filled}
 use Rattle.rows.proofs.ColumnLaws.{per-length, per-at, flat-set, fit-each}
-use Rattle.rows.proofs.SoundLaws.{Sound}
 
 pub equal : (k j : ℕ) → Dec (k ≡ j)
 equal k j = go (eqb k j) refl
@@ -93,7 +93,7 @@ cell-wide t n s line k p h e = go (ltb p n) (leftOut (columnAt t k) (fieldAt p l
 -- ---- a shape's columns
 
 -- a column that is missing may be absent
-pub may-be-absent : (t : Table) (h : Shape) (g : Sound t h) (k : ℕ) → k < wanted t → h .count ≤ placeOf h k → isOptional (columnAt t k) ≡ true
+pub may-be-absent : (t : Table) (h : Shape) (g : IsShape t h) (k : ℕ) → k < wanted t → h .count ≤ placeOf h k → isOptional (columnAt t k) ≡ true
 unfolding optionalAt
 may-be-absent t h g k m l = go (isOptional (columnAt t k)) (g .there k m)
   where
@@ -104,7 +104,7 @@ may-be-absent t h g k m l = go (isOptional (columnAt t k)) (g .there k m)
 blank-absent : (c : Column) → isOptional c ≡ true → blankCell c ≡ c .absent
 blank-absent c e = rw e
 
-module _ (t : Table) (h : Shape) (line : List ℕ) (g : Sound t h) where
+module _ (t : Table) (h : Shape) (line : List ℕ) (g : IsShape t h) where
   roomy : length (columnsIn t) ≤ length (h .places)
   roomy = let w = wanted-most t in let r = g .room in omega arith
 

@@ -22,10 +22,10 @@ use Rattle.columns.proofs.PartLaws.{begins, Fit, length-flat, flat-part}
 use Rattle.columns.proofs.LayoutLaws.{wanted-most, width-at, length-widths, total-widths}
 use Rattle.rows.specs.declared.Shape.{Shape}
 use Rattle.rows.specs.declared.Read.{Read}
-use Rattle.rows.specs.inner.Shape.{placesOf, shapeOf}
-use Rattle.rows.specs.inner.Reading.{cellAt, perColumn, cellsBy, firstWrong, readGiven, readCells, readBy, IsShape}
+use Rattle.rows.specs.inner.Shape.{placesOf, shapeOf, IsShape}
+use Rattle.rows.specs.inner.Reading.{cellAt, perColumn, cellsBy, firstWrong, readGiven, readCells, readBy}
 use Rattle.rows.proofs.ColumnLaws.{WrongIs, wrong-is, fit-each}
-use Rattle.rows.proofs.SoundLaws.{name-at, place-at, places-room, shape-fault, shape-is}
+use Rattle.rows.proofs.SoundLaws.{name-at, place-at, places-room, shape-is, right-sound}
 use Rattle.rows.proofs.FillLaws.{cell-wide}
 
 -- ---- the readers' rule is the rule by labels
@@ -79,7 +79,7 @@ shape-count t labels e = ap (λ (h : Shape). h .count) (shape-is t labels e)
 
 -- and is one by which lines are read
 pub shape-sound : (t : Table) (labels : List (List ℕ)) → labelFault t labels ≡ false → IsShape t (shapeOf t labels)
-shape-sound t labels e = record { labels = labels; shape = refl; faultless = shape-fault t labels ∙ e }
+shape-sound t labels e = rw (shape-is t labels e) (right-sound t labels e)
 
 -- ---- cells and lengths
 

@@ -22,7 +22,7 @@ use Rattle.columns.specs.Tables.{Column, must, messageColumns, planningColumns,
 use Rattle.columns.specs.Layout.{wanted, columnAt, optionalAt}
 use Rattle.columns.proofs.LayoutLaws.{wanted-most, names-wanted}
 use Rattle.rows.specs.declared.Shape.{Shape}
-use Rattle.rows.specs.inner.Shape.{placesOf, visits, readingOrder, noShape, shapeOf}
+use Rattle.rows.specs.inner.Shape.{IsShape, placesOf, visits, readingOrder, shapeOf}
 use Rattle.rows.proofs.AheadLaws.{visits-length}
 use Rattle.rows.proofs.ShapeLaws.{found-twice, found-places}
 
@@ -134,14 +134,6 @@ module _ (t : Table) (labels : List (List ℕ)) (e : labelFault t labels ≡ fal
 
 -- ---- the shape
 
--- what is known of the shape h of a table
-pub record Sound (t : Table) (h : Shape) : Type 0 where
-  pub room : length (h .places) ≡ most
-  pub apart : (j k : ℕ) → j < wanted t → k < wanted t → getD (h .places) j 0 ≡ getD (h .places) k 0 → getD (h .places) j 0 < h .count → j ≡ k
-  pub there : (k : ℕ) → k < wanted t → optionalAt t k ≡ false → getD (h .places) k 0 < h .count
-  pub found : h .found ≡ length (visits (wanted t) (take (wanted t) (h .places)) (h .count) 0)
-  pub order : h .order ≡ over 0 (visits (wanted t) (take (wanted t) (h .places)) (h .count) 0) (replicate most 0)
-
 -- the shape of a line without a fault
 abbrev pub rightShape : Table → List (List ℕ) → Shape
 rightShape t labels =
@@ -154,19 +146,11 @@ rightShape t labels =
       order = over 0 (readingOrder t labels) (replicate most 0);
     }
 
-pub shape-fault : (t : Table) (labels : List (List ℕ)) → shapeOf t labels .fault ≡ labelFault t labels
-unfolding shapeOf
-shape-fault t labels = go (labelFault t labels)
-  where
-    go : (b : Bool) → (on {A = Shape} b noShape (rightShape t labels)) .fault ≡ b
-    go true = refl
-    go false = refl
-
 pub shape-is : (t : Table) (labels : List (List ℕ)) → labelFault t labels ≡ false → shapeOf t labels ≡ rightShape t labels
 unfolding shapeOf
 shape-is t labels e = rw e
 
-pub right-sound : (t : Table) (labels : List (List ℕ)) → labelFault t labels ≡ false → Sound t (rightShape t labels)
+pub right-sound : (t : Table) (labels : List (List ℕ)) → labelFault t labels ≡ false → IsShape t (rightShape t labels)
 right-sound t labels e =
     record {
       room = places-room t labels;
@@ -176,7 +160,7 @@ right-sound t labels e =
       order = refl;
     }
 
-pub found-most : (t : Table) (h : Shape) → Sound t h → h .found ≤ most
+pub found-most : (t : Table) (h : Shape) → IsShape t h → h .found ≤ most
 found-most t h g =
     let f = g .found in
     let w = wanted-most t in

@@ -1,7 +1,5 @@
 -- What a data line of a wanted table gives, by the shape of its labels: as the code reads it. Assumes nothing.
 use Prim.Native.Nat.{ℕ, _+_}
-use mathlib.Core.Path.{_≡_}
-use mathlib.Core.Bool.{false}
 use mathlib.Core.List.{List, [], _∷_}
 use lib.Dec.{eqb, ltb}
 use lib.ListN.{replicate}
@@ -17,7 +15,6 @@ use Rattle.columns.specs.Layout.{columnAt, offset}
 use Rattle.columns.specs.inner.Blank.{widest-row}
 use Rattle.rows.specs.declared.Shape.{Shape}
 use Rattle.rows.specs.declared.Read.{Read}
-use Rattle.rows.specs.inner.Shape.{shapeOf}
 
 -- the cell of the column c, which stands at place p of n columns, in a line whose stop type stands at place s
 abbrev pub cellAt : ℕ → ℕ → List ℕ → Column → ℕ → List ℕ
@@ -49,12 +46,6 @@ readCells xs ps = readGiven (firstWrong xs ps) (flat xs)
 
 unfoldable pub readBy : Table → Shape → List ℕ → Read
 readBy t h line = readCells (cellsBy (columnsIn t) (h .places) (h .count) (h .stop) line) (h .places)
-
--- h is what a label line of table t without a fault gives
-pub record IsShape (t : Table) (h : Shape) : Type 0 where
-  pub labels : List (List ℕ)
-  pub shape : h ≡ shapeOf t labels
-  pub faultless : h .fault ≡ false
 
 -- a blank row once the field f of column j is read
 abbrev pub filled : Table → ℕ → List ℕ → List ℕ → List ℕ → List ℕ
