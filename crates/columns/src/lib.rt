@@ -3,7 +3,7 @@ ghost use mathlib.Core.Path.{_≡_};
 ghost use Prim.Native.Nat.{_+_, _*_, _≤_, _<_};
 ghost use Rattle.columns.specs.Tables.{rowWidth};
 ghost use Rattle.columns.specs.Layout.{wanted, kindAt, optionalAt, offset};
-ghost use Rattle.columns.specs.inner.Digit.{digitOf, kindNamed};
+ghost use Rattle.columns.specs.inner.Digit.{digitOf, digitAt, kindNamed};
 
 // The tables that are wanted: of a message, of the planning, of the calendar.
 pub enum Table {
@@ -51,12 +51,24 @@ pub fn wanted(table: Table) -> usize
 }
 
 // Hex digit j of a number, the last being digit 0.
-fn digit(packed: u64, j: usize) -> u8
+fn digit_of(packed: u64, j: usize) -> u8
     requires { ⌜ j < 16 ⌝ }
     ensures is { λ r. ⌜ r ≡ digitOf packed j ⌝ }
     ensures few { λ r. ⌜ r ≤ 15 ⌝ }
 {
     ((packed >> (4 * j)) % 16) as u8
+}
+
+// Hex digit j of two numbers, a word having room for sixteen: the second has the digits from there on.
+fn digit(first: u64, second: u64, j: usize) -> u8
+    requires { ⌜ j < 32 ⌝ }
+    ensures is { λ r. ⌜ r ≡ digitAt first second j ⌝ }
+    ensures few { λ r. ⌜ r ≤ 15 ⌝ }
+{
+    if j < 16 {
+        return digit_of(first, j);
+    }
+    digit_of(second, j - 16)
 }
 
 // The kind that a hex digit names.
@@ -80,7 +92,10 @@ fn kind_named(digit: u8) -> Kind
 }
 
 // The columns' kinds, a hex digit each, the first column's last: a constant table would be laid out anew wherever it is read.
+// Of a message, whose columns fill a word, `MORE` has those behind the sixteenth: none yet.
 const MESSAGE_KINDS: u64 = 0xaba9876504032010;
+
+const MORE_MESSAGE_KINDS: u64 = 0x0;
 
 const PLANNING_KINDS: u64 = 0xb98700403200;
 
@@ -92,16 +107,20 @@ pub fn kind_of(table: Table, index: usize) -> Kind
     ensures { λ r. ⌜ r ≡ kindAt table index ⌝ }
 {
     match table {
-        Table::Message => kind_named(digit(MESSAGE_KINDS, index)),
-        Table::Planning => kind_named(digit(PLANNING_KINDS, index)),
-        Table::Calendar => kind_named(digit(CALENDAR_KINDS, index)),
+        Table::Message => kind_named(digit(MESSAGE_KINDS, MORE_MESSAGE_KINDS, index)),
+        Table::Planning => kind_named(digit(PLANNING_KINDS, 0, index)),
+        Table::Calendar => kind_named(digit(CALENDAR_KINDS, 0, index)),
     }
 }
 
 // Where the columns' cells begin in a row: two hex digits each, all the first ones and all the second ones.
 const MESSAGE_HIGH: u64 = 0x4433333322111000;
 
+const MORE_MESSAGE_HIGH: u64 = 0x0;
+
 const MESSAGE_LOW: u64 = 0x10feb87397dc8ea0;
+
+const MORE_MESSAGE_LOW: u64 = 0x0;
 
 const PLANNING_HIGH: u64 = 0x433322211100;
 
@@ -111,12 +130,11 @@ const CALENDAR_HIGH: u64 = 0x100;
 
 const CALENDAR_LOW: u64 = 0x4a0;
 
-// The number of two hex digits at place j.
-fn two_digits(high: u64, low: u64, j: usize) -> usize
-    requires { ⌜ j < 16 ⌝ }
-    ensures { λ r. ⌜ r ≡ digitOf high j * 16 + digitOf low j ⌝ }
+// The number of two hex digits.
+fn two_digits(high: u8, low: u8) -> usize
+    ensures { λ r. ⌜ r ≡ high * 16 + low ⌝ }
 {
-    digit(high, j) as usize * 16 + digit(low, j) as usize
+    high as usize * 16 + low as usize
 }
 
 // Where the cell of column j begins in a row.
@@ -125,14 +143,25 @@ pub fn offset_of(table: Table, index: usize) -> usize
     ensures { λ r. ⌜ r ≡ offset table index ⌝ }
 {
     match table {
-        Table::Message => two_digits(MESSAGE_HIGH, MESSAGE_LOW, index),
-        Table::Planning => two_digits(PLANNING_HIGH, PLANNING_LOW, index),
-        Table::Calendar => two_digits(CALENDAR_HIGH, CALENDAR_LOW, index),
+        Table::Message => two_digits(
+            digit(MESSAGE_HIGH, MORE_MESSAGE_HIGH, index),
+            digit(MESSAGE_LOW, MORE_MESSAGE_LOW, index),
+        ),
+        Table::Planning => two_digits(
+            digit(PLANNING_HIGH, 0, index),
+            digit(PLANNING_LOW, 0, index),
+        ),
+        Table::Calendar => two_digits(
+            digit(CALENDAR_HIGH, 0, index),
+            digit(CALENDAR_LOW, 0, index),
+        ),
     }
 }
 
 // Which columns may be absent: 1.
 const MESSAGE_OPTIONAL: u64 = 0x1110000000000000;
+
+const MORE_MESSAGE_OPTIONAL: u64 = 0x0;
 
 const PLANNING_OPTIONAL: u64 = 0x100000000000;
 
@@ -144,8 +173,8 @@ pub fn is_optional(table: Table, index: usize) -> bool
     ensures { λ r. ⌜ r ≡ optionalAt table index ⌝ }
 {
     match table {
-        Table::Message => digit(MESSAGE_OPTIONAL, index) == 1,
-        Table::Planning => digit(PLANNING_OPTIONAL, index) == 1,
-        Table::Calendar => digit(CALENDAR_OPTIONAL, index) == 1,
+        Table::Message => digit(MESSAGE_OPTIONAL, MORE_MESSAGE_OPTIONAL, index) == 1,
+        Table::Planning => digit(PLANNING_OPTIONAL, 0, index) == 1,
+        Table::Calendar => digit(CALENDAR_OPTIONAL, 0, index) == 1,
     }
 }

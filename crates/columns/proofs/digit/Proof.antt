@@ -1,21 +1,24 @@
-use native.Mathlib.Nat.{mod-lt, le-of-suc-le-suc}
-use native.Mathlib.Omega.{arith}
 use borrow.Author.Needs.{needs}
-use Rattle.columns.proofs.DigitLaws.{digit-is}
+use mathlib.Core.Path.{_∙_}
+use Rattle.columns.proofs.DigitLaws.{digit-first, digit-second}
 use Rattle.columns.proofs.digit.Statement.{statement}
 use Rattle.columns.proofs.digit.Tie as tie
 
-mul-result : tie.Need-mul-result
-mul-result c = search needs
-
-shr-result : tie.Need-shr-result
-shr-result c = search needs
-
-cast-result : tie.Need-cast-result
-cast-result c = search needs
+digit-of-requires : tie.Need-digit-of-requires
+digit-of-requires c κs = search needs
 
 returns : tie.Need-returns
-returns c = (digit-is (c .args .packed) (c .args .j) (c .pre), omega arith)
+returns c =
+    let a = c .before .before .args in
+    (c .digit-of .ensures .0 ∙ digit-first (a .first) (a .second) (a .j) (c .before .if1 .taken), c .digit-of .ensures .1)
+
+digit-of-requires-2 : tie.Need-digit-of-requires-2
+digit-of-requires-2 c κs = search needs
+
+returns-2 : tie.Need-returns-2
+returns-2 c =
+    let a = c .before .before .args in
+    (c .digit-of2 .ensures .0 ∙ digit-second (a .first) (a .second) (a .j) (c .before .if1 .left), c .digit-of2 .ensures .1)
 
 pub digit-spec : {M : Type 1} → statement M
-digit-spec = tie.close (tie.spec mul-result shr-result cast-result returns)
+digit-spec = tie.close (tie.spec digit-of-requires returns digit-of-requires-2 returns-2)

@@ -1,9 +1,8 @@
 use mathlib.Core.Path.{_∙_, ap}
 use native.Mathlib.Omega.{arith}
 use borrow.Author.Needs.{needs}
-use Rattle.columns.specs.Tables.{messageColumns, planningColumns, calendarColumns, columnsIn}
 use Rattle.columns.specs.inner.Digit.{kindNamed}
-use Rattle.columns.proofs.LayoutLaws.{told-below}
+use Rattle.columns.proofs.LayoutLaws.{wanted-most, told-below}
 use Rattle.columns.proofs.DigitLaws.{message-kind, planning-kind, calendar-kind}
 use Rattle.columns.proofs.kind_of.Statement.{statement}
 use Rattle.columns.proofs.kind_of.Tie as tie
@@ -12,8 +11,7 @@ enum-told : tie.Need-enum-told
 enum-told c = search needs
 
 digit-requires : tie.Need-digit-requires
-unfolding columnsIn messageColumns
-digit-requires c κs = omega (arith, told-below (c .before .before .args .index) (c .enum-told .given .1) (c .before .before .pre))
+digit-requires c κs = omega (arith, wanted-most (c .before .before .args .table))
 
 kind-named-requires : tie.Need-kind-named-requires
 kind-named-requires c κs = search needs
@@ -22,8 +20,7 @@ enum-told-2 : tie.Need-enum-told-2
 enum-told-2 c = search needs
 
 digit-requires-2 : tie.Need-digit-requires-2
-unfolding columnsIn planningColumns
-digit-requires-2 c κs = omega (arith, told-below (c .before .before .args .index) (c .enum-told2 .given .1) (c .before .before .pre))
+digit-requires-2 c κs = omega (arith, wanted-most (c .before .before .args .table))
 
 kind-named-requires-2 : tie.Need-kind-named-requires-2
 kind-named-requires-2 c κs = search needs
@@ -32,28 +29,24 @@ enum-told-3 : tie.Need-enum-told-3
 enum-told-3 c = search needs
 
 digit-requires-3 : tie.Need-digit-requires-3
-unfolding columnsIn calendarColumns
-digit-requires-3 c κs = omega (arith, told-below (c .before .before .args .index) (c .enum-told3 .given .1) (c .before .before .pre))
+digit-requires-3 c κs = omega (arith, wanted-most (c .before .before .args .table))
 
 kind-named-requires-3 : tie.Need-kind-named-requires-3
 kind-named-requires-3 c κs = search needs
 
 returns : tie.Need-returns
-unfolding columnsIn messageColumns
 returns c =
     let a = c .before .before .before .before in
     let told = c .before .before .enum-told .given .1 in
     rw told (c .kind-named .ensures ∙ ap kindNamed (c .before .digit .ensures .0) ∙ message-kind (a .args .index) (told-below (a .args .index) told (a .pre)))
 
 returns-2 : tie.Need-returns-2
-unfolding columnsIn planningColumns
 returns-2 c =
     let a = c .before .before .before .before in
     let told = c .before .before .enum-told2 .given .1 in
     rw told (c .kind-named2 .ensures ∙ ap kindNamed (c .before .digit2 .ensures .0) ∙ planning-kind (a .args .index) (told-below (a .args .index) told (a .pre)))
 
 returns-3 : tie.Need-returns-3
-unfolding columnsIn calendarColumns
 returns-3 c =
     let a = c .before .before .before .before in
     let told = c .before .before .enum-told3 .given .1 in

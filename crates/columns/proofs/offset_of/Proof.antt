@@ -1,60 +1,80 @@
 use mathlib.Core.Path.{_∙_}
 use native.Mathlib.Omega.{arith}
 use borrow.Author.Needs.{needs}
-use Rattle.columns.specs.Tables.{messageColumns, planningColumns, calendarColumns, columnsIn}
-use Rattle.columns.proofs.LayoutLaws.{told-below}
-use Rattle.columns.proofs.DigitLaws.{message-offset, planning-offset, calendar-offset}
+use Rattle.columns.proofs.LayoutLaws.{wanted-most, told-below}
+use Rattle.columns.proofs.DigitLaws.{two-told, message-offset, planning-offset, calendar-offset}
 use Rattle.columns.proofs.offset_of.Statement.{statement}
 use Rattle.columns.proofs.offset_of.Tie as tie
 
 enum-told : tie.Need-enum-told
 enum-told c = search needs
 
+digit-requires : tie.Need-digit-requires
+digit-requires c κs = omega (arith, wanted-most (c .before .before .args .table))
+
+digit-requires-2 : tie.Need-digit-requires-2
+digit-requires-2 c κs = omega (arith, wanted-most (c .before .before .before .args .table))
+
 two-digits-requires : tie.Need-two-digits-requires
-unfolding columnsIn messageColumns
-two-digits-requires c κs = omega (arith, told-below (c .before .before .args .index) (c .enum-told .given .1) (c .before .before .pre))
+two-digits-requires c κs = search needs
 
 enum-told-2 : tie.Need-enum-told-2
 enum-told-2 c = search needs
 
+digit-requires-3 : tie.Need-digit-requires-3
+digit-requires-3 c κs = omega (arith, wanted-most (c .before .before .args .table))
+
+digit-requires-4 : tie.Need-digit-requires-4
+digit-requires-4 c κs = omega (arith, wanted-most (c .before .before .before .args .table))
+
 two-digits-requires-2 : tie.Need-two-digits-requires-2
-unfolding columnsIn planningColumns
-two-digits-requires-2 c κs = omega (arith, told-below (c .before .before .args .index) (c .enum-told2 .given .1) (c .before .before .pre))
+two-digits-requires-2 c κs = search needs
 
 enum-told-3 : tie.Need-enum-told-3
 enum-told-3 c = search needs
 
+digit-requires-5 : tie.Need-digit-requires-5
+digit-requires-5 c κs = omega (arith, wanted-most (c .before .before .args .table))
+
+digit-requires-6 : tie.Need-digit-requires-6
+digit-requires-6 c κs = omega (arith, wanted-most (c .before .before .before .args .table))
+
 two-digits-requires-3 : tie.Need-two-digits-requires-3
-unfolding columnsIn calendarColumns
-two-digits-requires-3 c κs = omega (arith, told-below (c .before .before .args .index) (c .enum-told3 .given .1) (c .before .before .pre))
+two-digits-requires-3 c κs = search needs
 
 returns : tie.Need-returns
-unfolding columnsIn messageColumns
 returns c =
-    let a = c .before .before .before in
-    rw (c .before .enum-told .given .1) (c .two-digits .ensures ∙ message-offset (a .args .index) (told-below (a .args .index) (c .before .enum-told .given .1) (a .pre)))
+    let a = c .before .before .before .before .before in
+    let told = c .before .before .before .enum-told .given .1 in
+    rw told (two-told (c .two-digits .ensures) (c .before .before .digit .ensures .0) (c .before .digit2 .ensures .0) ∙ message-offset (a .args .index) (told-below (a .args .index) told (a .pre)))
 
 returns-2 : tie.Need-returns-2
-unfolding columnsIn planningColumns
 returns-2 c =
-    let a = c .before .before .before in
-    rw (c .before .enum-told2 .given .1) (c .two-digits2 .ensures ∙ planning-offset (a .args .index) (told-below (a .args .index) (c .before .enum-told2 .given .1) (a .pre)))
+    let a = c .before .before .before .before .before in
+    let told = c .before .before .before .enum-told2 .given .1 in
+    rw told (two-told (c .two-digits2 .ensures) (c .before .before .digit3 .ensures .0) (c .before .digit4 .ensures .0) ∙ planning-offset (a .args .index) (told-below (a .args .index) told (a .pre)))
 
 returns-3 : tie.Need-returns-3
-unfolding columnsIn calendarColumns
 returns-3 c =
-    let a = c .before .before .before in
-    rw (c .before .enum-told3 .given .1) (c .two-digits3 .ensures ∙ calendar-offset (a .args .index) (told-below (a .args .index) (c .before .enum-told3 .given .1) (a .pre)))
+    let a = c .before .before .before .before .before in
+    let told = c .before .before .before .enum-told3 .given .1 in
+    rw told (two-told (c .two-digits3 .ensures) (c .before .before .digit5 .ensures .0) (c .before .digit6 .ensures .0) ∙ calendar-offset (a .args .index) (told-below (a .args .index) told (a .pre)))
 
 pub offset-of-spec : {M : Type 1} → statement M
 offset-of-spec =
     tie.close
     (tie.spec
     enum-told
+    digit-requires
+    digit-requires-2
     two-digits-requires
     enum-told-2
+    digit-requires-3
+    digit-requires-4
     two-digits-requires-2
     enum-told-3
+    digit-requires-5
+    digit-requires-6
     two-digits-requires-3
     returns
     returns-2
