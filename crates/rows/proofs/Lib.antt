@@ -1,6 +1,7 @@
 pub mod NextLaws
 pub mod AheadLaws
 pub mod OrderLaws
+pub mod LackLaws
 pub mod ShapeLaws
 pub mod SoundLaws
 pub mod LabelLaws

@@ -2,7 +2,7 @@
 use mathlib.Core.Path.{_≡_, refl, sym, ap, _∙_}
 use mathlib.Core.Bool.{Bool, true, false}
 use mathlib.Core.List.{List}
-use Prim.Native.Nat.{ℕ, _≤_}
+use Prim.Native.Nat.{ℕ}
 use native.Mathlib.Omega.{arith}
 use lib.ListN.{length, take, replicate}
 use Rattle.lists.specs.Logic.{on}
@@ -15,17 +15,11 @@ use Rattle.columns.specs.declared.Table.the-variants.{Message, Planning, Calend
 use Rattle.columns.specs.Tables.{messageColumns, planningColumns, calendarColumns, columnsIn, names, misses, stopPlace, labelFault}
 use Rattle.columns.specs.Layout.{wanted}
 use Rattle.rows.specs.declared.Shape.{Shape}
-use Rattle.rows.specs.inner.Shape.{placesOf, mustCount, lacking, visits, readingOrder, noShape, shapeOf}
+use Rattle.rows.specs.inner.Shape.{placesOf, lacking, visits, readingOrder, noShape, shapeOf}
 
-pub must-most : (t : Table) → mustCount t ≤ most
-unfolding mustCount
-must-most Message = omega arith
-must-most Planning = omega arith
-must-most Calendar = omega arith
-
--- the columns that must be there are the first
-pub misses-lacking : (t : Table) (labels : List (List ℕ)) → misses t labels ≡ lacking (length labels) (take (mustCount t) (placesOf t labels))
-unfolding misses lacking mustCount columnsIn messageColumns planningColumns calendarColumns names placesFrom
+-- what must be there and is missing, by the places
+pub misses-lacking : (t : Table) (labels : List (List ℕ)) → misses t labels ≡ lacking (length labels) (columnsIn t) (placesOf t labels)
+unfolding misses lacking columnsIn messageColumns planningColumns calendarColumns names placesFrom
 misses-lacking Message labels = refl
 misses-lacking Planning labels = refl
 misses-lacking Calendar labels = refl
@@ -71,9 +65,9 @@ module _ (t : Table) (labels : List (List ℕ)) {c : Columns} (e : c ≡ columns
   unfolding shapeOf labelFault
   shape-twice q = rw (sym told ∙ q)
 
-module _ {t : Table} {labels : List (List ℕ)} {ps : List ℕ} {n k : ℕ} {b : Bool} (g : Searched t labels ps n) (m : k ≡ mustCount t) (l : b ≡ lacking n (take k ps)) where
+module _ {t : Table} {labels : List (List ℕ)} {ps : List ℕ} {n : ℕ} {b : Bool} (g : Searched t labels ps n) (l : b ≡ lacking n (columnsIn t) ps) where
   missing : misses t labels ≡ b
-  missing = misses-lacking t labels ∙ sym (l ∙ rw (m, g .places, g .count))
+  missing = misses-lacking t labels ∙ sym (l ∙ rw (g .places, g .count))
 
   -- one that must be there is missing
   pub shape-lacking : b ≡ true → noShape ≡ shapeOf t labels
