@@ -131,9 +131,9 @@ pub fn blank(table: Table) -> [u8; 80]
     let mut row = [0u8; 80];
     match table {
         Table::Message => {
-            row[63] = 255;
-            row[64] = 255;
-            row[65] = 255;
+            row[passage::SHOW_CANCELLED_AT] = passage::KEPT;
+            row[passage::FLEXIBLE_AT] = passage::KEPT;
+            row[passage::MONITORED_AT] = passage::KEPT;
             row
         }
         Table::Planning => row,

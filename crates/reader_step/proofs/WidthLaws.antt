@@ -13,6 +13,7 @@ use Rattle.columns.specs.declared.Table.{Table}
 use Rattle.columns.specs.declared.Table.the-variants.{Message, Planning, Calendar}
 use Rattle.columns.specs.Cell.{width}
 use Rattle.columns.specs.Tables.{messageColumns, planningColumns, calendarColumns, columnsIn, rowWidth}
+use Rattle.columns.specs.inner.Blank.{widest-row}
 use Rattle.reader_step.specs.inner.Step.{staged}
 
 -- How wide a row is, and where it goes. Assumes nothing.
@@ -23,7 +24,7 @@ width-some Message = omega arith
 width-some Planning = omega arith
 width-some Calendar = omega arith
 
-pub width-most : (t : Table) → rowWidth t ≤ 66
+pub width-most : (t : Table) → rowWidth t ≤ widest-row
 unfolding rowWidth columnsIn messageColumns planningColumns calendarColumns width
 width-most Message = omega arith
 width-most Planning = omega arith
@@ -37,10 +38,10 @@ width-owner Planning = omega arith
 width-owner Calendar = omega arith
 
 -- the place of row n and its end fit a word
-pub place-fits : (n w : ℕ) → n < 4294967296 → w ≤ 66 → n * w ≤ 283467841536
+pub place-fits : (n w : ℕ) → n < 4294967296 → w ≤ widest-row → n * w ≤ 4294967296 * widest-row
 place-fits n w h k =
     let a : n * w ≤ 4294967296 * w = mul-le-mul-right w (omega arith) in
-    let b : 4294967296 * w ≤ 4294967296 * 66 = mul-le-mul-left 4294967296 k in
+    let b : 4294967296 * w ≤ 4294967296 * widest-row = mul-le-mul-left 4294967296 k in
     omega arith
 
 next-row : (n w : ℕ) → (n + 1) * w ≡ n * w + w

@@ -9,6 +9,7 @@ ghost use lib.ListN.{length};
 ghost use Rattle.rows.specs.inner.Shape.{IsShape};
 ghost use Rattle.lists.specs.Text.{same};
 ghost use Rattle.columns.specs.Tables.{tableName};
+ghost use Rattle.columns.specs.inner.Blank.{widest-row};
 ghost use Rattle.reader_step.specs.inner.Step.{moved, misformed, labelled, mistyped, disowned, oneRowMore, rowStep, dataStep, labelStep, placeNamed, stepBy, lineStep, Fresh};
 ghost use Rattle.reader_step.specs.inner.Step.{staged, rowStaged, dataStaged, stageBy, lineStaged};
 
@@ -105,7 +106,7 @@ fn label_step(state: State, shape: Shape) -> State
 
 // The row goes behind the n rows so far, if it fits.
 fn stage(table: Table, n: usize, row: &[u8], staging: &mut [u8])
-    requires { ⌜ (n < 4294967296) × (length (now row) ≡ 80) ⌝ }
+    requires { ⌜ (n < 4294967296) × (length (now row) ≡ widest-row) ⌝ }
     ensures { λ _. ⌜ now (staging .exit) ≡ staged table n (now (row .entry)) (now (staging .entry)) ⌝ }
 {
     let w = columns::row_width(table);

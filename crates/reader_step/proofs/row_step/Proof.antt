@@ -3,6 +3,7 @@ use Prim.Native.Nat.{_-_}
 use native.Mathlib.Omega.{arith}
 use mathlib.Core.Path.{_≡_, sym, _∙_}
 use borrow.Author.Needs.{needs}
+use Rattle.columns.specs.inner.Blank.{widest-row}
 use Rattle.reader_step.proofs.RowStepLaws.{row-wrong, row-before, row-sent, row-refused}
 use Rattle.reader_step.proofs.row_step.Statement.{statement}
 use Rattle.reader_step.proofs.row_step.Tie as tie
@@ -23,7 +24,7 @@ slice-aggregate-may-send : tie.Need-slice-aggregate-may-send
 slice-aggregate-may-send c = search needs
 
 may-send-requires : tie.Need-may-send-requires
-may-send-requires c κs = let e : length (c .before .before .before .before .before .before .before .args .read .row) ≡ 80 = search needs in omega arith
+may-send-requires c κs = let e : length (c .before .before .before .before .before .before .before .args .read .row) ≡ widest-row = search needs in omega arith
 
 slice-aggregate-stage : tie.Need-slice-aggregate-stage
 slice-aggregate-stage c = search needs
