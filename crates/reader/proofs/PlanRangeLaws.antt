@@ -7,6 +7,7 @@ use mathlib.Core.Logic.{⊎-elim}
 use Rattle.lists.specs.Text.{bytes}
 use Rattle.lists.specs.Each.{Each}
 use Rattle.clock.specs.Date.{isDate}
+use Rattle.passage.specs.Layout.{date-wide, journey-wide, order-wide, owner-at}
 use Rattle.columns.specs.declared.Table.the-variants.{Planning, Calendar}
 use Rattle.columns.specs.declared.Kind.the-variants as Kinds
 use Rattle.columns.specs.Cell.{width}
@@ -16,6 +17,7 @@ use Rattle.columns.proofs.RangeLaws.{dates-in-range, numbers-in-range, words-in
 use Rattle.rows.proofs.RowLaws.{row-length}
 use Rattle.reader.specs.Items.{Item}
 use Rattle.reader.specs.Staging.{rowsUpTo}
+use Rattle.reader.specs.Passes.{pass-line-at, pass-journey-at, pass-fortify-at, pass-stop-at, pass-order-at, pass-level-at, pass-destination-at, pass-arrival-at, pass-departure-at, pass-stop-type-at, pass-flexible-at, validity-level-at, validity-date-at}
 use Rattle.reader.specs.Staged.{PassFacts, ValidityFacts}
 use Rattle.reader.proofs.HeldLaws.{Right, there, text-in, spelled-in, byte-in, optional-in, time-in}
 use Rattle.reader.proofs.EachRowLaws.{rows-each}
@@ -29,22 +31,22 @@ pass-facts ls l e =
     let type = there right 10 (omega arith) in
     record {
       wide = row-length Planning ls l e;
-      owner = text-in right 0 "DataOwnerCode" (there right 0 (omega arith));
-      line = text-in right 10 "LinePlanningNumber" (there right 1 (omega arith));
-      journey = spelled-in right 20 4 Kinds.Journey "VehicleJourneyNumber" (there right 2 (omega arith)) (λ (n : ℕ). n < 1000000) (numbers-in-range .0 _ _);
-      fortify = byte-in right 24 Kinds.Fortify "FortifyOrderNumber" (λ (n : ℕ). n < 100) (omega arith) (there right 3 (omega arith)) (numbers-in-range .1 _ _);
-      stop = text-in right 25 "UserStopCode" (there right 4 (omega arith));
-      order = spelled-in right 35 2 Kinds.Order "UserStopOrderNumber" (there right 5 (omega arith)) (λ (n : ℕ). n < 1000) (numbers-in-range .2 _ _);
-      level = text-in right 37 "LocalServiceLevelCode" (there right 6 (omega arith));
-      destination = text-in right 47 "DestinationCode" (there right 7 (omega arith));
+      owner = text-in right owner-at "DataOwnerCode" (there right 0 (omega arith));
+      line = text-in right pass-line-at "LinePlanningNumber" (there right 1 (omega arith));
+      journey = spelled-in right pass-journey-at journey-wide Kinds.Journey "VehicleJourneyNumber" (there right 2 (omega arith)) (λ (n : ℕ). n < 1000000) (numbers-in-range .0 _ _);
+      fortify = byte-in right pass-fortify-at Kinds.Fortify "FortifyOrderNumber" (λ (n : ℕ). n < 100) (omega arith) (there right 3 (omega arith)) (numbers-in-range .1 _ _);
+      stop = text-in right pass-stop-at "UserStopCode" (there right 4 (omega arith));
+      order = spelled-in right pass-order-at order-wide Kinds.Order "UserStopOrderNumber" (there right 5 (omega arith)) (λ (n : ℕ). n < 1000) (numbers-in-range .2 _ _);
+      level = text-in right pass-level-at "LocalServiceLevelCode" (there right 6 (omega arith));
+      destination = text-in right pass-destination-at "DestinationCode" (there right 7 (omega arith));
       arrival =
-          time-in right 63 (omega arith) type (bytes "FIRST") 0 57 Kinds.Arrival "TargetArrivalTime" (stop-types-coded _ .0) (times-in-range _ _ .0) (there right 8 (omega arith));
+          time-in right pass-stop-type-at (omega arith) type (bytes "FIRST") 0 pass-arrival-at Kinds.Arrival "TargetArrivalTime" (stop-types-coded _ .0) (times-in-range _ _ .0) (there right 8 (omega arith));
       departure =
-          time-in right 63 (omega arith) type (bytes "LAST") 2 60 Kinds.Departure "TargetDepartureTime" (stop-types-coded _ .2) (times-in-range _ _ .1) (there right 9 (omega arith));
-      stop-type = byte-in right 63 Kinds.StopType "JourneyStopType" (λ (n : ℕ). n ≤ 2) (omega arith) type (words-in-range .1 _ _);
+          time-in right pass-stop-type-at (omega arith) type (bytes "LAST") 2 pass-departure-at Kinds.Departure "TargetDepartureTime" (stop-types-coded _ .2) (times-in-range _ _ .1) (there right 9 (omega arith));
+      stop-type = byte-in right pass-stop-type-at Kinds.StopType "JourneyStopType" (λ (n : ℕ). n ≤ 2) (omega arith) type (words-in-range .1 _ _);
       flexible =
           ⊎-elim (λ h. h .1) (λ h. omega arith)
-          (optional-in right 64 Kinds.Flexible 0 "ShowFlexibleTrip" (λ (n : ℕ). (1 ≤ n) × (n ≤ 3)) (omega arith) (there right 11 (omega arith)) (words-in-range .3 _ _));
+          (optional-in right pass-flexible-at Kinds.Flexible 0 "ShowFlexibleTrip" (λ (n : ℕ). (1 ≤ n) × (n ≤ 3)) (omega arith) (there right 11 (omega arith)) (words-in-range .3 _ _));
     }
 
 validity-facts : (ls : List (List ℕ)) (l : List ℕ) → wrongColumn Calendar ls l ≡ 0 → ValidityFacts (rowOf Calendar ls l)
@@ -53,9 +55,9 @@ validity-facts ls l e =
     let right : Right Calendar ls l = record { none = e } in
     record {
       wide = row-length Calendar ls l e;
-      owner = text-in right 0 "DataOwnerCode" (there right 0 (omega arith));
-      level = text-in right 10 "LocalServiceLevelCode" (there right 1 (omega arith));
-      date = spelled-in right 20 4 Kinds.Date "OperationDate" (there right 2 (omega arith)) (λ (n : ℕ). isDate n ≡ true) (dates-in-range _ _);
+      owner = text-in right owner-at "DataOwnerCode" (there right 0 (omega arith));
+      level = text-in right validity-level-at "LocalServiceLevelCode" (there right 1 (omega arith));
+      date = spelled-in right validity-date-at date-wide Kinds.Date "OperationDate" (there right 2 (omega arith)) (λ (n : ℕ). isDate n ≡ true) (dates-in-range _ _);
     }
 
 pub passes-in-range : (register : List ℕ) (sender : ℕ) (xs : List Item) → Each PassFacts (rowsUpTo Planning register sender xs)

@@ -13,6 +13,7 @@ use Rattle.columns.specs.Cell.{width}
 use Rattle.columns.specs.Tables.{columnsIn, messageColumns, rowOf, rowWidth, wrongColumn}
 use Rattle.columns.specs.Layout.{columnAt, kindAt, widths, total, offset}
 use Rattle.columns.proofs.RangeLaws.{dates-in-range, numbers-in-range, stamps-in-range, words-in-range, times-in-range, stop-types-coded}
+use Rattle.passage.specs.Layout.{date-wide, journey-wide, order-wide, stamp-wide, owner-at, date-at, line-at, journey-at, fortify-at, stop-at, order-at, destination-at, stamp-at, status-at, arrival-at, departure-at, stop-type-at, show-cancelled-at, flexible-at, monitored-at, kept}
 use Rattle.passage.specs.Ranges.{updateInRange}
 use Rattle.passage.specs.Facts.{UpdateFacts}
 use Rattle.passage.proofs.RangeLaws.{facts-update}
@@ -36,28 +37,28 @@ module _ (ls : List (List ℕ)) (l : List ℕ) (e : wrongColumn Message ls l ≡
             record {
               key =
                   record {
-                    owner = text-in right 0 "DataOwnerCode" (there right 0 (omega arith));
-                    date = spelled-in right 10 4 Kinds.Date "OperationDate" (there right 1 (omega arith)) (λ (n : ℕ). isDate n ≡ true) (dates-in-range _ _);
-                    line = text-in right 14 "LinePlanningNumber" (there right 2 (omega arith));
-                    journey = spelled-in right 24 4 Kinds.Journey "VehicleJourneyNumber" (there right 3 (omega arith)) (λ (n : ℕ). n < 1000000) (numbers-in-range .0 _ _);
-                    fortify = byte-in right 28 Kinds.Fortify "FortifyOrderNumber" (λ (n : ℕ). n < 100) (omega arith) (there right 4 (omega arith)) (numbers-in-range .1 _ _);
-                    stop = text-in right 29 "UserStopCode" (there right 5 (omega arith));
-                    order = spelled-in right 39 2 Kinds.Order "UserStopOrderNumber" (there right 6 (omega arith)) (λ (n : ℕ). n < 1000) (numbers-in-range .2 _ _);
+                    owner = text-in right owner-at "DataOwnerCode" (there right 0 (omega arith));
+                    date = spelled-in right date-at date-wide Kinds.Date "OperationDate" (there right 1 (omega arith)) (λ (n : ℕ). isDate n ≡ true) (dates-in-range _ _);
+                    line = text-in right line-at "LinePlanningNumber" (there right 2 (omega arith));
+                    journey = spelled-in right journey-at journey-wide Kinds.Journey "VehicleJourneyNumber" (there right 3 (omega arith)) (λ (n : ℕ). n < 1000000) (numbers-in-range .0 _ _);
+                    fortify = byte-in right fortify-at Kinds.Fortify "FortifyOrderNumber" (λ (n : ℕ). n < 100) (omega arith) (there right 4 (omega arith)) (numbers-in-range .1 _ _);
+                    stop = text-in right stop-at "UserStopCode" (there right 5 (omega arith));
+                    order = spelled-in right order-at order-wide Kinds.Order "UserStopOrderNumber" (there right 6 (omega arith)) (λ (n : ℕ). n < 1000) (numbers-in-range .2 _ _);
                   };
-              destination = text-in right 41 "DestinationCode" (there right 7 (omega arith));
-              stop-type = byte-in right 62 Kinds.StopType "JourneyStopType" (λ (n : ℕ). n ≤ 2) (omega arith) type (words-in-range .1 _ _);
+              destination = text-in right destination-at "DestinationCode" (there right 7 (omega arith));
+              stop-type = byte-in right stop-type-at Kinds.StopType "JourneyStopType" (λ (n : ℕ). n ≤ 2) (omega arith) type (words-in-range .1 _ _);
               arrival =
-                  time-in right 62 (omega arith) type (bytes "FIRST") 0 56 Kinds.Arrival "ExpectedArrivalTime" (stop-types-coded _ .0) (times-in-range _ _ .0)
+                  time-in right stop-type-at (omega arith) type (bytes "FIRST") 0 arrival-at Kinds.Arrival "ExpectedArrivalTime" (stop-types-coded _ .0) (times-in-range _ _ .0)
                   (there right 10 (omega arith));
               departure =
-                  time-in right 62 (omega arith) type (bytes "LAST") 2 59 Kinds.Departure "ExpectedDepartureTime" (stop-types-coded _ .2) (times-in-range _ _ .1)
+                  time-in right stop-type-at (omega arith) type (bytes "LAST") 2 departure-at Kinds.Departure "ExpectedDepartureTime" (stop-types-coded _ .2) (times-in-range _ _ .1)
                   (there right 11 (omega arith));
             };
-        stamp = spelled-in right 51 4 Kinds.Stamp "LastUpdateTimeStamp" (there right 8 (omega arith)) (λ (n : ℕ). inStampRange n ≡ true) (stamps-in-range _ _);
-        status = byte-in right 55 Kinds.Status "TripStopStatus" (λ (n : ℕ). n ≤ 5) (omega arith) (there right 9 (omega arith)) (words-in-range .0 _ _);
-        show-cancelled = optional-in right 63 Kinds.Bit 255 "ShowCancelledTrip" (λ (n : ℕ). n ≤ 1) (omega arith) (there right 13 (omega arith)) (words-in-range .2 _ _);
-        flexible = optional-in right 64 Kinds.Flexible 255 "ShowFlexibleTrip" (λ (n : ℕ). (1 ≤ n) × (n ≤ 3)) (omega arith) (there right 14 (omega arith)) (words-in-range .3 _ _);
-        monitored = optional-in right 65 Kinds.Bit 255 "Monitored" (λ (n : ℕ). n ≤ 1) (omega arith) (there right 15 (omega arith)) (words-in-range .2 _ _);
+        stamp = spelled-in right stamp-at stamp-wide Kinds.Stamp "LastUpdateTimeStamp" (there right 8 (omega arith)) (λ (n : ℕ). inStampRange n ≡ true) (stamps-in-range _ _);
+        status = byte-in right status-at Kinds.Status "TripStopStatus" (λ (n : ℕ). n ≤ 5) (omega arith) (there right 9 (omega arith)) (words-in-range .0 _ _);
+        show-cancelled = optional-in right show-cancelled-at Kinds.Bit kept "ShowCancelledTrip" (λ (n : ℕ). n ≤ 1) (omega arith) (there right 13 (omega arith)) (words-in-range .2 _ _);
+        flexible = optional-in right flexible-at Kinds.Flexible kept "ShowFlexibleTrip" (λ (n : ℕ). (1 ≤ n) × (n ≤ 3)) (omega arith) (there right 14 (omega arith)) (words-in-range .3 _ _);
+        monitored = optional-in right monitored-at Kinds.Bit kept "Monitored" (λ (n : ℕ). n ≤ 1) (omega arith) (there right 15 (omega arith)) (words-in-range .2 _ _);
       }
 
   row-in-range : updateInRange (rowOf Message ls l) ≡ true

@@ -10,6 +10,7 @@ use Rattle.lists.specs.Part.{over}
 use Rattle.lists.specs.Rows.{flat, rowsOf, Wide}
 use Rattle.lists.proofs.OverLaws.{onto-fits}
 use Rattle.lists.proofs.WideLaws.{length-flat, rowsOf-flat}
+use Rattle.passage.specs.Layout.{body-wide}
 use Rattle.columns.specs.declared.Table.{Table}
 use Rattle.columns.specs.declared.Table.the-variants.{Message, Planning, Calendar}
 use Rattle.columns.specs.Cell.{width}
@@ -17,6 +18,7 @@ use Rattle.columns.specs.Tables.{messageColumns, planningColumns, calendarColum
 use Rattle.reader.specs.declared.Reading.the-variants.{Rows}
 use Rattle.reader.specs.Rules.{largest, dataRows, itemsOf, readingOf}
 use Rattle.reader.specs.Staging.{stagedBy}
+use Rattle.reader.specs.Passes.{pass-wide, validity-wide}
 use Rattle.reader_step.proofs.WidthLaws.{width-some}
 use Rattle.reader.proofs.EachRowLaws.{rows-wide}
 use Rattle.reader.proofs.AnswerLaws.{reading-looked, rows-counted, accepted-rows, accepted-each}
@@ -51,19 +53,19 @@ module _ (t : Table) (register : List ℕ) (sender : ℕ) (d staging : List ℕ)
       let w = accepted-each t register sender d (λ (r : List ℕ). length r ≡ rowWidth t) (rows-wide t register sender (itemsOf t d)) n e in
       rw (staged-all, c) (over-rows (rowWidth t) rs staging w f)
 
--- with the width of each table's rows written out
+-- with the width of each table's rows by its name
 
-pub staged-updates : (register : List ℕ) (sender : ℕ) (d staging : List ℕ) (n : ℕ) → readingOf Message register sender d ≡ Rows n → n * 66 ≤ length staging
-    → rowsOf 66 n (stagedBy Message register sender d staging) ≡ dataRows Message (itemsOf Message d)
+pub staged-updates : (register : List ℕ) (sender : ℕ) (d staging : List ℕ) (n : ℕ) → readingOf Message register sender d ≡ Rows n → n * body-wide ≤ length staging
+    → rowsOf body-wide n (stagedBy Message register sender d staging) ≡ dataRows Message (itemsOf Message d)
 unfolding rowWidth columnsIn messageColumns width
 staged-updates = staged-rows Message
 
-pub staged-passes : (d staging : List ℕ) (n : ℕ) → readingOf Planning [] 0 d ≡ Rows n → n * 65 ≤ length staging
-    → rowsOf 65 n (stagedBy Planning [] 0 d staging) ≡ dataRows Planning (itemsOf Planning d)
+pub staged-passes : (d staging : List ℕ) (n : ℕ) → readingOf Planning [] 0 d ≡ Rows n → n * pass-wide ≤ length staging
+    → rowsOf pass-wide n (stagedBy Planning [] 0 d staging) ≡ dataRows Planning (itemsOf Planning d)
 unfolding rowWidth columnsIn planningColumns width
 staged-passes = staged-rows Planning [] 0
 
-pub staged-validities : (d staging : List ℕ) (n : ℕ) → readingOf Calendar [] 0 d ≡ Rows n → n * 24 ≤ length staging
-    → rowsOf 24 n (stagedBy Calendar [] 0 d staging) ≡ dataRows Calendar (itemsOf Calendar d)
+pub staged-validities : (d staging : List ℕ) (n : ℕ) → readingOf Calendar [] 0 d ≡ Rows n → n * validity-wide ≤ length staging
+    → rowsOf validity-wide n (stagedBy Calendar [] 0 d staging) ≡ dataRows Calendar (itemsOf Calendar d)
 unfolding rowWidth columnsIn calendarColumns width
 staged-validities = staged-rows Calendar [] 0

@@ -2,6 +2,7 @@ pub mod Items
 pub mod Rules
 pub mod Numbers
 pub mod Staging
+pub mod Passes
 pub mod Staged
 pub mod Claims
 pub mod Cases

@@ -75,7 +75,7 @@ fn read(table: Table, dossier: &[u8], register: &[u8], sender: u8, staging: &mut
     }
 }
 
-// A message: its rows as 66-byte bodies into the staging area.
+// A message: its rows, a body each, into the staging area.
 pub fn read_message(dossier: &[u8], register: &[u8], sender: u8, staging: &mut [u8]) -> Reading
     ensures answer { λ r. ⌜ r ≡ readingOf Table.Message (now (register .entry)) sender (now (dossier .entry)) ⌝ }
     ensures area { λ _. ⌜ now (staging .exit) ≡ stagedBy Table.Message (now (register .entry)) sender (now (dossier .entry)) (now (staging .entry)) ⌝ }
@@ -84,7 +84,7 @@ pub fn read_message(dossier: &[u8], register: &[u8], sender: u8, staging: &mut [
     read(Table::Message, dossier, register, sender, staging)
 }
 
-// The planning: pass times of 65 bytes, without a date and with their service level.
+// The planning: pass times, without a date and with their service level.
 pub fn read_planning(dossier: &[u8], staging: &mut [u8]) -> Reading
     ensures answer { λ r. ⌜ r ≡ readingOf Table.Planning [] 0 (now (dossier .entry)) ⌝ }
     ensures area { λ _. ⌜ now (staging .exit) ≡ stagedBy Table.Planning [] 0 (now (dossier .entry)) (now (staging .entry)) ⌝ }
@@ -93,7 +93,7 @@ pub fn read_planning(dossier: &[u8], staging: &mut [u8]) -> Reading
     read(Table::Planning, dossier, &dossier[..0], 0, staging)
 }
 
-// The calendar: owner, service level and date, 24 bytes.
+// The calendar: validities, each an owner, a service level and a date.
 pub fn read_calendar(dossier: &[u8], staging: &mut [u8]) -> Reading
     ensures answer { λ r. ⌜ r ≡ readingOf Table.Calendar [] 0 (now (dossier .entry)) ⌝ }
     ensures area { λ _. ⌜ now (staging .exit) ≡ stagedBy Table.Calendar [] 0 (now (dossier .entry)) (now (staging .entry)) ⌝ }
