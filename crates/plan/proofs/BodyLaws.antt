@@ -9,7 +9,8 @@ use Rattle.lists.specs.Part.{part, over}
 use Rattle.lists.proofs.OverLaws.{onto-fits, over-then}
 use Rattle.lists.proofs.PartLaws.{length-part, part-part, part-at}
 use Rattle.passage.specs.Layout.{text-wide, date-wide, stamp-wide, owner-at, date-at, line-at, key-wide, destination-at, stamp-at, arrival-at, show-cancelled-at, body-wide, ownerOf}
-use Rattle.plan.specs.Passes.{trip-wide, times-wide, pass-trip-at, pass-level-at, pass-destination-at, pass-times-at, pass-flexible-at, pass-wide, validity-date-at, validity-wide, planKey, planRest, planBody}
+use Rattle.reader.specs.Passes.{pass-level-at, pass-destination-at, pass-flexible-at, pass-wide, validity-date-at, validity-wide}
+use Rattle.plan.specs.Passes.{trip-wide, times-wide, pass-trip-at, pass-times-at, planKey, planRest, planBody}
 use Rattle.plan.specs.inner.Look.{shared-wide, sharedOf}
 
 -- a piece behind those that are written
@@ -62,15 +63,15 @@ module _ (at p : ℕ) (ps : List ℕ) (h : p + pass-wide ≤ length ps) (s₀ : 
       let to = at + key-wide in
       let destination = part (p + pass-destination-at) text-wide ps in
       let times = part (p + pass-times-at) times-wide ps in
-      let i₂ : at + stamp-at ≡ to + 10 = omega arith in
-      let i₃ : at + arrival-at ≡ to + 15 = omega arith in
-      let i₄ : at + show-cancelled-at ≡ to + 22 = omega arith in
-      let l₁ : length destination ≡ 10 = length-part (p + pass-destination-at) text-wide ps (omega arith) in
-      let l₂ : length (destination ++ unheard) ≡ 15 = length-append destination unheard ∙ omega arith in
-      let l₃ : length ((destination ++ unheard) ++ times) ≡ 22 = length-append (destination ++ unheard) times ∙ omega (arith, l₂, length-part (p + pass-times-at) times-wide ps (omega arith)) in
-      let a₂ = e₂ ∙ ap (λ (m : ℕ). over m unheard s₁) i₂ ∙ then-piece to 10 destination unheard s₀ s₁ e₁ l₁ in
-      let a₃ = e₃ ∙ ap (λ (m : ℕ). over m times s₂) i₃ ∙ then-piece to 15 (destination ++ unheard) times s₀ s₂ a₂ l₂ in
-      e₄ ∙ ap (λ (m : ℕ). over m flags s₃) i₄ ∙ then-piece to 22 ((destination ++ unheard) ++ times) flags s₀ s₃ a₃ l₃
+      let i₂ : at + stamp-at ≡ to + (stamp-at - key-wide) = omega arith in
+      let i₃ : at + arrival-at ≡ to + (arrival-at - key-wide) = omega arith in
+      let i₄ : at + show-cancelled-at ≡ to + (show-cancelled-at - key-wide) = omega arith in
+      let l₁ : length destination ≡ stamp-at - key-wide = length-part (p + pass-destination-at) text-wide ps (omega arith) in
+      let l₂ : length (destination ++ unheard) ≡ arrival-at - key-wide = length-append destination unheard ∙ omega arith in
+      let l₃ : length ((destination ++ unheard) ++ times) ≡ show-cancelled-at - key-wide = length-append (destination ++ unheard) times ∙ omega (arith, l₂, length-part (p + pass-times-at) times-wide ps (omega arith)) in
+      let a₂ = e₂ ∙ ap (λ (m : ℕ). over m unheard s₁) i₂ ∙ then-piece to (stamp-at - key-wide) destination unheard s₀ s₁ e₁ l₁ in
+      let a₃ = e₃ ∙ ap (λ (m : ℕ). over m times s₂) i₃ ∙ then-piece to (arrival-at - key-wide) (destination ++ unheard) times s₀ s₂ a₂ l₂ in
+      e₄ ∙ ap (λ (m : ℕ). over m flags s₃) i₄ ∙ then-piece to (show-cancelled-at - key-wide) ((destination ++ unheard) ++ times) flags s₀ s₃ a₃ l₃
       ∙ ap (λ (l : List ℕ). over to l s₀) (rw (piece pass-destination-at text-wide (omega arith), piece pass-times-at times-wide (omega arith), part-at p pass-wide ps pass-flexible-at (omega arith)))
 
   module _ (q : ℕ) (vs : List ℕ) (k : q + validity-wide ≤ length vs) where

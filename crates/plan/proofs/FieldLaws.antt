@@ -1,5 +1,5 @@
 -- The fields of updates and of plan passages are the cells of the columns of their names. Assumes nothing.
-use Prim.Native.Nat.{ℕ, zero, suc, _≤_, _<_}
+use Prim.Native.Nat.{ℕ, zero, suc, _-_, _≤_, _<_}
 use native.Mathlib.Omega.{arith}
 use mathlib.Core.Path.{_≡_, refl, ap, subst, _∙_}
 use mathlib.Core.Bool.{true}
@@ -14,12 +14,13 @@ use Rattle.turbo_labels.specs.Columns.{columnOf}
 use Rattle.columns.specs.Cell.{width}
 use Rattle.columns.specs.Tables.{columnsIn, messageColumns, planningColumns, calendarColumns, names, rowWidth}
 use Rattle.columns.specs.Layout.{columnAt, kindAt, widths, total, offset}
-use Rattle.passage.specs.Layout.{ownerOf}
+use Rattle.passage.specs.Layout.{text-wide, journey-wide, order-wide, time-wide, line-at, journey-at, fortify-at, stop-at, order-at, stamp-at, status-at, arrival-at, departure-at, stop-type-at, show-cancelled-at, flexible-at, monitored-at, ownerOf}
 use Rattle.passage.specs.Facts.{TimeFacts}
-use Rattle.plan.specs.Passes.{passLevel, validityLevel, planBody}
+use Rattle.reader.specs.Passes.{pass-fortify-at, pass-arrival-at, pass-departure-at, pass-stop-type-at, pass-flexible-at}
+use Rattle.plan.specs.Passes.{pass-trip-at, trip-wide, pass-times-at, times-wide, passLevel, validityLevel, planBody}
 use Rattle.plan.specs.Rules.{matches}
 use Rattle.plan.specs.Claims.{UpdateIsRow, PassByName, ValidityByName, MatchExactly, PlanFields}
-use Rattle.plan.proofs.RangeLaws.{piece, of-pass, byte-of, byte-of-pass, no-stamp}
+use Rattle.plan.proofs.RangeLaws.{unheard-wide, flags-wide, piece, of-pass, byte-of, byte-of-pass, no-stamp}
 
 -- a byte is the number of a part of one byte
 byte-number : (at : ℕ) (l : List ℕ) → getD l at 0 ≡ number (part at 1 l)
@@ -38,18 +39,18 @@ update-is-row = (
     refl,
     refl,
     refl,
-    byte-number 28 b,
+    byte-number fortify-at b,
     refl,
     refl,
     refl,
     refl,
-    byte-number 55 b,
+    byte-number status-at b,
     refl,
     refl,
-    byte-number 62 b,
-    byte-number 63 b,
-    byte-number 64 b,
-    byte-number 65 b,
+    byte-number stop-type-at b,
+    byte-number show-cancelled-at b,
+    byte-number flexible-at b,
+    byte-number monitored-at b,
   ),
 )
 
@@ -59,15 +60,15 @@ pass-by-name p f = (
   f .owner,
   f .line,
   f .journey,
-  subst (λ (n : ℕ). n < 100) (byte-number 24 p) (f .fortify),
+  subst (λ (n : ℕ). n < 100) (byte-number pass-fortify-at p) (f .fortify),
   f .stop,
   f .order,
   f .level,
   f .destination,
-  subst (λ (n : ℕ). TimeFacts 0 n (number (part 57 3 p))) (byte-number 63 p) (f .arrival),
-  subst (λ (n : ℕ). TimeFacts 2 n (number (part 60 3 p))) (byte-number 63 p) (f .departure),
-  subst (λ (n : ℕ). n ≤ 2) (byte-number 63 p) (f .stop-type),
-  subst (λ (n : ℕ). n ≤ 3) (byte-number 64 p) (f .flexible),
+  subst (λ (n : ℕ). TimeFacts 0 n (number (part pass-arrival-at time-wide p))) (byte-number pass-stop-type-at p) (f .arrival),
+  subst (λ (n : ℕ). TimeFacts 2 n (number (part pass-departure-at time-wide p))) (byte-number pass-stop-type-at p) (f .departure),
+  subst (λ (n : ℕ). n ≤ 2) (byte-number pass-stop-type-at p) (f .stop-type),
+  subst (λ (n : ℕ). n ≤ 3) (byte-number pass-flexible-at p) (f .flexible),
 )
 
 pub validity-by-name : ValidityByName
@@ -87,26 +88,26 @@ pub plan-fields : PlanFields
 unfolding columnOf same names rowWidth columnsIn planningColumns calendarColumns width columnAt kindAt widths total offset
 plan-fields p v h k =
     let piece-of = piece p v h k in
-    let key : part 14 27 (planBody p v) ≡ part 10 27 p = piece-of 2 (omega arith) in
-    let times : part 56 7 (planBody p v) ≡ part 57 7 p = piece-of 5 (omega arith) in
+    let key : part line-at trip-wide (planBody p v) ≡ part pass-trip-at trip-wide p = piece-of 2 (omega arith) in
+    let times : part arrival-at times-wide (planBody p v) ≡ part pass-times-at times-wide p = piece-of 5 (omega arith) in
     let parted = of-pass p v h k in
     let byte-in = byte-of-pass p v h k in
     let unheard = piece-of 4 (omega arith) in
-    let flags = byte-of p v h k 63 3 (1 ∷ getD p 64 0 ∷ 0 ∷ []) (piece-of 6 (omega arith)) in (
+    let flags = byte-of p v h k show-cancelled-at flags-wide (1 ∷ getD p pass-flexible-at 0 ∷ 0 ∷ []) (piece-of 6 (omega arith)) in (
       piece-of 0 (omega arith),
       ap number (piece-of 1 (omega arith)),
-      parted 14 10 27 key 0 10 (omega arith),
-      ap number (parted 14 10 27 key 10 4 (omega arith)),
-      byte-in 14 10 27 key 14 (omega arith) ∙ byte-number 24 p,
-      parted 14 10 27 key 15 10 (omega arith),
-      ap number (parted 14 10 27 key 25 2 (omega arith)),
+      parted line-at pass-trip-at trip-wide key 0 text-wide (omega arith),
+      ap number (parted line-at pass-trip-at trip-wide key (journey-at - line-at) journey-wide (omega arith)),
+      byte-in line-at pass-trip-at trip-wide key (fortify-at - line-at) (omega arith) ∙ byte-number pass-fortify-at p,
+      parted line-at pass-trip-at trip-wide key (stop-at - line-at) text-wide (omega arith),
+      ap number (parted line-at pass-trip-at trip-wide key (order-at - line-at) order-wide (omega arith)),
       piece-of 3 (omega arith),
       no-stamp p v h k unheard,
-      byte-of p v h k 51 5 (replicate 5 0) unheard 4 (omega arith),
-      ap number (parted 56 57 7 times 0 3 (omega arith)),
-      ap number (parted 56 57 7 times 3 3 (omega arith)),
-      byte-in 56 57 7 times 6 (omega arith) ∙ byte-number 63 p,
+      byte-of p v h k stamp-at unheard-wide (replicate unheard-wide 0) unheard (status-at - stamp-at) (omega arith),
+      ap number (parted arrival-at pass-times-at times-wide times 0 time-wide (omega arith)),
+      ap number (parted arrival-at pass-times-at times-wide times (departure-at - arrival-at) time-wide (omega arith)),
+      byte-in arrival-at pass-times-at times-wide times (stop-type-at - arrival-at) (omega arith) ∙ byte-number pass-stop-type-at p,
       flags 0 (omega arith),
-      flags 1 (omega arith) ∙ byte-number 64 p,
+      flags 1 (omega arith) ∙ byte-number pass-flexible-at p,
       flags 2 (omega arith),
     )

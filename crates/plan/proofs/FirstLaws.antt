@@ -10,7 +10,7 @@ use Rattle.lists.specs.Part.{part}
 use Rattle.lists.specs.Rows.{rowsOf}
 use Rattle.lists.proofs.PartLaws.{part-part}
 use Rattle.lists.proofs.RowLaws.{rowsOf-step, window}
-use Rattle.plan.specs.Passes.{validity-wide}
+use Rattle.reader.specs.Passes.{validity-wide}
 use Rattle.plan.specs.inner.Look.{shared-wide, firstWith}
 
 module _ (shared vs : List ℕ) (n i : ℕ) where

@@ -15,7 +15,8 @@ use Rattle.lists.proofs.PartLaws.{length-part}
 use Rattle.lists.proofs.RowLaws.{length-rowsOf, flat-append, row-at, drop-rowsOf, window}
 use Rattle.lists.proofs.WideLaws.{length-flat, wide-rowsOf}
 use Rattle.passage.specs.Layout.{body-wide}
-use Rattle.plan.specs.Passes.{pass-wide, validity-wide, planBody}
+use Rattle.reader.specs.Passes.{pass-wide, validity-wide}
+use Rattle.plan.specs.Passes.{planBody}
 use Rattle.plan.proofs.BodyLaws.{body-length}
 use Rattle.plan.specs.Rules.{matches, joinedWith}
 use Rattle.plan.proofs.MatchLaws.{first-most, first-matches, first-skips}

@@ -11,7 +11,8 @@ use Rattle.lists.specs.Part.{part}
 use Rattle.lists.specs.Rows.{Wide}
 use Rattle.lists.proofs.PartLaws.{length-part, part-add}
 use Rattle.passage.specs.Layout.{text-wide, owner-at, body-wide, ownerOf}
-use Rattle.plan.specs.Passes.{pass-level-at, passLevel, validityLevel, pass-wide, validity-wide, planBody}
+use Rattle.reader.specs.Passes.{pass-level-at, pass-wide, validity-wide}
+use Rattle.plan.specs.Passes.{passLevel, validityLevel, planBody}
 use Rattle.plan.proofs.BodyLaws.{body-length}
 use Rattle.plan.specs.Rules.{matches, joinedWith}
 use Rattle.plan.proofs.TextLaws.{same-append}

@@ -13,7 +13,7 @@ use Rattle.lists.proofs.OverLaws.{over-nil, over-then}
 use Rattle.lists.proofs.RowLaws.{rowsOf-append, flat-append, take-rowsOf}
 use Rattle.lists.proofs.WideLaws.{length-flat, wide-rowsOf}
 use Rattle.passage.specs.Layout.{body-wide}
-use Rattle.plan.specs.Passes.{pass-wide, validity-wide}
+use Rattle.reader.specs.Passes.{pass-wide, validity-wide}
 use Rattle.plan.specs.Rules.{joinedWith, joined}
 use Rattle.plan.proofs.MatchLaws.{wide-joined}
 

@@ -1,5 +1,5 @@
 -- A plan passage has its fields from the pass time and the validity, and so is in range. Assumes nothing.
-use Prim.Native.Nat.{ℕ, _+_, _≤_, _<_}
+use Prim.Native.Nat.{ℕ, _+_, _-_, _≤_, _<_}
 use native.Mathlib.Omega.{arith}
 use mathlib.Core.Path.{_≡_, refl, sym, ap, subst, _∙_}
 use mathlib.Core.Bool.{Bool, true, false}
@@ -16,36 +16,52 @@ use Rattle.lists.proofs.PartLaws.{length-part, part-part, part-at}
 use Rattle.clock.specs.Date.{isDate}
 use Rattle.columns.specs.Layout.{total}
 use Rattle.columns.proofs.PartLaws.{Fit, begins, flat-part}
-use Rattle.passage.specs.Layout.{keyOf}
+use Rattle.passage.specs.Layout.{text-wide, date-wide, journey-wide, order-wide, stamp-wide, time-wide, owner-at, line-at, journey-at, fortify-at, stop-at, order-at, key-wide, stamp-at, status-at, arrival-at, departure-at, stop-type-at, show-cancelled-at, body-wide, keyOf}
 use Rattle.passage.specs.Ranges.{paddedText}
 use Rattle.passage.specs.Facts.{PlanFacts, TimeFacts}
 use Rattle.passage.proofs.RangeLaws.{facts-plan}
+use Rattle.reader.specs.Passes.{pass-destination-at, pass-stop-type-at, pass-flexible-at, pass-wide, validity-date-at, validity-wide}
 use Rattle.reader.specs.Staged.{PassFacts, ValidityFacts}
-use Rattle.plan.specs.Passes.{planKey, planRest, planBody}
+use Rattle.plan.specs.Passes.{pass-trip-at, trip-wide, pass-times-at, times-wide, planKey, planRest, planBody}
 use Rattle.plan.proofs.BodyLaws.{key-length, body-length}
 use Rattle.plan.specs.Rules.{matches, joinedWith, joined}
 use Rattle.plan.specs.Claims.{Passage}
 
-module _ (p v : List ℕ) (h : length p ≡ 65) (k : length v ≡ 24) where
+-- timestamp and status of a body stand side by side, and so do show cancelled, flexible and monitored
+abbrev pub unheard-wide : ℕ
+unheard-wide = arrival-at - stamp-at
+
+abbrev pub flags-wide : ℕ
+flags-wide = body-wide - show-cancelled-at
+
+module _ (p v : List ℕ) (h : length p ≡ pass-wide) (k : length v ≡ validity-wide) where
   abbrev body : List ℕ
   body = planBody p v
 
   pub key-of-body : keyOf body ≡ planKey p v
   unfolding planBody part
-  key-of-body = take-at (planKey p v) (planRest p) 41 (key-length p v h k)
+  key-of-body = take-at (planKey p v) (planRest p) key-wide (key-length p v h k)
 
   -- ---- the pieces of a body, and where they begin
 
   abbrev pieces : List (List ℕ)
-  pieces = part 0 10 p ∷ part 20 4 v ∷ part 10 27 p ∷ part 47 10 p ∷ replicate 5 0 ∷ part 57 7 p ∷ (1 ∷ getD p 64 0 ∷ 0 ∷ []) ∷ []
+  pieces =
+      part owner-at text-wide p
+      ∷ part validity-date-at date-wide v
+      ∷ part pass-trip-at trip-wide p
+      ∷ part pass-destination-at text-wide p
+      ∷ replicate unheard-wide 0
+      ∷ part pass-times-at times-wide p
+      ∷ (1 ∷ getD p pass-flexible-at 0 ∷ 0 ∷ [])
+      ∷ []
 
   abbrev widths : List ℕ
-  widths = 10 ∷ 4 ∷ 27 ∷ 10 ∷ 5 ∷ 7 ∷ 3 ∷ []
+  widths = text-wide ∷ date-wide ∷ trip-wide ∷ text-wide ∷ unheard-wide ∷ times-wide ∷ flags-wide ∷ []
 
   fit : Fit widths pieces
   fit = (
-    length-part 0 10 p (omega arith),
-    (length-part 20 4 v (omega arith), (length-part 10 27 p (omega arith), (length-part 47 10 p (omega arith), (refl, (length-part 57 7 p (omega arith), (refl, tt)))))),
+    length-part owner-at text-wide p (omega arith),
+    (length-part validity-date-at date-wide v (omega arith), (length-part pass-trip-at trip-wide p (omega arith), (length-part pass-destination-at text-wide p (omega arith), (refl, (length-part pass-times-at times-wide p (omega arith), (refl, tt)))))),
   )
 
   put-together : flat pieces ++ [] ≡ body
@@ -65,20 +81,20 @@ module _ (p v : List ℕ) (h : length p ≡ 65) (k : length v ≡ 24) where
   pub byte-of-pass : (at from m : ℕ) → part at m body ≡ part from m p → (off : ℕ) → off < m → getD body (at + off) 0 ≡ getD p (from + off) 0
   byte-of-pass at from m e off l = byte-of at m (part from m p) e off l ∙ part-at from m p off l
 
-  pub no-stamp : part 51 5 body ≡ replicate 5 0 → number (part 51 4 body) ≡ 0
+  pub no-stamp : part stamp-at unheard-wide body ≡ replicate unheard-wide 0 → number (part stamp-at stamp-wide body) ≡ 0
   unfolding number part
-  no-stamp e = ap number (sym (part-part 0 4 51 5 body (omega arith)) ∙ ap (part 0 4) e)
+  no-stamp e = ap number (sym (part-part 0 stamp-wide stamp-at unheard-wide body (omega arith)) ∙ ap (part 0 stamp-wide) e)
 
 module _ (p v : List ℕ) (f : PassFacts p) (g : ValidityFacts v) where
   body-facts : PlanFacts (planBody p v)
   unfolding total
   body-facts =
       let piece-of = piece p v (f .wide) (g .wide) in
-      let key : part 14 27 (planBody p v) ≡ part 10 27 p = piece-of 2 (omega arith) in
-      let times : part 56 7 (planBody p v) ≡ part 57 7 p = piece-of 5 (omega arith) in
-      let type : getD (planBody p v) 62 0 ≡ getD p 63 0 = byte-of-pass p v (f .wide) (g .wide) 56 57 7 times 6 (omega arith) in
+      let key : part line-at trip-wide (planBody p v) ≡ part pass-trip-at trip-wide p = piece-of 2 (omega arith) in
+      let times : part arrival-at times-wide (planBody p v) ≡ part pass-times-at times-wide p = piece-of 5 (omega arith) in
+      let type : getD (planBody p v) stop-type-at 0 ≡ getD p pass-stop-type-at 0 = byte-of-pass p v (f .wide) (g .wide) arrival-at pass-times-at times-wide times (stop-type-at - arrival-at) (omega arith) in
       let parted = of-pass p v (f .wide) (g .wide) in
-      let flags = byte-of p v (f .wide) (g .wide) 63 3 (1 ∷ getD p 64 0 ∷ 0 ∷ []) (piece-of 6 (omega arith)) in
+      let flags = byte-of p v (f .wide) (g .wide) show-cancelled-at flags-wide (1 ∷ getD p pass-flexible-at 0 ∷ 0 ∷ []) (piece-of 6 (omega arith)) in
       record {
         common =
             record {
@@ -86,19 +102,19 @@ module _ (p v : List ℕ) (f : PassFacts p) (g : ValidityFacts v) where
                   record {
                     owner = ap paddedText (piece-of 0 (omega arith)) ∙ f .owner;
                     date = ap (λ (l : List ℕ). isDate (number l)) (piece-of 1 (omega arith)) ∙ g .date;
-                    line = ap paddedText (parted 14 10 27 key 0 10 (omega arith)) ∙ f .line;
-                    journey = subst (λ (l : List ℕ). number l < 1000000) (sym (parted 14 10 27 key 10 4 (omega arith))) (f .journey);
-                    fortify = subst (λ (n : ℕ). n < 100) (sym (byte-of-pass p v (f .wide) (g .wide) 14 10 27 key 14 (omega arith))) (f .fortify);
-                    stop = ap paddedText (parted 14 10 27 key 15 10 (omega arith)) ∙ f .stop;
-                    order = subst (λ (l : List ℕ). number l < 1000) (sym (parted 14 10 27 key 25 2 (omega arith))) (f .order);
+                    line = ap paddedText (parted line-at pass-trip-at trip-wide key 0 text-wide (omega arith)) ∙ f .line;
+                    journey = subst (λ (l : List ℕ). number l < 1000000) (sym (parted line-at pass-trip-at trip-wide key (journey-at - line-at) journey-wide (omega arith))) (f .journey);
+                    fortify = subst (λ (n : ℕ). n < 100) (sym (byte-of-pass p v (f .wide) (g .wide) line-at pass-trip-at trip-wide key (fortify-at - line-at) (omega arith))) (f .fortify);
+                    stop = ap paddedText (parted line-at pass-trip-at trip-wide key (stop-at - line-at) text-wide (omega arith)) ∙ f .stop;
+                    order = subst (λ (l : List ℕ). number l < 1000) (sym (parted line-at pass-trip-at trip-wide key (order-at - line-at) order-wide (omega arith))) (f .order);
                   };
               destination = ap paddedText (piece-of 3 (omega arith)) ∙ f .destination;
               stop-type = subst (λ (n : ℕ). n ≤ 2) (sym type) (f .stop-type);
-              arrival = timed 0 (parted 56 57 7 times 0 3 (omega arith)) type (f .arrival);
-              departure = timed 2 (parted 56 57 7 times 3 3 (omega arith)) type (f .departure);
+              arrival = timed 0 (parted arrival-at pass-times-at times-wide times 0 time-wide (omega arith)) type (f .arrival);
+              departure = timed 2 (parted arrival-at pass-times-at times-wide times (departure-at - arrival-at) time-wide (omega arith)) type (f .departure);
             };
         stamp = no-stamp p v (f .wide) (g .wide) (piece-of 4 (omega arith));
-        status = byte-of p v (f .wide) (g .wide) 51 5 (replicate 5 0) (piece-of 4 (omega arith)) 4 (omega arith);
+        status = byte-of p v (f .wide) (g .wide) stamp-at unheard-wide (replicate unheard-wide 0) (piece-of 4 (omega arith)) (status-at - stamp-at) (omega arith);
         show-cancelled = flags 0 (omega arith);
         flexible = subst (λ (n : ℕ). n ≤ 3) (sym (flags 1 (omega arith))) (f .flexible);
         monitored = flags 2 (omega arith);

@@ -1,56 +1,34 @@
--- How pass times and validities lie in bytes, and the plan passage that the two give. Assumes nothing.
+-- The plan passage that a pass time and a validity give. Assumes nothing.
 use Prim.Native.Nat.{ℕ, _+_, _-_}
 use mathlib.Core.List.{List, [], _∷_, _++_}
 use lib.ListN.{getD, replicate}
 use Rattle.lists.specs.Part.{part}
 use Rattle.passage.specs.Layout.{text-wide, date-wide, stamp-wide, line-at, key-wide, arrival-at, show-cancelled-at, ownerOf}
+use Rattle.reader.specs.Passes.{pass-line-at, pass-level-at, pass-destination-at, pass-arrival-at, pass-flexible-at, validity-level-at, validity-date-at}
 
--- ---- a pass time: owner, line to order number, service level, destination, times and stop type, flexible
-
--- line, journey, fortify, stop and order number stand side by side, as in a key
-abbrev pub trip-wide : ℕ
-trip-wide = key-wide - line-at
-
--- arrival, departure and stop type stand side by side, as in a body
-abbrev pub times-wide : ℕ
-times-wide = show-cancelled-at - arrival-at
-
-abbrev pub pass-trip-at : ℕ
-pass-trip-at = text-wide
-
-abbrev pub pass-level-at : ℕ
-pass-level-at = pass-trip-at + trip-wide
-
-abbrev pub pass-destination-at : ℕ
-pass-destination-at = pass-level-at + text-wide
-
-abbrev pub pass-times-at : ℕ
-pass-times-at = pass-destination-at + text-wide
-
-abbrev pub pass-flexible-at : ℕ
-pass-flexible-at = pass-times-at + times-wide
-
-abbrev pub pass-wide : ℕ
-pass-wide = pass-flexible-at + 1
+-- ---- what the two share besides the owner: the service level
 
 abbrev pub passLevel : List ℕ → List ℕ
 passLevel p = part pass-level-at text-wide p
-
--- ---- a validity: owner, service level, date
-
-abbrev pub validity-level-at : ℕ
-validity-level-at = text-wide
-
-abbrev pub validity-date-at : ℕ
-validity-date-at = validity-level-at + text-wide
-
-abbrev pub validity-wide : ℕ
-validity-wide = validity-date-at + date-wide
 
 abbrev pub validityLevel : List ℕ → List ℕ
 validityLevel v = part validity-level-at text-wide v
 
 -- ---- the plan passage of a pass time on the validity's date
+
+-- line, journey, fortify, stop and order number stand side by side in a pass time, as in a key
+abbrev pub pass-trip-at : ℕ
+pass-trip-at = pass-line-at
+
+abbrev pub trip-wide : ℕ
+trip-wide = key-wide - line-at
+
+-- arrival, departure and stop type stand side by side in a pass time, as in a body
+abbrev pub pass-times-at : ℕ
+pass-times-at = pass-arrival-at
+
+abbrev pub times-wide : ℕ
+times-wide = show-cancelled-at - arrival-at
 
 -- its key: owner, date, line to order number
 abbrev pub planKey : List ℕ → List ℕ → List ℕ

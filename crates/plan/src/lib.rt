@@ -6,7 +6,8 @@ ghost use Rattle.lists.specs.Text.{same};
 ghost use Rattle.lists.specs.Part.{part, over};
 ghost use Rattle.lists.specs.Rows.{flat, rowsOf};
 ghost use Rattle.passage.specs.Layout.{body-wide, key-wide};
-ghost use Rattle.plan.specs.Passes.{pass-wide, validity-wide, planKey, planRest, planBody};
+ghost use Rattle.reader.specs.Passes.{pass-wide, validity-wide};
+ghost use Rattle.plan.specs.Passes.{planKey, planRest, planBody};
 ghost use Rattle.plan.specs.Rules.{joinedWith, joined};
 ghost use Rattle.plan.specs.inner.Look.{shared-wide, firstWith, sharedOf};
 

@@ -2,7 +2,7 @@ use Prim.Native.Nat.{_-_, _≤_}
 use native.Mathlib.Omega.{arith}
 use mathlib.Core.Path.{_≡_, refl, _∙_}
 use lib.ListN.{length}
-use Rattle.plan.specs.Passes.{pass-wide}
+use Rattle.reader.specs.Passes.{pass-wide}
 use borrow.Author.Needs.{needs}
 use Rattle.lists.specs.Part.{part}
 use Rattle.lists.proofs.PartLaws.{length-part}

@@ -1,7 +1,7 @@
 use Prim.Native.Nat.{_+_, _-_, _≤_}
 use native.Mathlib.Omega.{arith}
 use mathlib.Core.Path.{_≡_, refl, sym, _∙_}
-use Rattle.plan.specs.Passes.{validity-wide}
+use Rattle.reader.specs.Passes.{validity-wide}
 use borrow.Author.Needs.{needs}
 use Rattle.lists.proofs.RowLaws.{window}
 use Rattle.plan.proofs.FirstLaws.{first-here, first-later, first-none}

@@ -5,7 +5,8 @@ use Rattle.lists.specs.Logic.{on}
 use Rattle.lists.specs.Text.{same}
 use Rattle.lists.specs.Part.{part}
 use Rattle.passage.specs.Layout.{ownerOf}
-use Rattle.plan.specs.Passes.{validity-date-at, passLevel}
+use Rattle.reader.specs.Passes.{validity-date-at}
+use Rattle.plan.specs.Passes.{passLevel}
 
 -- owner and service level stand side by side in a validity, before its date
 abbrev pub shared-wide : ℕ
