@@ -1,7 +1,7 @@
 -- Entries written into the book's free tail, and entries marked as withdrawn. Assumes nothing.
 use mathlib.Core.Path.{_≡_, refl, sym, ap, _∙_}
 use mathlib.Core.List.{List, [], _∷_, _++_, map, append-assoc, append-nil}
-use Prim.Native.Nat.{ℕ, suc, _+_, _*_, _≤_}
+use Prim.Native.Nat.{ℕ, suc, _+_, _-_, _*_, _≤_}
 use native.Mathlib.Omega.{arith}
 use lib.ListN.{length, take, drop, getD, set, length-append, length-drop, length-set, length-map}
 use lib.Seq.{drop-drop}
@@ -94,12 +94,12 @@ module _ (at : ℕ) (b₀ : List ℕ) where
   marks-turn i b h e =
       let us = rowsOf entry-wide i (drop at b₀) in
       let p = at + i * entry-wide in
-      let tail = part (suc p) 71 b₀ in
+      let tail = part (suc p) (entry-wide - 1) b₀ in
       let w : Wide entry-wide us = wide-rowsOf entry-wide i (drop at b₀) (simp length-drop (omega arith)) in
       let l : length (marks i) ≡ i * entry-wide =
       length-flat entry-wide (map markedWithdrawn us) (wide-marked entry-wide us w) ∙ ap (λ (m : ℕ). m * entry-wide) (length-map us markedWithdrawn ∙ length-rowsOf entry-wide i (drop at b₀)) in
       let row : part (i * entry-wide) entry-wide (drop at b₀) ≡ getD b₀ p 0 ∷ tail =
-      part-is (i * entry-wide) entry-wide (drop at b₀) ∙ ap (take entry-wide) (drop-drop (i * entry-wide) at b₀) ∙ sym (part-is p entry-wide b₀) ∙ part-cons p 71 b₀ (omega arith) in
+      part-is (i * entry-wide) entry-wide (drop at b₀) ∙ ap (take entry-wide) (drop-drop (i * entry-wide) at b₀) ∙ sym (part-is p entry-wide b₀) ∙ part-cons p (entry-wide - 1) b₀ (omega arith) in
       let g : marks (i + 1) ≡ marks i ++ (3 ∷ tail) =
       ap (λ (r : List (List ℕ)). flat (map markedWithdrawn r)) (rowsOf-snoc entry-wide i (drop at b₀) ∙ ap (λ (r : List ℕ). us ++ r ∷ []) row)
       ∙ ap flat (map-append markedWithdrawn us ((getD b₀ p 0 ∷ tail) ∷ []))
@@ -108,5 +108,5 @@ module _ (at : ℕ) (b₀ : List ℕ) where
       let r : at + length (marks i ++ 3 ∷ []) ≡ suc p = rw length-append (omega arith) in
       let x : set b p 3 ≡ over at (marks i ++ 3 ∷ []) b₀ = rw (e, q) (over-snoc at 3 (marks i) b₀) in
       let y : over at (marks i ++ 3 ∷ []) b₀ ≡ over at ((marks i ++ 3 ∷ []) ++ tail) b₀ =
-      ap (over at (marks i ++ 3 ∷ [])) (sym (over-self (suc p) 71 b₀) ∙ ap (λ (m : ℕ). over m tail b₀) (sym r)) ∙ over-over at (marks i ++ 3 ∷ []) tail b₀ in
+      ap (over at (marks i ++ 3 ∷ [])) (sym (over-self (suc p) (entry-wide - 1) b₀) ∙ ap (λ (m : ℕ). over m tail b₀) (sym r)) ∙ over-over at (marks i ++ 3 ∷ []) tail b₀ in
       x ∙ y ∙ ap (λ (k : List ℕ). over at k b₀) (append-assoc (marks i) (3 ∷ []) tail ∙ sym g)

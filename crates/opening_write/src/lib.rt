@@ -16,7 +16,7 @@ ghost use Rattle.calls.specs.Leaves.{leaves};
 ghost use Rattle.opening_write.specs.inner.Steps.{bodiesAt, openedLeaves};
 
 // As many plan entries as a book has room for.
-const MOST: usize = 4401;
+pub const MOST_PLANS: usize = book::MOST_BYTES / book::PLAN_WIDE;
 
 // The body at p becomes a row from `at` on that no update was heard of.
 fn write_row(table: &mut [u8], at: usize, bodies: &[u8], p: usize)
@@ -68,7 +68,7 @@ pub fn sort_and_write(
     ensures { λ r. ⌜ leaves r (now (book .exit)) (now (table .exit))
         ≡ openedLeaves (rowsOf body-wide count (now (bodies .entry))) (now (book .entry)) (now (table .entry)) counts ⌝ }
 {
-    let mut order = [0u32; MOST];
+    let mut order = [0u32; MOST_PLANS];
     let distinct = sorting_merge::sort_keys(bodies, count, 0, passage::BODY_WIDE, &mut order);
     let room = table::rows_room(table);
     if distinct != count {

@@ -13,6 +13,7 @@ use Rattle.book.specs.Entries.{plan-wide}
 use Rattle.book.specs.Rules.{bookRoom}
 use Rattle.book.proofs.SoundLaws.{room-within}
 use Rattle.calls.specs.declared.Answer.the-variants.{KeyTwice, TableShort}
+use Rattle.opening_write.specs.inner.Steps.{most-plans}
 use Rattle.opening_write.proofs.SortLaws.{js, distinct-count, places-each, plan-read}
 use Rattle.opening_write.proofs.StageLaws.{refused-with, accepted-with, key-twice, table-short, accepted}
 use Rattle.opening_write.proofs.sort_and_write.Statement.{statement}
@@ -21,8 +22,8 @@ use Rattle.opening_write.proofs.sort_and_write.Tie as tie
 slice-aggregate-sort-keys : tie.Need-slice-aggregate-sort-keys
 slice-aggregate-sort-keys c = search needs
 
--- the book has room for at most 4,401
-few : (s : tie.Start) → s .args .count ≤ 4401
+-- the book has room for at most so many
+few : (s : tie.Start) → s .args .count ≤ most-plans
 few s = let m = room-within (s .args .book .now) .1 in omega arith
 
 sort-keys-requires : tie.Need-sort-keys-requires

@@ -1,13 +1,19 @@
 -- The last steps of open: the bodies in their order, and what is left of them. Assumes nothing.
-use Prim.Native.Nat.{ℕ, _*_}
+use Prim.Native.Nat.{ℕ, _*_, _/_}
 use mathlib.Core.List.{List, [], map}
 use Rattle.lists.specs.Part.{part}
 use Rattle.passage.specs.Layout.{body-wide}
 use Rattle.keys.specs.Sorted.{putAll}
+use Rattle.book.specs.Entries.{plan-wide}
+use Rattle.book.specs.Rules.{most-bytes}
 use Rattle.calls.specs.declared.Answer.{Answer}
 use Rattle.calls.specs.declared.Counts.{Counts}
 use Rattle.calls.specs.Leaves.{Leaves}
 use Rattle.calls.specs.Open.{roomToOpen, openedBy}
+
+-- as many plan entries as a book has room for
+abbrev pub most-plans : ℕ
+most-plans = most-bytes / plan-wide
 
 -- the bodies at these places of s
 unfoldable pub bodiesAt : List ℕ → List ℕ → List (List ℕ)
