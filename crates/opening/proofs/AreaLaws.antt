@@ -13,10 +13,13 @@ use Rattle.lists.specs.Logic.{on}
 use Rattle.lists.specs.Rows.{rowsOf}
 use Rattle.lists.proofs.RowLaws.{length-rowsOf}
 use Rattle.passage.specs.Layout.{body-wide}
+use Rattle.reader.specs.Passes.{pass-wide, validity-wide}
 use Rattle.plan.specs.Passes.{planBody}
 use Rattle.plan.specs.Rules.{matches, joinedWith, joined}
 use Rattle.book.specs.Entries.{plan-wide}
-use Rattle.opening.specs.inner.Joining.{fewer, stagedPairs}
+use Rattle.opening_write.specs.inner.Steps.{most-plans}
+use Rattle.opening.specs.inner.Steps.{most-passes, most-validities}
+use Rattle.opening.specs.inner.Joining.{fewer, stagedPairs, few-pairs}
 
 -- ---- the smaller number
 
@@ -55,11 +58,11 @@ pub most-within : (room k : ℕ) → (fewer room (k / body-wide) ≤ room) × (f
 most-within room k = let w = fewer-within room (k / body-wide) in let l = w .1 in (w .0, omega arith)
 
 -- an area that holds q bodies, or as many as any book, is not what j ≤ q lack room in
-pub enough-room : (q room k j : ℕ) → (q * body-wide ≤ k) ⊎ (4401 * body-wide ≤ k) → j ≤ q → room ≤ 4401 → fewer room (k / body-wide) < j → fewer room (k / body-wide) ≡ room
+pub enough-room : (q room k j : ℕ) → (q * body-wide ≤ k) ⊎ (most-plans * body-wide ≤ k) → j ≤ q → room ≤ most-plans → fewer room (k / body-wide) < j → fewer room (k / body-wide) ≡ room
 unfolding fewer
 enough-room q room k j e l r = go (leb room (k / body-wide)) refl e
   where
-    go : (t : Bool) → leb room (k / body-wide) ≡ t → (q * body-wide ≤ k) ⊎ (4401 * body-wide ≤ k) → on t room (k / body-wide) < j → on t room (k / body-wide) ≡ room
+    go : (t : Bool) → leb room (k / body-wide) ≡ t → (q * body-wide ≤ k) ⊎ (most-plans * body-wide ≤ k) → on t room (k / body-wide) < j → on t room (k / body-wide) ≡ room
     go true p f h = refl
     go false p (inl f) h = let z : k / body-wide < room = leb-false _ _ p in absurd (omega arith)
     go false p (inr f) h = let z : k / body-wide < room = leb-false _ _ p in absurd (omega arith)
@@ -91,13 +94,13 @@ joined-few (p ∷ ps) vs =
 
 pub pairs-few : (np : ℕ) (passes : List ℕ) (nv : ℕ) (validities : List ℕ) → length (stagedPairs np passes nv validities) ≤ np * nv
 pairs-few np passes nv validities =
-    subst (λ (x : ℕ). length (stagedPairs np passes nv validities) ≤ x * nv) (length-rowsOf 65 np passes)
-    (subst (λ (x : ℕ). length (stagedPairs np passes nv validities) ≤ length (rowsOf 65 np passes) * x) (length-rowsOf 24 nv validities)
-    (joined-few (rowsOf 65 np passes) (rowsOf 24 nv validities)))
+    subst (λ (x : ℕ). length (stagedPairs np passes nv validities) ≤ x * nv) (length-rowsOf pass-wide np passes)
+    (subst (λ (x : ℕ). length (stagedPairs np passes nv validities) ≤ length (rowsOf pass-wide np passes) * x) (length-rowsOf validity-wide nv validities)
+    (joined-few (rowsOf pass-wide np passes) (rowsOf validity-wide nv validities)))
 
 -- their number is far below what a number holds
-pub few-pairs : (np nv : ℕ) → np ≤ 6553 → nv ≤ 5461 → np * nv ≤ 35785933
-few-pairs np nv p v = le-trans (mul-le-mul-right nv p) (omega arith)
+pub pairs-below : (np nv : ℕ) → np ≤ most-passes → nv ≤ most-validities → np * nv ≤ most-passes * most-validities
+pairs-below np nv p v = le-trans (mul-le-mul-right nv p) (omega arith)
 
-pub few-fit : (q : ℕ) → q ≤ 640 → q * 66 ≤ 42240
+pub few-fit : (q : ℕ) → q ≤ few-pairs → q * body-wide ≤ few-pairs * body-wide
 few-fit q h = omega arith

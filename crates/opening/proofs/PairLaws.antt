@@ -11,10 +11,12 @@ use Rattle.lists.specs.Rows.{flat, rowsOf, Wide}
 use Rattle.lists.proofs.OverLaws.{onto-fits}
 use Rattle.lists.proofs.WideLaws.{wide-rowsOf, length-flat, rowsOf-flat}
 use Rattle.passage.specs.Layout.{body-wide}
+use Rattle.reader.specs.Passes.{pass-wide, validity-wide}
 use Rattle.plan.proofs.PlanLaws.{wide-all}
 use Rattle.book.specs.Entries.{plan-wide}
 use Rattle.book.specs.Rules.{bookRoom}
 use Rattle.book.proofs.SoundLaws.{room-within}
+use Rattle.opening_write.specs.inner.Steps.{most-plans}
 use Rattle.opening.specs.inner.Joining.{fewer, stagedPairs}
 use Rattle.opening.proofs.AreaLaws.{enough-room}
 
@@ -28,7 +30,7 @@ module _ (J : List (List ℕ)) (most n : ℕ) (e : n ≡ length (take (most + 1)
   all-joined h = let k : n ≡ _ = e ∙ length-take (most + 1) J in omega arith
 
   -- an area of k bytes that is enough for all pairs, or for what any book holds, is not what they lack room in
-  pub pairs-short : (book : List ℕ) (q k : ℕ) → length J ≤ q → (q * body-wide ≤ k) ⊎ (4401 * body-wide ≤ k) → most ≡ fewer (bookRoom book / plan-wide) (k / body-wide) → most < n → bookRoom book < length J * plan-wide
+  pub pairs-short : (book : List ℕ) (q k : ℕ) → length J ≤ q → (q * body-wide ≤ k) ⊎ (most-plans * body-wide ≤ k) → most ≡ fewer (bookRoom book / plan-wide) (k / body-wide) → most < n → bookRoom book < length J * plan-wide
   pairs-short book q k l e m h =
       let r = room-within book .1 in
       let j = more h in
@@ -46,5 +48,5 @@ module _ (J : List (List ℕ)) (most n : ℕ) (e : n ≡ length (take (most + 1)
 -- ---- each as wide as a body
 
 module _ (np : ℕ) (passes : List ℕ) (nv : ℕ) (validities : List ℕ) where
-  pub wide-pairs : np * 65 ≤ length passes → nv * 24 ≤ length validities → Wide body-wide (stagedPairs np passes nv validities)
-  wide-pairs f g = wide-all (rowsOf 65 np passes) (rowsOf 24 nv validities) (wide-rowsOf 65 np passes f) (wide-rowsOf 24 nv validities g)
+  pub wide-pairs : np * pass-wide ≤ length passes → nv * validity-wide ≤ length validities → Wide body-wide (stagedPairs np passes nv validities)
+  wide-pairs f g = wide-all (rowsOf pass-wide np passes) (rowsOf validity-wide nv validities) (wide-rowsOf pass-wide np passes f) (wide-rowsOf validity-wide nv validities g)

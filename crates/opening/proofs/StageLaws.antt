@@ -9,6 +9,7 @@ use Rattle.reader.specs.declared.Reading.{Reading}
 use Rattle.reader.specs.declared.Reading.the-variants as Readings
 use Rattle.reader.specs.Rules.{readingOf, itemsOf, dataRows}
 use Rattle.reader.specs.Staging.{stagedBy}
+use Rattle.reader.specs.Passes.{pass-wide, validity-wide}
 use Rattle.reader.proofs.StagedLaws.{staged-passes, staged-validities}
 use Rattle.plan.specs.Rules.{joined}
 use Rattle.calls.specs.declared.Answer.{Answer}
@@ -38,13 +39,13 @@ module _ (calendar : List ℕ) (ps : List (List ℕ)) (book table : List ℕ) wh
       refused-with (joinedTo calendar ps) book table c a (calendarAnswer calendar ps book table) (off .1) (calendar-is x refl ∙ off .0) r k
 
   -- the validities are read back
-  calendar-read : (v₀ v : List ℕ) (nv : ℕ) → readingOf Tables.Calendar [] 0 calendar ≡ Readings.Rows nv → v ≡ stagedBy Tables.Calendar [] 0 calendar v₀ → nv * 24 ≤ length v₀
-      → joined ps (rowsOf 24 nv v) ≡ joinedTo calendar ps
+  calendar-read : (v₀ v : List ℕ) (nv : ℕ) → readingOf Tables.Calendar [] 0 calendar ≡ Readings.Rows nv → v ≡ stagedBy Tables.Calendar [] 0 calendar v₀ → nv * validity-wide ≤ length v₀
+      → joined ps (rowsOf validity-wide nv v) ≡ joinedTo calendar ps
   unfolding joinedTo
-  calendar-read v₀ v nv e s f = ap (joined ps) (ap (rowsOf 24 nv) s ∙ staged-validities calendar v₀ nv e f)
+  calendar-read v₀ v nv e s f = ap (joined ps) (ap (rowsOf validity-wide nv) s ∙ staged-validities calendar v₀ nv e f)
 
-  pub calendar-taken : (c : Counts) (r : Outcome) (b t v₀ v : List ℕ) (nv : ℕ) → readingOf Tables.Calendar [] 0 calendar ≡ Readings.Rows nv → v ≡ stagedBy Tables.Calendar [] 0 calendar v₀ → nv * 24 ≤ length v₀
-      → Opened (roomToOpen (joined ps (rowsOf 24 nv v)) book table) (joined ps (rowsOf 24 nv v)) book table c r b t
+  pub calendar-taken : (c : Counts) (r : Outcome) (b t v₀ v : List ℕ) (nv : ℕ) → readingOf Tables.Calendar [] 0 calendar ≡ Readings.Rows nv → v ≡ stagedBy Tables.Calendar [] 0 calendar v₀ → nv * validity-wide ≤ length v₀
+      → Opened (roomToOpen (joined ps (rowsOf validity-wide nv v)) book table) (joined ps (rowsOf validity-wide nv v)) book table c r b t
       → Opened (calendarAnswer calendar ps book table) (joinedTo calendar ps) book table c r b t
   calendar-taken c r b t v₀ v nv e s f o =
       subst (λ (x : Answer). Opened x (joinedTo calendar ps) book table c r b t) (sym (calendar-is (Readings.Rows nv) e))
@@ -72,12 +73,12 @@ module _ (planning calendar book table : List ℕ) where
       let off = passed-off 1 x a e (calendarAnswer calendar rs book table) in
       open-is c r book table (refused-with (passagesOf planning calendar) book table c a (openAnswer planning calendar book table) (off .1) (planning-is x refl ∙ off .0) r k)
 
-  pub planning-taken : (c : Counts) (r : Outcome) (b t p₀ p : List ℕ) (np : ℕ) → readingOf Tables.Planning [] 0 planning ≡ Readings.Rows np → p ≡ stagedBy Tables.Planning [] 0 planning p₀ → np * 65 ≤ length p₀
-      → Opened (calendarAnswer calendar (rowsOf 65 np p) book table) (joinedTo calendar (rowsOf 65 np p)) book table c r b t
+  pub planning-taken : (c : Counts) (r : Outcome) (b t p₀ p : List ℕ) (np : ℕ) → readingOf Tables.Planning [] 0 planning ≡ Readings.Rows np → p ≡ stagedBy Tables.Planning [] 0 planning p₀ → np * pass-wide ≤ length p₀
+      → Opened (calendarAnswer calendar (rowsOf pass-wide np p) book table) (joinedTo calendar (rowsOf pass-wide np p)) book table c r b t
       → Opens c r b t
   unfolding joinedTo passagesOf
   planning-taken c r b t p₀ p np e s f o =
-      let k : rowsOf 65 np p ≡ rs = ap (rowsOf 65 np) s ∙ staged-passes planning p₀ np e f in
+      let k : rowsOf pass-wide np p ≡ rs = ap (rowsOf pass-wide np) s ∙ staged-passes planning p₀ np e f in
       open-is c r b t
       (subst (λ (x : Answer). Opened x (joinedTo calendar rs) book table c r b t) (sym (planning-is (Readings.Rows np) e))
       (subst (λ (q : List (List ℕ)). Opened (calendarAnswer calendar q book table) (joinedTo calendar q) book table c r b t) k o))

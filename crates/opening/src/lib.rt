@@ -7,30 +7,38 @@ ghost use mathlib.Core.Path.{_≡_};
 ghost use Prim.Native.Nat.{_*_, _≤_};
 ghost use lib.ListN.{length};
 ghost use Rattle.lists.specs.Rows.{rowsOf};
-ghost use Rattle.plan.specs.Passes.{pass-wide, validity-wide};
+ghost use Rattle.reader.specs.Passes.{pass-wide, validity-wide};
 ghost use Rattle.calls.specs.Answers.{numbers};
 ghost use Rattle.calls.specs.Leaves.{leaves};
 ghost use Rattle.calls.specs.Open.{openLeaves};
 ghost use Rattle.calls.specs.Numbers.{openNumbers};
 ghost use Rattle.opening_write.specs.inner.Steps.{openedLeaves};
-ghost use Rattle.opening.specs.inner.Steps.{HoldsPasses, HoldsValidities, calendarLeaves};
+ghost use Rattle.opening.specs.inner.Steps.{most-passes, most-validities, HoldsPasses, HoldsValidities, calendarLeaves};
 ghost use Rattle.opening.specs.inner.Joining.{fewer, stagedPairs, Enough};
 
-// Room for the pass times of any planning.
-const PASSES: usize = 6553 * plan::PASS_WIDE;
+// The most pass times of any planning, and room for them.
+const MOST_PASSES: usize = 6553;
 
-// Room for the validities of any calendar.
-const VALIDITIES: usize = 5461 * plan::VALIDITY_WIDE;
+const PASSES: usize = MOST_PASSES * plan::PASS_WIDE;
 
-// Clearing those takes much of the time of a small opening, which so has smaller ones. A small planning has at most 819 pass times.
+// The most validities of any calendar, and room for them.
+const MOST_VALIDITIES: usize = 5461;
+
+const VALIDITIES: usize = MOST_VALIDITIES * plan::VALIDITY_WIDE;
+
+// Clearing those takes much of the time of a small opening, which so has smaller ones. A small planning has few pass times.
 const SMALL_PLANNING: usize = 8192;
 
-const SMALL_PASSES: usize = 819 * plan::PASS_WIDE;
+const FEW_PASSES: usize = 819;
 
-// A small calendar has at most 341 validities.
+const SMALL_PASSES: usize = FEW_PASSES * plan::PASS_WIDE;
+
+// A small calendar has few validities.
 const SMALL_CALENDAR: usize = 4096;
 
-const SMALL_VALIDITIES: usize = 341 * plan::VALIDITY_WIDE;
+const FEW_VALIDITIES: usize = 341;
+
+const SMALL_VALIDITIES: usize = FEW_VALIDITIES * plan::VALIDITY_WIDE;
 
 // With the planning read, so many pass times: the calendar.
 fn read_and_join(
@@ -42,7 +50,7 @@ fn read_and_join(
     table: &mut [u8],
     counts: Counts,
 ) -> Outcome
-    requires { ⌜ (times * pass-wide ≤ length (now passes)) × (times ≤ 6553) ⌝ }
+    requires { ⌜ (times * pass-wide ≤ length (now passes)) × (times ≤ most-passes) ⌝ }
     requires { ⌜ HoldsValidities (now calendar) (length (now validities)) ⌝ }
     ensures { λ r. ⌜ leaves r (now (book .exit)) (now (table .exit))
         ≡ calendarLeaves (now (calendar .entry)) (rowsOf pass-wide times (now (passes .entry))) (now (book .entry)) (now (table .entry)) counts ⌝ }
@@ -120,12 +128,12 @@ pub fn open(
 // ---- Staged pass times and validities become the plan, in book and table: open, once both dossiers are read. It reads no dossier.
 
 // Room for the bodies of as many plan entries as a book has room for.
-const BODIES: usize = 4401 * passage::BODY_WIDE;
+const BODIES: usize = opening_write::MOST_PLANS * passage::BODY_WIDE;
 
 // Clearing that takes long beside joining a few pairs, which so have a smaller one. Few pairs, and room for their bodies.
-const FEW: usize = 640;
+const FEW_PAIRS: usize = 640;
 
-const FEW_BODIES: usize = FEW * passage::BODY_WIDE;
+const FEW_BODIES: usize = FEW_PAIRS * passage::BODY_WIDE;
 
 // The smaller number.
 fn fewer(a: usize, b: usize) -> usize
@@ -172,11 +180,11 @@ pub fn join_fitting(
     table: &mut [u8],
     counts: Counts,
 ) -> Outcome
-    requires { ⌜ (times * pass-wide ≤ length (now passes)) × (days * validity-wide ≤ length (now validities)) × (times ≤ 6553) × (days ≤ 5461) ⌝ }
+    requires { ⌜ (times * pass-wide ≤ length (now passes)) × (days * validity-wide ≤ length (now validities)) × (times ≤ most-passes) × (days ≤ most-validities) ⌝ }
     ensures { λ r. ⌜ leaves r (now (book .exit)) (now (table .exit))
         ≡ openedLeaves (stagedPairs times (now (passes .entry)) days (now (validities .entry))) (now (book .entry)) (now (table .entry)) counts ⌝ }
 {
-    if times * days <= FEW {
+    if times * days <= FEW_PAIRS {
         let mut bodies = [0u8; FEW_BODIES];
         return join_all(
             passes,

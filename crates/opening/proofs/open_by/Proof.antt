@@ -8,6 +8,7 @@ use Rattle.lists.proofs.AreaLaws.{room-for}
 use Rattle.columns.specs.declared.Table.the-variants as Tables
 use Rattle.reader.specs.declared.Reading.the-variants.{Rows}
 use Rattle.reader.specs.Rules.{readingOf}
+use Rattle.reader.specs.Passes.{pass-wide}
 use Rattle.reader.proofs.AnswerLaws.{planning-few}
 use Rattle.calls.specs.declared.Next.{Next}
 use Rattle.calls.specs.inner.Steps.{passedOf}
@@ -41,7 +42,7 @@ on n = n .before .before
 rows : (n : tie.After-times) → readingOf Tables.Planning [] 0 (st (on n) .args .planning .now) ≡ Rows (n .times .given .0 .0)
 rows n = passed-on 1 _ _ (goes (on n) _ (n .times .given .1))
 
-fits : (n : tie.After-times) → n .times .given .0 .0 * 65 ≤ length (st (on n) .args .passes .now)
+fits : (n : tie.After-times) → n .times .given .0 .0 * pass-wide ≤ length (st (on n) .args .passes .now)
 fits n = st (on n) .pre .0 _ (rows n)
 
 enum-known-times : tie.Need-enum-known-times

@@ -9,6 +9,7 @@ use Rattle.lists.specs.Rows.{rowsOf}
 use Rattle.columns.specs.declared.Table.the-variants as Tables
 use Rattle.reader.specs.declared.Reading.the-variants.{Rows}
 use Rattle.reader.specs.Rules.{readingOf}
+use Rattle.reader.specs.Passes.{pass-wide, validity-wide}
 use Rattle.reader.proofs.AnswerLaws.{calendar-few}
 use Rattle.calls.specs.declared.Next.{Next}
 use Rattle.calls.specs.inner.Steps.{passedOf}
@@ -42,12 +43,12 @@ on n = n .before .before
 rows : (n : tie.After-days) → readingOf Tables.Calendar [] 0 (st (on n) .args .calendar .now) ≡ Rows (n .days .given .0 .0)
 rows n = passed-on 2 _ _ (goes (on n) _ (n .days .given .1))
 
-fits : (n : tie.After-days) → n .days .given .0 .0 * 24 ≤ length (st (on n) .args .validities .now)
+fits : (n : tie.After-days) → n .days .given .0 .0 * validity-wide ≤ length (st (on n) .args .validities .now)
 fits n = st (on n) .pre .1 _ (rows n)
 
 -- the pass times
 abbrev ps : tie.Start → List (List ℕ)
-ps s = rowsOf 65 (s .args .times) (s .args .passes .now)
+ps s = rowsOf pass-wide (s .args .times) (s .args .passes .now)
 
 enum-known-days : tie.Need-enum-known-days
 enum-known-days c = search needs

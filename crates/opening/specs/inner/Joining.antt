@@ -6,8 +6,9 @@ use lib.Dec.{leb}
 use Rattle.lists.specs.Logic.{on}
 use Rattle.lists.specs.Rows.{rowsOf}
 use Rattle.passage.specs.Layout.{body-wide}
-use Rattle.plan.specs.Passes.{pass-wide, validity-wide}
+use Rattle.reader.specs.Passes.{pass-wide, validity-wide}
 use Rattle.plan.specs.Rules.{joined}
+use Rattle.opening_write.specs.inner.Steps.{most-plans}
 
 -- np pass times and nv validities that are staged, joined
 abbrev pub stagedPairs : ℕ → List ℕ → ℕ → List ℕ → List (List ℕ)
@@ -18,6 +19,10 @@ stagedPairs np passes nv validities = joined (rowsOf pass-wide np passes) (rowsO
 unfoldable pub fewer : ℕ → ℕ → ℕ
 fewer a b = on (leb a b) a b
 
--- k bytes hold each pair's body, or as many as any book has room for: 4,401
+-- few pairs have a small area
+abbrev pub few-pairs : ℕ
+few-pairs = 640
+
+-- k bytes hold each pair's body, or as many as any book has room for
 abbrev pub Enough : ℕ → ℕ → ℕ → Type 0
-Enough np nv k = (np * nv * body-wide ≤ k) ⊎ (4401 * body-wide ≤ k)
+Enough np nv k = (np * nv * body-wide ≤ k) ⊎ (most-plans * body-wide ≤ k)

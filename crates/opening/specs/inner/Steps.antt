@@ -5,7 +5,7 @@ use mathlib.Core.List.{List, []}
 use Rattle.columns.specs.declared.Table.the-variants as Tables
 use Rattle.reader.specs.declared.Reading.the-variants as Readings
 use Rattle.reader.specs.Rules.{readingOf, itemsOf, dataRows}
-use Rattle.plan.specs.Passes.{pass-wide, validity-wide}
+use Rattle.reader.specs.Passes.{pass-wide, validity-wide}
 use Rattle.plan.specs.Rules.{joined}
 use Rattle.calls.specs.declared.Answer.{Answer}
 use Rattle.calls.specs.declared.Counts.{Counts}
@@ -15,6 +15,20 @@ use Rattle.calls.specs.Open.{roomToOpen}
 use Rattle.opening_write.specs.inner.Steps.{joinedBy}
 
 -- ---- areas, by their length
+
+-- the most pass times of any planning, and the most validities of any calendar
+abbrev pub most-passes : ℕ
+most-passes = 6553
+
+abbrev pub most-validities : ℕ
+most-validities = 5461
+
+-- of a small one
+abbrev pub few-passes : ℕ
+few-passes = 819
+
+abbrev pub few-validities : ℕ
+few-validities = 341
 
 -- k bytes hold the rows of this planning, and of this calendar
 abbrev pub HoldsPasses : List ℕ → ℕ → Type 0
