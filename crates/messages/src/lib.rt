@@ -17,16 +17,19 @@ ghost use Rattle.calls.specs.Answers.{numbers};
 ghost use Rattle.calls.specs.Leaves.{countsOf, outcomeOf, leaves};
 ghost use Rattle.calls.specs.Message.{nextIn, messageSound, bookTaking, messageLeaves};
 ghost use Rattle.calls.specs.Numbers.{messageNumbers};
+ghost use Rattle.messages_take.specs.inner.Fitting.{most-updates};
 ghost use Rattle.messages.specs.inner.Steps.{HoldsRows, takenLeaves};
 
 // Room for the rows of any dossier.
-const STAGED: usize = 2427 * passage::BODY_WIDE;
+const STAGED: usize = messages_take::MOST_UPDATES * passage::BODY_WIDE;
 
-// A dossier of at most so many bytes is short, and has at most 303 rows: clearing room for 2,427 would take longer than reading it.
+// A dossier of at most so many bytes is short, and has few rows: clearing room for the most would take longer than reading it.
 const SHORT: usize = 8192;
 
+const FEW_UPDATES: usize = 303;
+
 // Room for the rows of a short dossier.
-const SHORT_STAGED: usize = 303 * passage::BODY_WIDE;
+const SHORT_STAGED: usize = FEW_UPDATES * passage::BODY_WIDE;
 
 // Whether register, book and table are sound.
 fn is_sound(register: &[u8], book: &[u8], table: &[u8], counts: Counts) -> bool
@@ -117,7 +120,7 @@ fn write_rows(
     used: usize,
     rows: usize,
 ) -> Outcome
-    requires { ⌜ (count ≤ 2427) × (count * body-wide ≤ length (now staging)) ⌝ }
+    requires { ⌜ (count ≤ most-updates) × (count * body-wide ≤ length (now staging)) ⌝ }
     requires { ⌜ bookSound used (now book) ≡ true ⌝ }
     requires { ⌜ used + count * entry-wide ≤ bookRoom (now book) ⌝ }
     ensures outcome { λ r. ⌜ r
@@ -138,7 +141,7 @@ pub fn take_rows(
     table: &mut [u8],
     counts: Counts,
 ) -> Outcome
-    requires { ⌜ (count ≤ 2427) × (count * body-wide ≤ length (now staging)) ⌝ }
+    requires { ⌜ (count ≤ most-updates) × (count * body-wide ≤ length (now staging)) ⌝ }
     requires { ⌜ (bookSound (counts .used) (now book) ≡ true) × (tableSound (counts .rows) (now table) ≡ true) ⌝ }
     ensures { λ r. ⌜ leaves r (now (book .exit)) (now (table .exit))
         ≡ takenLeaves (rowsOf body-wide count (now (staging .entry))) sender (now (book .entry)) (now (table .entry)) counts ⌝ }

@@ -125,7 +125,7 @@ pub enum Fitted {
 }
 
 // At most so many updates are taken at once: the rows of the longest dossier.
-const MOST_UPDATES: usize = 2427;
+pub const MOST_UPDATES: usize = 2427;
 
 // The bytes of a trial: a row more than a table can have.
 const TRIAL: usize = (table::MOST_ROWS + 1) * passage::ROW_WIDE;

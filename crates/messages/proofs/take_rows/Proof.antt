@@ -7,6 +7,7 @@ use lib.ListN.{length}
 use Rattle.lists.specs.Rows.{rowsOf}
 use Rattle.lists.proofs.RowLaws.{length-rowsOf}
 use Rattle.passage.specs.Layout.{body-wide, row-wide}
+use Rattle.table.specs.Rules.{most-rows}
 use Rattle.table.proofs.SoundLaws.{room-most, room-fits, sound-within, sound-fits, sound-sorted}
 use Rattle.book.specs.Entries.{entry-wide}
 use Rattle.book.specs.Rules.{bookRoom}
@@ -68,7 +69,7 @@ take-fitting-requires c κs =
     let a = s .args in
     let t = s .pre .1 .1 in
     let m = c .before .rows-room .ensures in
-    let most : c .before .rows-room .result ≤ 2048 = rw m (room-most (a .table .now)) in
+    let most : c .before .rows-room .result ≤ most-rows = rw m (room-most (a .table .now)) in
     let held : a .counts .rows ≤ c .before .rows-room .result = rw m (sound-within (a .counts .rows) (a .table .now) t) in
     let within : c .before .rows-room .result * row-wide ≤ length (a .table .now) = rw m (room-fits (a .table .now)) in
     let room = s .pre .0 in

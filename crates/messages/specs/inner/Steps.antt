@@ -6,10 +6,15 @@ use Rattle.passage.specs.Layout.{body-wide}
 use Rattle.calls.specs.declared.Counts.{Counts}
 use Rattle.calls.specs.Leaves.{Leaves}
 use Rattle.calls.specs.Message.{roomFor, takenBy}
+use Rattle.messages_take.specs.inner.Fitting.{most-updates}
+
+-- the most rows of a short dossier
+abbrev pub few-updates : ℕ
+few-updates = 303
 
 -- k bytes hold the rows of this dossier, by how many it can have
 abbrev pub HoldsRows : List ℕ → ℕ → Type 0
-HoldsRows dossier k = (n : ℕ) → n ≤ 2427 → n * 27 ≤ length dossier + 2 → n * body-wide ≤ k
+HoldsRows dossier k = (n : ℕ) → n ≤ most-updates → n * 27 ≤ length dossier + 2 → n * body-wide ≤ k
 
 -- 7, 8 or acceptance of these bodies, and what it leaves
 unfoldable pub takenLeaves : List (List ℕ) → ℕ → List ℕ → List ℕ → Counts → Leaves
