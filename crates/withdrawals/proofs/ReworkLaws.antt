@@ -31,7 +31,7 @@ use Rattle.book.proofs.PlanLaws.{wide-bodies}
 use Rattle.book.proofs.SoundLaws.{sound-facts, used-within, plans-within}
 use Rattle.book.proofs.SplitLaws.{wide-updates}
 use Rattle.calls.specs.Withdraw.{rowsWithout, tableWithout}
-use Rattle.withdrawals_replay.specs.inner.Slots.{slotsOf, settled, weights}
+use Rattle.withdrawals_replay.specs.inner.Slots.{most-slots, slotsOf, settled, weights}
 use Rattle.withdrawals.specs.inner.Steps.{MessageAt, namesIn, workedOut}
 use Rattle.withdrawals_replay.proofs.SlotLaws.{planned-key, wide-standing, wide-withdrawn, worked-key, worked-row, worked-wide}
 use Rattle.withdrawals_replay.proofs.BeginLaws.{Key, names-wide}
@@ -99,7 +99,7 @@ module _ {n used : ℕ} {b : List ℕ} {at m r : ℕ} {t : List ℕ} {c : ℕ} {
       let k = places-most key m in
       omega arith
 
-  pub names-few : c ≤ 4096
+  pub names-few : c ≤ most-slots
   names-few =
       let u = used-within used b (sound-facts used b (x .sound)) .1 in
       let w = x .stands .within in

@@ -19,7 +19,7 @@ use Rattle.book.specs.Rules.{bookSound}
 use Rattle.book.proofs.PlanLaws.{bodies}
 use Rattle.book.proofs.SoundLaws.{sound-facts, used-within, count-within, updates-are}
 use Rattle.book.proofs.WriteLaws.{lent-part}
-use Rattle.withdrawals_replay.specs.inner.Slots.{slot-wide, slotsOf, slotKey}
+use Rattle.withdrawals_replay.specs.inner.Slots.{slot-wide, most-slots, slotsOf, slotKey}
 use Rattle.withdrawals_replay.specs.inner.Worked.{begunSlot, heardIn, namesAt}
 use Rattle.withdrawals.specs.inner.Steps.{namesIn, workedOut}
 use Rattle.withdrawals_replay.proofs.BeginLaws.{names-wide, begun-keys, begun-read}
@@ -38,7 +38,7 @@ module _ (used at m : ℕ) (b : List ℕ) (sound : bookSound used b ≡ true) (f
   pub used-fits : used ≤ length b
   used-fits = used-within used b (sound-facts used b sound) .0
 
-  pub few : m ≤ 4096
+  pub few : m ≤ most-slots
   few = omega (arith, used-within used b (sound-facts used b sound) .1)
 
   pub lent-long : m * entry-wide ≤ length (lent at m b)

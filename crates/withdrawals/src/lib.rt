@@ -107,7 +107,7 @@ pub const FEW: usize = 64;
 const FEW_SLOTS: usize = FEW * withdrawals_replay::SLOT_WIDE;
 
 // The most entries that a book can have, so the most passages that a message can name, and a slot for each.
-const MOST: usize = 4096;
+const MOST: usize = book::MOST_BYTES / book::ENTRY_WIDE;
 
 const MOST_SLOTS: usize = MOST * withdrawals_replay::SLOT_WIDE;
 

@@ -17,7 +17,7 @@ rework-in-requires c κs =
     let start = c .before .before .before .before .before .before in
     let a = start .args in
     let few = start .pre .0 in
-    (start .pre .1 .0, (start .pre .1 .1, (made-room (a .count) 64 few, made-room (a .count * slot-wide) 4352 (omega arith))))
+    (start .pre .1 .0, (start .pre .1 .1, (made-room (a .count) 64 few, made-room (a .count * slot-wide) (64 * slot-wide) (omega arith))))
 
 same-length : tie.Need-same-length
 same-length c = search needs

@@ -1,5 +1,5 @@
 -- Slots: of each passage that a message names, its row, or that there is none; and what they make of a table's rows. Assumes nothing.
-use Prim.Native.Nat.{ℕ, _+_}
+use Prim.Native.Nat.{ℕ, _+_, _/_}
 use mathlib.Core.Bool.{Bool}
 use mathlib.Core.List.{List, [], _∷_}
 use lib.Dec.{eqb}
@@ -9,6 +9,8 @@ use Rattle.lists.specs.Part.{part}
 use Rattle.lists.specs.Rows.{rowsOf}
 use Rattle.passage.specs.Layout.{key-wide, row-wide}
 use Rattle.keys.specs.Sorted.{get, put, remove}
+use Rattle.book.specs.Entries.{entry-wide}
+use Rattle.book.specs.Rules.{most-bytes}
 
 -- a slot: one byte, 1 where there is a row; then the row, or else its key and zero bytes
 abbrev pub slot-wide : ℕ
@@ -16,7 +18,7 @@ slot-wide = 1 + row-wide
 
 -- at most so many are weighed: as many as a book has entries
 abbrev pub most-slots : ℕ
-most-slots = 4096
+most-slots = most-bytes / entry-wide
 
 -- the first c slots
 abbrev pub slotsOf : ℕ → List ℕ → List (List ℕ)
