@@ -40,12 +40,19 @@ fn report(bad: u32) {
     }
 }
 
+// A byte more than a script may have; all pairs of a register; all rows of a table.
+const PAPER: usize = 65537;
+
+const REGISTER: usize = 64 * register::PAIR_WIDE;
+
+const TABLE: usize = table::MOST_ROWS * passage::ROW_WIDE;
+
 // The buffers come as arrays of known size: so no proof has to count one through.
 fn run(
-    paper: &mut [u8; 65537],
-    register: &mut [u8; 704],
-    book: &mut [u8; 294912],
-    table: &mut [u8; 137216],
+    paper: &mut [u8; PAPER],
+    register: &mut [u8; REGISTER],
+    book: &mut [u8; book::MOST_BYTES],
+    table: &mut [u8; TABLE],
 ) {
     let n = size(paper);
     if n == 0 {
@@ -61,9 +68,9 @@ fn run(
 }
 
 fn main() {
-    let mut paper = [0u8; 65537];
-    let mut register = [0u8; 704];
-    let mut book = [0u8; 294912];
-    let mut table = [0u8; 137216];
+    let mut paper = [0u8; PAPER];
+    let mut register = [0u8; REGISTER];
+    let mut book = [0u8; book::MOST_BYTES];
+    let mut table = [0u8; TABLE];
     run(&mut paper, &mut register, &mut book, &mut table);
 }

@@ -100,10 +100,13 @@ fn open_on(
     told(line, o, b"accepted", held)
 }
 
+// A byte more than a dossier may have: so one that is too long reaches the call as one.
+const PAPER: usize = 65537;
+
 fn open_from(
     line: &[u8],
-    first: &mut [u8; 65537],
-    second: &mut [u8; 65537],
+    first: &mut [u8; PAPER],
+    second: &mut [u8; PAPER],
     book: &mut [u8],
     table: &mut [u8],
     held: Held,
@@ -121,12 +124,11 @@ fn open_from(
     open_on(line, planning, calendar, book, table, held)
 }
 
-// A byte more than a dossier may have: so one that is too long reaches the call as one.
 fn open(line: &[u8], book: &mut [u8], table: &mut [u8], held: Held) -> Held
     ensures { λ r. ⌜ ((register : List ℕ) → Opens (state held register (now (book .entry)) (now (table .entry))) (state r register (now (book .exit)) (now (table .exit)))) ⌝ }
 {
-    let mut first = [0u8; 65537];
-    let mut second = [0u8; 65537];
+    let mut first = [0u8; PAPER];
+    let mut second = [0u8; PAPER];
     open_from(line, &mut first, &mut second, book, table, held)
 }
 
@@ -169,7 +171,7 @@ fn send_on(
 fn send_from(
     line: &[u8],
     sender: u8,
-    paper: &mut [u8; 65537],
+    paper: &mut [u8; PAPER],
     register: &[u8],
     book: &mut [u8],
     table: &mut [u8],
@@ -194,7 +196,7 @@ fn send(
 ) -> Held
     ensures { λ r. ⌜ Sends sender (state held (now (register .entry)) (now (book .entry)) (now (table .entry))) (state r (now (register .entry)) (now (book .exit)) (now (table .exit))) ⌝ }
 {
-    let mut paper = [0u8; 65537];
+    let mut paper = [0u8; PAPER];
     send_from(line, sender, &mut paper, register, book, table, held)
 }
 

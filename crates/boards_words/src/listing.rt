@@ -61,8 +61,8 @@ fn row(r: &[u8]) {
         lists::get_number(r, passage::DATE_AT, passage::DATE_WIDE),
         lists::get_number(r, passage::DEPARTURE_AT, passage::TIME_WIDE),
     );
-    kept(&r[passage::LINE_AT..passage::JOURNEY_AT]);
-    kept(&r[passage::DESTINATION_AT..passage::STAMP_AT]);
+    kept(&r[passage::LINE_AT..passage::LINE_AT + passage::TEXT_WIDE]);
+    kept(&r[passage::DESTINATION_AT..passage::DESTINATION_AT + passage::TEXT_WIDE]);
     status(r[passage::STATUS_AT]);
 }
 

@@ -213,7 +213,10 @@ fn show(line: &[u8], book: &[u8], table: &[u8], h: Held) {
                 h.a,
             );
             let t = script_text::front(table, h.table);
-            say::bytes(script_text::front(t, h.rows % 65536 * 67), 67);
+            say::bytes(
+                script_text::front(t, h.rows % 65536 * passage::ROW_WIDE),
+                passage::ROW_WIDE,
+            );
         }
         b'#' => say::heading(line),
         _ => {}
