@@ -32,9 +32,9 @@ static const char cancellation[] =
 enum { SENDER = 3 };
 static const char registered[DESK_PAIR] = "\003CXX";
 
-/* the day: book, table, and the last answer, in which stand the counts to pass on */
+/* the day keeps its counts from call to call */
 static uint8_t book[DESK_BOOK], table[DESK_TABLE];
-static uint64_t answer[DESK_ANSWER];
+static struct desk_day day = {.book = book, .book_len = sizeof book, .table = table, .table_len = sizeof table};
 
 #define TEXT(s) (const uint8_t *)(s), sizeof(s) - 1
 
@@ -64,9 +64,9 @@ static void print_row(const uint8_t *row)
 static void print_board(void)
 {
     uint32_t places[8];
-    uint64_t board[DESK_ANSWER]; /* of its own: a board gives no counts */
+    uint64_t board[DESK_BOARD_ANSWER];
     puts("BOARD CXX S1 2016-03-01 23:50:00 1800");
-    desk_board(TEXT("CXX"), TEXT("S1"), 20160301, 85800, 1800, table, sizeof table, answer[DESK_ANSWER_ROWS], places, 8, board);
+    desk_day_board(&day, TEXT("CXX"), TEXT("S1"), 20160301, 85800, 1800, places, 8, board);
     for (uint64_t i = 0; i < board[DESK_ANSWER_VALUE]; i++) print_row(table + places[i] * DESK_ROW);
     printf("END %u %u\n", (unsigned)board[DESK_ANSWER_VALUE], (unsigned)board[DESK_ANSWER_SECOND]);
 }
@@ -74,23 +74,21 @@ static void print_board(void)
 static int refused(const char *call, uint32_t number)
 {
     if (number == DESK_ACCEPTED) return 0;
-    printf("%s: refused with %u, %u, %u\n", call, (unsigned)number, (unsigned)answer[DESK_ANSWER_VALUE], (unsigned)answer[DESK_ANSWER_SECOND]);
+    printf("%s: refused with %u, %u, %u\n", call, (unsigned)number, (unsigned)day.answer[DESK_ANSWER_VALUE], (unsigned)day.answer[DESK_ANSWER_SECOND]);
     return 1;
 }
 
 int main(void)
 {
-    if (refused("open", desk_open(TEXT(planning), TEXT(calendar), book, sizeof book, table, sizeof table, 0, 0, answer))) return 1;
+    if (refused("open", desk_day_open(&day, TEXT(planning), TEXT(calendar)))) return 1;
     print_board();
 
-    if (refused("message", desk_message(TEXT(cancellation), SENDER, (const uint8_t *)registered, sizeof registered, book, sizeof book,
-                                        table, sizeof table, answer[DESK_ANSWER_USED], answer[DESK_ANSWER_ROWS], answer))) return 1;
-    uint32_t message = (uint32_t)answer[DESK_ANSWER_VALUE];
+    if (refused("message", desk_day_message(&day, TEXT(cancellation), SENDER, (const uint8_t *)registered, sizeof registered))) return 1;
+    uint32_t message = (uint32_t)day.answer[DESK_ANSWER_VALUE];
     printf("\nmessage %u:\n", (unsigned)message);
     print_board();
 
-    if (refused("withdraw", desk_withdraw(message, SENDER, book, sizeof book, table, sizeof table, answer[DESK_ANSWER_USED],
-                                          answer[DESK_ANSWER_ROWS], answer))) return 1;
+    if (refused("withdraw", desk_day_withdraw(&day, message, SENDER))) return 1;
     printf("\nmessage %u withdrawn:\n", (unsigned)message);
     print_board();
     return 0;

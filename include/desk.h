@@ -12,19 +12,25 @@
 
    ANY BYTES and any numbers may be passed: a call refuses what it cannot take, and a refused call changes nothing but `answer`.
 
-   THE DAY is the book, the table and two counts. Keep the counts of the last answer (used, rows) and pass them to the next call; a refused call gives
-   back the ones that it was passed, so they may be taken from every answer but a board's.
+   THE DAY is the book, the table and two counts. The counts of the last answer (used, rows) go to the next call; a refused call gives back the ones that
+   it was passed. `struct desk_day` with desk_day_open, desk_day_message, desk_day_withdraw and desk_day_board keeps them and passes them on by itself; the
+   plain calls leave that to you.
 
-   THE ANSWER is six numbers, and each call returns the first of them too:
+   THE ANSWER of a call on the day is six numbers, and each call returns the first of them too:
 
      [0] number   DESK_ACCEPTED, or why it was refused
-     [1] value    accepted: message: its number, 0 where it had no rows; board: how many places were written; else 0
+     [1] value    accepted: message: its number, 0 where it had no rows; else 0
                   refused: DESK_SYNTAX: the fault's byte offset, from 0; DESK_FORM, DESK_FIELD, DESK_NOT_REGISTERED: the line, from 1; else 0
-     [2] second   accepted: board: how many passages are shown in all; else 0
-                  refused: DESK_FIELD: the column, from 1; else 0
+     [2] second   refused: DESK_FIELD: the column, from 1; else 0
      [3] dossier  open refused with DESK_TOO_LONG to DESK_FIELD: 1 the planning, 2 the calendar; else 0
-     [4] used     bytes used of the book, for the next call; refused: as passed; board: 0
-     [5] rows     rows of the table, for the next call; refused: as passed; board: 0 */
+     [4] used     bytes used of the book, for the next call; refused: as passed
+     [5] rows     rows of the table, for the next call; refused: as passed
+
+   THE ANSWER OF A BOARD is three numbers. It has no counts, so that none can be taken for the day's:
+
+     [0] number   DESK_ACCEPTED, or why it was refused
+     [1] value    accepted: how many places were written; else 0
+     [2] second   accepted: how many passages are shown in all; else 0 */
 #ifndef DESK_H
 #define DESK_H
 
@@ -35,7 +41,7 @@
 extern "C" {
 #endif
 
-/* The places in an answer, and how many there are. */
+/* The places in an answer, and how many there are: of a call on the day, and of a board. */
 enum {
     DESK_ANSWER_NUMBER = 0,
     DESK_ANSWER_VALUE = 1,
@@ -43,7 +49,8 @@ enum {
     DESK_ANSWER_DOSSIER = 3,
     DESK_ANSWER_USED = 4,
     DESK_ANSWER_ROWS = 5,
-    DESK_ANSWER = 6
+    DESK_ANSWER = 6,
+    DESK_BOARD_ANSWER = 3
 };
 
 /* An answer's number, and which calls give it. Where several hold, the first is given in the order 1 to 7, 9, 10, 12, 11, 8, 13. */
@@ -171,7 +178,49 @@ uint32_t desk_board(const uint8_t *owner, size_t owner_len,
                     const uint8_t *stop, size_t stop_len,
                     uint32_t date, uint32_t second, uint32_t horizon,
                     const uint8_t *table, size_t table_len, uint64_t rows,
-                    uint32_t *places, size_t places_len, uint64_t answer[6]);
+                    uint32_t *places, size_t places_len, uint64_t answer[3]);
+
+/* A day that keeps its counts: book and table lent by you, with their lengths; counts 0 before it is opened; and the last answer of a call on it. */
+struct desk_day {
+    uint8_t *book;
+    size_t book_len;
+    uint8_t *table;
+    size_t table_len;
+    uint64_t used, rows;
+    uint64_t answer[6];
+};
+
+/* The counts of the answer become the day's: accepted, the new ones; refused, those that it had. */
+static inline uint32_t desk_day_keep(struct desk_day *day, uint32_t number)
+{
+    day->used = day->answer[DESK_ANSWER_USED];
+    day->rows = day->answer[DESK_ANSWER_ROWS];
+    return number;
+}
+
+static inline uint32_t desk_day_open(struct desk_day *day, const uint8_t *planning, size_t planning_len, const uint8_t *calendar, size_t calendar_len)
+{
+    return desk_day_keep(day, desk_open(planning, planning_len, calendar, calendar_len, day->book, day->book_len, day->table, day->table_len,
+                                        day->used, day->rows, day->answer));
+}
+
+static inline uint32_t desk_day_message(struct desk_day *day, const uint8_t *dossier, size_t dossier_len, uint8_t sender,
+                                        const uint8_t *registered, size_t registered_len)
+{
+    return desk_day_keep(day, desk_message(dossier, dossier_len, sender, registered, registered_len, day->book, day->book_len, day->table,
+                                           day->table_len, day->used, day->rows, day->answer));
+}
+
+static inline uint32_t desk_day_withdraw(struct desk_day *day, uint32_t number, uint8_t sender)
+{
+    return desk_day_keep(day, desk_withdraw(number, sender, day->book, day->book_len, day->table, day->table_len, day->used, day->rows, day->answer));
+}
+
+static inline uint32_t desk_day_board(const struct desk_day *day, const uint8_t *owner, size_t owner_len, const uint8_t *stop, size_t stop_len,
+                                      uint32_t date, uint32_t second, uint32_t horizon, uint32_t *places, size_t places_len, uint64_t answer[3])
+{
+    return desk_board(owner, owner_len, stop, stop_len, date, second, horizon, day->table, day->table_len, day->rows, places, places_len, answer);
+}
 
 #ifdef __cplusplus
 }

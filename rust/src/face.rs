@@ -1,7 +1,8 @@
 //! A safe wrapper over the C face of the proved library.
 //!
-//! Each answer has six numbers: document 01's number (0 is acceptance), the value and second value
-//! that belong to it, which dossier (open only), and the counts to pass on.
+//! An answer of a call on the day has six numbers: document 01's number (0 is acceptance), the value
+//! and second value that belong to it, which dossier (open only), and the counts to pass on. A board's
+//! has the first three.
 
 #[cfg(desk_linked)]
 extern "C" {
@@ -163,9 +164,9 @@ pub fn board(
     table: &[u8],
     rows: u64,
     places: &mut [u32],
-) -> [u64; 6] {
-    let mut answer = [0; 6];
-    // SAFETY: as for `open`; `places` is counted in 32-bit numbers, and the table is only read.
+) -> [u64; 3] {
+    let mut answer = [0; 3];
+    // SAFETY: as for `open`, but that `answer` has three numbers; `places` is counted in 32-bit numbers, and the table is only read.
     let number = unsafe {
         desk_board(
             owner.as_ptr(),
@@ -188,7 +189,7 @@ pub fn board(
 
 /// The number comes back twice; a face that says two things is broken, so it is not passed on.
 #[cfg(desk_linked)]
-fn checked(number: u32, answer: [u64; 6]) -> [u64; 6] {
+fn checked<const N: usize>(number: u32, answer: [u64; N]) -> [u64; N] {
     assert_eq!(u64::from(number), answer[0], "the returned number and the answer's differ");
     answer
 }
@@ -231,7 +232,7 @@ mod unlinked {
         _: &[u8],
         _: u64,
         _: &mut [u32],
-    ) -> [u64; 6] {
+    ) -> [u64; 3] {
         panic!("{MISSING}")
     }
 }

@@ -44,7 +44,7 @@ pub trait Side {
         table: &[u8],
         rows: u64,
         places: &mut [u32],
-    ) -> [u64; 6];
+    ) -> [u64; 3];
 }
 
 /// Both sides have the same functions, so one text forwards to either.
@@ -96,7 +96,7 @@ macro_rules! forward {
                 table: &[u8],
                 rows: u64,
                 places: &mut [u32],
-            ) -> [u64; 6] {
+            ) -> [u64; 3] {
                 $module::board(owner, stop, date, second, horizon, table, rows, places)
             }
         }

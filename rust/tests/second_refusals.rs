@@ -38,7 +38,7 @@ fn counts_out_of_range() {
         if rows > 1 {
             assert_eq!(
                 board(b"CXX", b"S1", 20160301, 0, 0, &t, rows, &mut []),
-                [1, 0, 0, 0, 0, 0]
+                [1, 0, 0]
             );
         }
         // Open only hands the counts back.
@@ -361,7 +361,7 @@ fn board_refusals() {
             &mut places,
         );
         assert!(a[0] == 0 || places == [5; 3]);
-        a[..3].to_vec()
+        a
     };
     assert_eq!(ask(b"CXX", b"S1", 20160301, 0, 86_400), [0, 1, 1]);
     assert_eq!(ask(b"0123456789", b" ", 20160301, 86_399, 0), [0, 0, 0]);

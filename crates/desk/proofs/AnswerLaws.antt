@@ -12,7 +12,7 @@ use Rattle.board.specs.declared.Listing.{Listing}
 use Rattle.board.specs.Rules.{Board, boardWith, boardNumbers}
 use Rattle.desk.specs.Answered.{outcomeNumber, answered, four, told, toldOf, boardNumber, boardAnswered}
 
--- ---- the six numbers as they are written
+-- ---- an answer's numbers as they are written
 
 pub written : (o : Outcome) (n : Four) (r : ℕ) (l : List ℕ) → n ≡ fourOf (numbers (o .answer))
     → (r ≡ n .number) × (l ≡ n .number ∷ n .value ∷ n .second ∷ n .dossier ∷ o .counts .used ∷ o .counts .rows ∷ [])
@@ -21,7 +21,7 @@ unfolding outcomeNumber answered
 written o n r l e p = (p .0 ∙ ap (λ (x : Four). x .number) e, p .1 ∙ ap (λ (x : Four). x .number ∷ x .value ∷ x .second ∷ x .dossier ∷ o .counts .used ∷ o .counts .rows ∷ []) e)
 
 pub board-written : (o a : Listing) (r : ℕ) (l : List ℕ) → o ≡ a
-    → (r ≡ boardNumbers a .0) × (l ≡ boardNumbers a .0 ∷ boardNumbers a .1 ∷ boardNumbers a .2 ∷ 0 ∷ 0 ∷ 0 ∷ [])
+    → (r ≡ boardNumbers a .0) × (l ≡ boardNumbers a .0 ∷ boardNumbers a .1 ∷ boardNumbers a .2 ∷ [])
     → (r ≡ boardNumber o) × (l ≡ boardAnswered o)
 unfolding boardNumber boardAnswered
 board-written o a r l e p = rw e p

@@ -1,4 +1,4 @@
--- All that is claimed of the six numbers holds: it is what the calls and the board claim. Assumes nothing.
+-- All that is claimed of an answer's numbers holds: it is what the calls and the board claim. Assumes nothing.
 use Prim.Native.Nat.{ℕ}
 use mathlib.Core.Path.{_≡_, refl}
 use mathlib.Core.Bool.{Bool, true, false}
@@ -18,12 +18,12 @@ use Rattle.board.specs.Rules.{boardOf, boardWith, fitted, boardLeaves, boardNum
 use Rattle.lists.specs.Logic.{on}
 use Rattle.table.specs.Rules.{tableSound}
 use Rattle.desk.specs.Answered.{outcomeNumber, answered, toldOf, boardNumber, boardAnswered}
-use Rattle.desk.specs.Claims.{SixNumbers, FaceGivesBack, OpenGivesBack, MessageGivesBack, WithdrawGivesBack, BoardGivesBack, FaceNumbersListed, BoardNumbersListed, All}
+use Rattle.desk.specs.Claims.{NumbersOfAnswer, FaceGivesBack, OpenGivesBack, MessageGivesBack, WithdrawGivesBack, BoardGivesBack, FaceNumbersListed, BoardNumbersListed, All}
 use Rattle.desk.proofs.DossierLaws.{dossier-named}
 
-six-numbers : SixNumbers
+numbers-of-answer : NumbersOfAnswer
 unfolding answered outcomeNumber boardAnswered
-six-numbers o b = (refl, refl, refl, refl)
+numbers-of-answer o b = (refl, refl, refl, refl)
 
 -- ---- refusals
 
@@ -35,7 +35,7 @@ refused-by a h = go (isAccepted a) (acceptance-is-zero a .0)
     go true f = absurd (h (f refl))
     go false f = refl
 
--- what the calls claim of counts, book and table is what is claimed of the six numbers
+-- what the calls claim of counts, book and table is what is claimed of an answer's numbers
 gives-back : (left : Leaves) (used rows : ℕ) (book table : List ℕ) → CallGivesBack left (countsOf used rows) book table → FaceGivesBack (toldOf left) used rows book table
 unfolding outcomeNumber answered
 gives-back left used rows book table f h =
@@ -62,7 +62,7 @@ board-gives-back q table rows places = go (tableSound rows table) (asksInRange q
         → let b = on s (on a (fitted l places) (boardWith OutOfRange places)) (boardWith Unsound places) in
         let ns = boardNumbers (b .answer) in
         (ns .0 ≡ 0 → ⊥)
-        → (_≡_ {A = List ℕ} (ns .0 ∷ ns .1 ∷ ns .2 ∷ 0 ∷ 0 ∷ 0 ∷ []) (ns .0 ∷ 0 ∷ 0 ∷ 0 ∷ 0 ∷ 0 ∷ []))
+        → (_≡_ {A = List ℕ} (ns .0 ∷ ns .1 ∷ ns .2 ∷ []) (ns .0 ∷ 0 ∷ 0 ∷ []))
         × (b .places ≡ places)
     go true true l h = absurd (h refl)
     go true false l h = (refl, refl)
@@ -81,4 +81,4 @@ board-listed Unsound = refl
 board-listed OutOfRange = refl
 
 pub claims : All
-claims = (six-numbers, open-gives-back, message-gives-back, withdraw-gives-back, board-gives-back, listed, board-listed, dossier-named)
+claims = (numbers-of-answer, open-gives-back, message-gives-back, withdraw-gives-back, board-gives-back, listed, board-listed, dossier-named)

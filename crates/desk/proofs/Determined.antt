@@ -1,4 +1,4 @@
--- Each promise allows one outcome: the number returned, the six numbers, and every lent byte or place afterwards. Assumes nothing.
+-- Each promise allows one outcome: the number returned, the answer's numbers, and every lent byte or place afterwards. Assumes nothing.
 use mathlib.Core.Path.{sym, _∙_}
 use denote.Ref.{now}
 use Rattle.lists.proofs.Promise.{Determined, OneResult}

@@ -1,4 +1,4 @@
--- The six numbers of an answer: number, value, second value, which dossier, used, rows; 0 where there is none. Assumes nothing.
+-- The numbers of an answer, 0 where there is none: of a call on the day number, value, second value, which dossier, used, rows; of a board the first three. Assumes nothing.
 use Prim.Native.Nat.{ℕ}
 use mathlib.Core.List.{List, [], _∷_, _++_}
 use Rattle.calls.specs.declared.Outcome.{Outcome}
@@ -37,6 +37,6 @@ toldOf left = told (outcomeNumber (left .outcome)) (answered (left .outcome)) (l
 unfoldable pub boardNumber : Board → ℕ
 boardNumber a = boardNumbers a .0
 
--- places written, then shown in all; a board concerns no dossier and changes no count
+-- places written, then shown in all; a board concerns no dossier and has no count
 unfoldable pub boardAnswered : Board → List ℕ
-boardAnswered a = boardNumber a ∷ boardNumbers a .1 ∷ boardNumbers a .2 ∷ 0 ∷ 0 ∷ 0 ∷ []
+boardAnswered a = boardNumber a ∷ boardNumbers a .1 ∷ boardNumbers a .2 ∷ []

@@ -1,4 +1,4 @@
--- Worked examples of the six numbers. Assumes nothing.
+-- Worked examples of an answer's numbers. Assumes nothing.
 use mathlib.Core.Path.{_≡_, refl}
 use mathlib.Core.List.{[], _∷_}
 use Rattle.calls.specs.declared.Answer.the-variants.{Accepted, Field, Owner}
@@ -22,10 +22,10 @@ unfolding outcomeNumber answered
 owner-refused = refl
 
 -- 8 places written of 12 that are shown
-board-cut : boardAnswered (Listed 8 12) ≡ 0 ∷ 8 ∷ 12 ∷ 0 ∷ 0 ∷ 0 ∷ []
+board-cut : boardAnswered (Listed 8 12) ≡ 0 ∷ 8 ∷ 12 ∷ []
 unfolding boardNumber boardAnswered
 board-cut = refl
 
-board-refused : boardAnswered OutOfRange ≡ 13 ∷ 0 ∷ 0 ∷ 0 ∷ 0 ∷ 0 ∷ []
+board-refused : boardAnswered OutOfRange ≡ 13 ∷ 0 ∷ 0 ∷ []
 unfolding boardNumber boardAnswered
 board-refused = refl

@@ -1,4 +1,4 @@
--- What is certain of the six numbers, for any lent bytes and numbers. Assumes nothing.
+-- What is certain of the numbers of an answer, for any lent bytes and numbers. Assumes nothing.
 use Prim.Native.Nat.{ℕ}
 use mathlib.Core.Path.{_≡_}
 use mathlib.Core.Bool.{true}
@@ -16,12 +16,12 @@ use Rattle.board_show.specs.Ask.{Question}
 use Rattle.board.specs.Rules.{boardLeaves}
 use Rattle.desk.specs.Answered.{outcomeNumber, answered, Told, toldOf, boardNumber, boardAnswered}
 
--- an answer is six numbers, and the one returned is the first
-abbrev pub SixNumbers : Type 0
-SixNumbers =
+-- an answer of a call on the day is six numbers and one of a board three, and the one returned is the first
+abbrev pub NumbersOfAnswer : Type 0
+NumbersOfAnswer =
     (o : Outcome) (b : Board)
     → (length (answered o) ≡ 6) × (getD (answered o) 0 0 ≡ outcomeNumber o)
-    × (length (boardAnswered b) ≡ 6) × (getD (boardAnswered b) 0 0 ≡ boardNumber b)
+    × (length (boardAnswered b) ≡ 3) × (getD (boardAnswered b) 0 0 ≡ boardNumber b)
 
 -- what a refused call gives back, by the number returned: both counts in the answer, the book and the table as they were
 abbrev pub FaceGivesBack : Told → ℕ → ℕ → List ℕ → List ℕ → Type 0
@@ -43,13 +43,13 @@ WithdrawGivesBack =
     (book table : List ℕ) (number sender used rows : ℕ)
     → FaceGivesBack (toldOf (withdrawLeaves number sender book table (countsOf used rows))) used rows book table
 
--- a board that is refused has its number and five times 0, and leaves every place
+-- a board that is refused has its number and twice 0, and leaves every place
 abbrev pub BoardGivesBack : Type 0
 BoardGivesBack =
     (q : Question) (table : List ℕ) (rows : ℕ) (places : List ℕ)
     → let b = boardLeaves q table rows places in
     (boardNumber (b .answer) ≡ 0 → ⊥)
-    → (boardAnswered (b .answer) ≡ boardNumber (b .answer) ∷ 0 ∷ 0 ∷ 0 ∷ 0 ∷ 0 ∷ []) × (b .places ≡ places)
+    → (boardAnswered (b .answer) ≡ boardNumber (b .answer) ∷ 0 ∷ 0 ∷ []) × (b .places ≡ places)
 
 -- the number returned is one of document 01's list for the call
 abbrev pub FaceNumbersListed : Type 0
@@ -75,4 +75,4 @@ DossierNamed =
 
 -- all of these
 abbrev pub All : Type 0
-All = SixNumbers × OpenGivesBack × MessageGivesBack × WithdrawGivesBack × BoardGivesBack × FaceNumbersListed × BoardNumbersListed × DossierNamed
+All = NumbersOfAnswer × OpenGivesBack × MessageGivesBack × WithdrawGivesBack × BoardGivesBack × FaceNumbersListed × BoardNumbersListed × DossierNamed

@@ -1,4 +1,4 @@
-// The C face: the four calls over plain numbers and lent memory. Each answer is six numbers; include/desk.h says which.
+// The C face: the four calls over plain numbers and lent memory. An answer is six numbers, a board's three; include/desk.h says which.
 use calls::Counts;
 use calls::Outcome;
 ghost use mathlib.Core.Path.{_≡_};
@@ -97,7 +97,7 @@ pub extern "C" fn desk_board(
     table: &[u8],
     rows: u64,
     places: &mut [u32],
-    answer: &mut [u64; 6],
+    answer: &mut [u64; 3],
 ) -> u32
     ensures number { λ r. ⌜ r
         ≡ boardNumber (boardLeaves (asked (now (owner .entry)) (now (stop .entry)) date second horizon) (now (table .entry)) rows (now (places .entry)) .answer) ⌝ }
@@ -111,7 +111,7 @@ pub extern "C" fn desk_board(
     set_board(answer, a)
 }
 
-// ---- An answer as six numbers. Which number stands where: include/desk.h.
+// ---- An answer as numbers, six of a call on the day and three of a question. Which stands where: include/desk.h.
 
 // The six numbers are written, and the first given back.
 fn write_answer(
@@ -146,14 +146,23 @@ pub fn set_answer(answer: &mut [u64; 6], outcome: Outcome) -> u32
     write_answer(answer, number, value, second, dossier, used, rows)
 }
 
-// What a board came to.
-pub fn set_board(answer: &mut [u64; 6], listing: board::Listing) -> u32
+// The three numbers of a question's answer are written, and the first given back.
+fn write_three(answer: &mut [u64; 3], number: u32, value: u64, second: u64) -> u32
+    ensures { λ r. ⌜ r ≡ number ⌝ }
+    ensures { λ _. ⌜ now (answer .exit) ≡ number ∷ value ∷ second ∷ [] ⌝ }
+{
+    *answer = [number as u64, value, second];
+    number
+}
+
+// What a board came to. It has no counts, so that none can be taken for the day's.
+pub fn set_board(answer: &mut [u64; 3], listing: board::Listing) -> u32
     ensures { λ r. ⌜ r ≡ boardNumber listing ⌝ }
     ensures { λ _. ⌜ now (answer .exit) ≡ boardAnswered listing ⌝ }
 {
     match listing {
-        board::Listing::Listed(w, s) => write_answer(answer, 0, w as u64, s as u64, 0, 0, 0),
-        board::Listing::Unsound => write_answer(answer, 1, 0, 0, 0, 0, 0),
-        board::Listing::OutOfRange => write_answer(answer, 13, 0, 0, 0, 0, 0),
+        board::Listing::Listed(w, s) => write_three(answer, 0, w as u64, s as u64),
+        board::Listing::Unsound => write_three(answer, 1, 0, 0),
+        board::Listing::OutOfRange => write_three(answer, 13, 0, 0),
     }
 }

@@ -38,6 +38,7 @@ pub struct Job {
 /// All that can be seen of a call.
 #[derive(Clone, PartialEq, Eq)]
 pub struct Outcome {
+    /// Of a board, which has three numbers, the others are 0.
     pub answer: [u64; 6],
     pub book: Vec<u8>,
     pub table: Vec<u8>,
@@ -118,8 +119,9 @@ fn perform_board<S: Side>(job: &Job) -> Outcome {
     let mut numbers = [&guard, places.as_slice(), &guard].concat();
     let end = GUARD + places.len();
     let lent_places = &mut numbers[GUARD..end];
-    let answer =
+    let [number, value, in_all] =
         S::board(owner, stop, *date, *second, *horizon, table.lent(), job.lent.rows, lent_places);
+    let answer = [number, value, in_all, 0, 0, 0];
     let within = table.intact() && numbers[..GUARD] == guard && numbers[end..] == guard;
     let places = numbers[GUARD..end].to_vec();
     Outcome { answer, book: Vec::new(), table: table.content(), places, within }

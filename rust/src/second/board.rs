@@ -4,8 +4,8 @@ use super::dates::{self, DAY};
 use super::passage::*;
 use super::table;
 
-fn refused(number: u64) -> [u64; 6] {
-    [number, 0, 0, 0, 0, 0]
+fn refused(number: u64) -> [u64; 3] {
+    [number, 0, 0]
 }
 
 /// Seconds within an operating day.
@@ -74,7 +74,7 @@ pub fn board(
     lent: &[u8],
     rows: u64,
     places: &mut [u32],
-) -> [u64; 6] {
+) -> [u64; 3] {
     let Some(rows) = table::sound(lent, rows) else {
         return refused(1);
     };
@@ -94,7 +94,7 @@ pub fn board(
     for (place, (_, row)) in places.iter_mut().zip(&shown[..written]) {
         *place = *row;
     }
-    [0, written as u64, shown.len() as u64, 0, 0, 0]
+    [0, written as u64, shown.len() as u64]
 }
 
 fn collect(

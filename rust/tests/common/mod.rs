@@ -141,7 +141,7 @@ impl Desk {
         self.done(before, a)
     }
 
-    pub fn board(&self, date: u32, second: u32, horizon: u32, places: &mut [u32]) -> [u64; 6] {
+    pub fn board(&self, date: u32, second: u32, horizon: u32, places: &mut [u32]) -> [u64; 3] {
         board(
             b"CXX",
             b"S1",

@@ -144,7 +144,9 @@ impl Room {
                 S::withdraw(*number, *sender, book, table, used, rows)
             }
             Call::Board { owner, stop, date, second, horizon, .. } => {
-                S::board(owner, stop, *date, *second, *horizon, table, rows, &mut self.places)
+                let [number, value, in_all] =
+                    S::board(owner, stop, *date, *second, *horizon, table, rows, &mut self.places);
+                [number, value, in_all, 0, 0, 0]
             }
         }
     }
