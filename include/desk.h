@@ -1,6 +1,7 @@
 /* Zhemdurak for C: open a day, take messages, withdraw them, ask for boards. docs/SCOPE.md has the rules, examples/board.c a use of it all.
 
-   Link the archive that `tools/native-archive desk` writes. 64-bit machines only.
+   Link the archive that `tools/native-archive desk` writes, or `tools/install PREFIX` puts with this header and a pkg-config file: `cc program.c
+   $(pkg-config --cflags --libs desk)`. 64-bit machines only.
 
    MEMORY. All memory is lent for the time of one call, each piece as a pointer and a length; nothing is kept and nothing allocated. What a call may
    write (book, table, places, answer) must overlap nothing else that is passed to it; what it only reads may overlap. `places` and `answer` are aligned
@@ -40,6 +41,9 @@
 #ifdef __cplusplus
 extern "C" {
 #endif
+
+/* Of this face: one more where a call or an answer changes. 2: a board's answer has three numbers. */
+enum { DESK_VERSION = 2 };
 
 /* The places in an answer, and how many there are: of a call on the day, and of a board. */
 enum {
