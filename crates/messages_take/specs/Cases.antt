@@ -1,10 +1,10 @@
 -- Updates taken one after another, on small examples. Assumes nothing.
 use mathlib.Core.Path.{_≡_, refl}
 use mathlib.Core.List.{List, [], _∷_, _++_}
-use Prim.Native.Nat.{ℕ}
+use Prim.Native.Nat.{ℕ, _-_}
 use lib.ListN.{replicate}
 use Rattle.lists.specs.Part.{part}
-use Rattle.passage.specs.Layout.{key-wide, kept}
+use Rattle.passage.specs.Layout.{key-wide, status-at, arrival-at, show-cancelled-at, kept}
 use Rattle.keys.specs.Keys.{cmp}
 use Rattle.keys.specs.Sorted.{get, put}
 use Rattle.keys.specs.Replay.{taken, takenAll}
@@ -13,7 +13,7 @@ use Rattle.update.specs.Rule.{applyRow, beginning, rowRule}
 
 -- of a key of bytes k: other bytes x, the status, and what stands behind the stop type
 of : ℕ → ℕ → ℕ → List ℕ → List ℕ
-of k x status rest = replicate key-wide k ++ replicate 14 x ++ status ∷ replicate 7 x ++ rest
+of k x status rest = replicate key-wide k ++ replicate (status-at - key-wide) x ++ status ∷ replicate (show-cancelled-at - arrival-at) x ++ rest
 
 abbrev none : List ℕ
 none = kept ∷ kept ∷ kept ∷ []

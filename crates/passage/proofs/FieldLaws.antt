@@ -18,7 +18,7 @@ use Rattle.passage.specs.Ranges.{paddedText, keyInRange, timesInRange, c
 use Rattle.passage.specs.inner.Roles.{textsPadded}
 use Rattle.lists.proofs.LogicLaws.{all-pass, tests-equal}
 
--- of n bytes from `at` on, the first 41 are the key and the first 66 the body, whatever stands behind them
+-- of n bytes from `at` on, the first key-wide are the key and the first body-wide the body, whatever stands behind them
 module _ (at n : ℕ) (s : List ℕ) where
   pub key-at : key-wide ≤ n → keyInRange (part at n s) ≡
       (paddedText (part (at + owner-at) text-wide s)

@@ -16,7 +16,7 @@ use Rattle.lists.specs.Part.{part}
 use Rattle.lists.proofs.LogicLaws.{and-false, and-true, and-assoc, bool-most}
 use Rattle.lists.proofs.PartLaws.{part-part}
 use Rattle.clock.proofs.BelowLaws.{below-at}
-use Rattle.passage.specs.Layout.{text-wide, date-wide, journey-wide, order-wide, owner-at, line-at, stop-at, destination-at, stamp-at, body-wide}
+use Rattle.passage.specs.Layout.{text-wide, date-wide, journey-wide, order-wide, owner-at, line-at, stop-at, destination-at, body-wide}
 use Rattle.passage.specs.Ranges.{allZero, textThenZeros, paddedText}
 use Rattle.passage.specs.inner.Roles.{roleIn, textRoles, roles-wide, roles, breaksText, textsPadded}
 
@@ -139,8 +139,8 @@ module _ (s : List ℕ) (at : ℕ) (fits : at + body-wide ≤ length s) where
         part-part destination-at text-wide at body-wide s (omega arith),
         text-then s (at + owner-at) date-wide (at + line-at) _ (omega arith) (omega arith),
         text-then s (at + line-at) (journey-wide + 1) (at + stop-at) _ (omega arith) (omega arith),
-        text-then s (at + stop-at) order-wide (at + destination-at) (textRoles 8 ++ replicate (roles-wide - stamp-at) 0) (omega arith) (omega arith),
-        text-last s (at + destination-at) (roles-wide - stamp-at) (omega arith),
+        text-then s (at + stop-at) order-wide (at + destination-at) (textRoles 8 ++ replicate (roles-wide - (destination-at + text-wide)) 0) (omega arith) (omega arith),
+        text-last s (at + destination-at) (roles-wide - (destination-at + text-wide)) (omega arith),
         and-assoc (text owner-at && text line-at),
         and-assoc (text owner-at),
       )

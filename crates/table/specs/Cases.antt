@@ -2,17 +2,18 @@
 use mathlib.Core.Path.{_≡_, refl}
 use mathlib.Core.Bool.{true, false}
 use mathlib.Core.List.{List, [], _∷_}
-use Prim.Native.Nat.{ℕ}
+use Prim.Native.Nat.{ℕ, _+_, _*_}
 use lib.ListN.{replicate}
 use Rattle.lists.specs.Part.{part, onto}
 use Rattle.lists.specs.Rows.{rowsOf, flat, store}
+use Rattle.passage.specs.Layout.{row-wide}
 use Rattle.keys.specs.Keys.{cmp}
 use Rattle.keys.specs.Sorted.{risesFrom, sortedRows, lookupFrom, lookup, get, put, remove}
 use Rattle.keys.specs.declared.Found.the-variants.{At, Missing}
 use Rattle.table.specs.Rules.{tableRoom, allInRange, tableSound}
 
 -- three bytes are no room for a row; two rows and some bytes are room for two
-room-case : (tableRoom (1 ∷ 2 ∷ 3 ∷ []) ≡ 0) × (tableRoom (replicate 150 0) ≡ 2)
+room-case : (tableRoom (1 ∷ 2 ∷ 3 ∷ []) ≡ 0) × (tableRoom (replicate (2 * row-wide + 16) 0) ≡ 2)
 unfolding tableRoom
 room-case = (refl, refl)
 

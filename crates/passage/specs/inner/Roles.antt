@@ -6,7 +6,7 @@ use lib.Dec.{eqb, leb, ltb}
 use lib.ListN.{replicate}
 use mir.Val.{boolByte}
 use Rattle.lists.specs.Logic.{within}
-use Rattle.passage.specs.Layout.{text-wide, date-wide, journey-wide, order-wide, stamp-at, ownerOf, lineOf, stopOf, destinationOf}
+use Rattle.passage.specs.Layout.{text-wide, date-wide, journey-wide, order-wide, destination-at, ownerOf, lineOf, stopOf, destinationOf}
 use Rattle.passage.specs.Ranges.{paddedText, commonInRange}
 
 -- the roles of a text's n + 2 bytes: 1 the first, 2 one between, 3 the last
@@ -27,7 +27,7 @@ roles =
     ++ textRoles 8
     ++ replicate order-wide 0
     ++ textRoles 8
-    ++ replicate (roles-wide - stamp-at) 0
+    ++ replicate (roles-wide - (destination-at + text-wide)) 0
 
 -- the role of byte i in a text from `from` on
 unfoldable pub roleIn : ℕ → ℕ → ℕ
