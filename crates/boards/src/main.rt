@@ -40,17 +40,15 @@ fn report(bad: u32) {
     }
 }
 
-// A byte more than a script may have; all pairs of a register; all rows of a table.
+// A byte more than a script may have; all rows of a table.
 const PAPER: usize = 65537;
-
-const REGISTER: usize = 64 * register::PAIR_WIDE;
 
 const TABLE: usize = table::MOST_ROWS * passage::ROW_WIDE;
 
 // The buffers come as arrays of known size: so no proof has to count one through.
 fn run(
     paper: &mut [u8; PAPER],
-    register: &mut [u8; REGISTER],
+    register: &mut [u8; register::MOST_BYTES],
     book: &mut [u8; book::MOST_BYTES],
     table: &mut [u8; TABLE],
 ) {
@@ -69,7 +67,7 @@ fn run(
 
 fn main() {
     let mut paper = [0u8; PAPER];
-    let mut register = [0u8; REGISTER];
+    let mut register = [0u8; register::MOST_BYTES];
     let mut book = [0u8; book::MOST_BYTES];
     let mut table = [0u8; TABLE];
     run(&mut paper, &mut register, &mut book, &mut table);

@@ -17,7 +17,7 @@ pub const PAIR_WIDE: usize = 1 + TEXT_WIDE;
 // A register has at most so many.
 const MOST_PAIRS: usize = 64;
 
-const MOST_BYTES: usize = MOST_PAIRS * PAIR_WIDE;
+pub const MOST_BYTES: usize = MOST_PAIRS * PAIR_WIDE;
 
 // Whether the pair from `pair` on is of this sender and of the owner from `at` on in a row.
 fn pair_is(register: &[u8], pair: usize, sender: u8, row: &[u8], at: usize) -> bool
