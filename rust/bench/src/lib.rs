@@ -1,0 +1,3 @@
+//! What the benchmark has beside its cases: the proved library's ways of working, in Rust.
+
+pub mod ways;

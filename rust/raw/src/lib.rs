@@ -1,0 +1,175 @@
+//! A safe wrapper over the C face of the proved library.
+//!
+//! An answer of a call on the day has six numbers: document 01's number (0 is acceptance), the value
+//! and second value that belong to it, which dossier (open only), and the counts to pass on. A board's
+//! has the first three.
+
+extern "C" {
+    fn desk_open(
+        planning: *const u8,
+        planning_len: usize,
+        calendar: *const u8,
+        calendar_len: usize,
+        book: *mut u8,
+        book_len: usize,
+        table: *mut u8,
+        table_len: usize,
+        used: u64,
+        rows: u64,
+        answer: *mut u64,
+    ) -> u32;
+    fn desk_message(
+        dossier: *const u8,
+        dossier_len: usize,
+        sender: u8,
+        register: *const u8,
+        register_len: usize,
+        book: *mut u8,
+        book_len: usize,
+        table: *mut u8,
+        table_len: usize,
+        used: u64,
+        rows: u64,
+        answer: *mut u64,
+    ) -> u32;
+    fn desk_withdraw(
+        number: u32,
+        sender: u8,
+        book: *mut u8,
+        book_len: usize,
+        table: *mut u8,
+        table_len: usize,
+        used: u64,
+        rows: u64,
+        answer: *mut u64,
+    ) -> u32;
+    fn desk_board(
+        owner: *const u8,
+        owner_len: usize,
+        stop: *const u8,
+        stop_len: usize,
+        date: u32,
+        second: u32,
+        horizon: u32,
+        table: *const u8,
+        table_len: usize,
+        rows: u64,
+        places: *mut u32,
+        places_len: usize,
+        answer: *mut u64,
+    ) -> u32;
+}
+
+/// Opens a day: joins pass times and validities into a new book and table.
+pub fn open(planning: &[u8], calendar: &[u8], book: &mut [u8], table: &mut [u8], used: u64, rows: u64) -> [u64; 6] {
+    let mut answer = [0; 6];
+    // SAFETY: every pointer comes with its own slice's length, `answer` has six numbers, no two
+    // mutable slices overlap, and the library keeps none of them.
+    let number = unsafe {
+        desk_open(
+            planning.as_ptr(),
+            planning.len(),
+            calendar.as_ptr(),
+            calendar.len(),
+            book.as_mut_ptr(),
+            book.len(),
+            table.as_mut_ptr(),
+            table.len(),
+            used,
+            rows,
+            answer.as_mut_ptr(),
+        )
+    };
+    checked(number, answer)
+}
+
+/// Takes a message's rows into book and table.
+pub fn message(
+    dossier: &[u8],
+    sender: u8,
+    register: &[u8],
+    book: &mut [u8],
+    table: &mut [u8],
+    used: u64,
+    rows: u64,
+) -> [u64; 6] {
+    let mut answer = [0; 6];
+    // SAFETY: as for `open`.
+    let number = unsafe {
+        desk_message(
+            dossier.as_ptr(),
+            dossier.len(),
+            sender,
+            register.as_ptr(),
+            register.len(),
+            book.as_mut_ptr(),
+            book.len(),
+            table.as_mut_ptr(),
+            table.len(),
+            used,
+            rows,
+            answer.as_mut_ptr(),
+        )
+    };
+    checked(number, answer)
+}
+
+/// Withdraws a message and works its passages out again.
+pub fn withdraw(number: u32, sender: u8, book: &mut [u8], table: &mut [u8], used: u64, rows: u64) -> [u64; 6] {
+    let mut answer = [0; 6];
+    // SAFETY: as for `open`.
+    let number = unsafe {
+        desk_withdraw(
+            number,
+            sender,
+            book.as_mut_ptr(),
+            book.len(),
+            table.as_mut_ptr(),
+            table.len(),
+            used,
+            rows,
+            answer.as_mut_ptr(),
+        )
+    };
+    checked(number, answer)
+}
+
+/// Writes the places of the rows that a board shows, in the board's order.
+#[allow(clippy::too_many_arguments)]
+pub fn board(
+    owner: &[u8],
+    stop: &[u8],
+    date: u32,
+    second: u32,
+    horizon: u32,
+    table: &[u8],
+    rows: u64,
+    places: &mut [u32],
+) -> [u64; 3] {
+    let mut answer = [0; 3];
+    // SAFETY: as for `open`, but that `answer` has three numbers; `places` is counted in 32-bit numbers, and the table is only read.
+    let number = unsafe {
+        desk_board(
+            owner.as_ptr(),
+            owner.len(),
+            stop.as_ptr(),
+            stop.len(),
+            date,
+            second,
+            horizon,
+            table.as_ptr(),
+            table.len(),
+            rows,
+            places.as_mut_ptr(),
+            places.len(),
+            answer.as_mut_ptr(),
+        )
+    };
+    checked(number, answer)
+}
+
+/// The number comes back twice; a face that says two things is broken, so it is not passed on.
+fn checked<const N: usize>(number: u32, answer: [u64; N]) -> [u64; N] {
+    assert_eq!(u64::from(number), answer[0], "the returned number and the answer's differ");
+    answer
+}

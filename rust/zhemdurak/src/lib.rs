@@ -1,0 +1,2 @@
+//! The typed, safe crate.
+#![forbid(unsafe_code)]
