@@ -1,4 +1,4 @@
-//! Times the proved library against the second implementation, in one run on the same input.
+//! Times the proved library against the rival, in one run on the same input.
 //!
 //!     bench [SAMPLES]
 //!
@@ -11,11 +11,11 @@ mod reasons;
 use std::hint::black_box;
 use std::time::Instant;
 
-use checks::sides::{Face, Second, Side};
-use checks::worlds::call::{perform, Call, Job};
+use checks::call::{perform, Call, Job};
+use checks::sides::{Proved, Rival, Side};
 use checks::worlds::columns::{Form, MESSAGE, PLANNING};
 use checks::worlds::fields;
-use checks::worlds::passage::{padded, Key, Passage, Text, MOST_BOOK_BYTES, MOST_DOSSIER_BYTES, MOST_ROWS, ROW_BYTES};
+use checks::worlds::passage::{padded, Key, Passage, Text, BOOK, DOSSIER, ROW, ROWS};
 use checks::worlds::random::Random;
 use checks::worlds::state::State;
 
@@ -34,25 +34,23 @@ const LONG: usize = 8_193;
 fn main() {
     let samples = std::env::args().nth(1).and_then(|word| word.parse().ok()).unwrap_or(1_001);
     println!("Microseconds: median (10th to 90th percentile) of {samples} samples a side.\n");
-    println!("| rows | call | answer | face | second | face / second |");
+    println!("| rows | call | answer | proved | rival | proved / rival |");
     println!("|---|---|---|---|---|---|");
-    for rows in [256, MOST_ROWS] {
+    for rows in [256, ROWS] {
         for case in cases(rows) {
             measure(rows, &case, samples);
         }
     }
     println!("\nWhere the proved library's time goes, as far as it shows from outside.\n");
-    println!("| rows | call | answer | face | second | face / second |");
+    println!("| rows | call | answer | proved | rival | proved / rival |");
     println!("|---|---|---|---|---|---|");
-    for rows in [256, MOST_ROWS] {
+    for rows in [256, ROWS] {
         for case in parts(rows) {
             measure(rows, &case, samples);
         }
     }
-    println!(
-        "\nWhy: parts of calls in the proved library's way of working, by the second implementation's compiler.\n"
-    );
-    reasons::print(MOST_ROWS, samples);
+    println!("\nWhy: parts of calls in the proved library's way of working, by the rival's compiler.\n");
+    reasons::print(ROWS, samples);
 }
 
 struct Case {
@@ -69,33 +67,33 @@ fn case(name: impl Into<String>, call: Call, lent: &State) -> Case {
 fn measure(rows: usize, case: &Case, samples: usize) {
     let answer = agreed_answer(case);
     let mut room = Room::new(&case.job);
-    let (mut face, mut second, mut ratio) = (Vec::new(), Vec::new(), Vec::new());
+    let (mut proved, mut rival, mut ratio) = (Vec::new(), Vec::new(), Vec::new());
     for round in 0..samples + samples / 10 {
-        let one = room.sample::<Face>(&case.job);
-        let other = room.sample::<Second>(&case.job);
+        let one = room.sample::<Proved>(&case.job);
+        let other = room.sample::<Rival>(&case.job);
         // The first tenth only warms up.
         if round >= samples / 10 {
-            face.push(one);
-            second.push(other);
+            proved.push(one);
+            rival.push(other);
             ratio.push(one / other);
         }
     }
     println!(
         "| {rows} | {} | {answer} | {} | {} | {} |",
         case.name,
-        spread(&mut face, 1),
-        spread(&mut second, 1),
+        spread(&mut proved, 1),
+        spread(&mut rival, 1),
         spread(&mut ratio, 2)
     );
 }
 
 /// What is timed must be the same work: both sides' outcomes are compared first.
 fn agreed_answer(case: &Case) -> String {
-    let (face, second) = (perform::<Face>(&case.job), perform::<Second>(&case.job));
-    assert!(face == second, "{}: the sides differ", case.name);
+    let (proved, rival) = (perform::<Proved>(&case.job), perform::<Rival>(&case.job));
+    assert!(proved == rival, "{}: the sides differ", case.name);
     match case.job.call {
-        Call::Board { .. } => format!("{}, {} shown", face.answer[0], face.answer[2]),
-        _ => face.answer[0].to_string(),
+        Call::Board { .. } => format!("{}, {} shown", proved.answer[0], proved.answer[2]),
+        _ => proved.answer[0].to_string(),
     }
 }
 
@@ -205,7 +203,7 @@ fn parts(rows: usize) -> Vec<Case> {
 
 /// Nothing opened yet, all sizes at their most.
 fn blank() -> State {
-    State::blank(MOST_BOOK_BYTES, MOST_ROWS * ROW_BYTES, &mut Random::new(1, 0))
+    State::blank(BOOK, ROWS * ROW, &mut Random::new(1, 0))
 }
 
 fn open(rows: usize, columns: Columns) -> Call {
@@ -232,7 +230,7 @@ fn withdraw(number: u32) -> Call {
 
 fn board(stop: &[u8], horizon: u32) -> Call {
     let (owner, stop) = (OWNER.to_vec(), stop.to_vec());
-    Call::Board { owner, stop, date: FIRST_DATE + 1, second: 28_800, horizon, places: vec![7; MOST_ROWS] }
+    Call::Board { owner, stop, date: FIRST_DATE + 1, second: 28_800, horizon, places: vec![7; ROWS] }
 }
 
 /// The accepted state after a call; both sides were compared elsewhere, so either may make it.
@@ -242,7 +240,7 @@ trait After {
 
 impl After for State {
     fn after(&self, call: Call) -> State {
-        let outcome = perform::<Second>(&Job { call, lent: self.clone(), keep: true, shift: 0 });
+        let outcome = perform::<Rival>(&Job { call, lent: self.clone(), keep: true, shift: 0 });
         let [number, _, _, _, used, rows] = outcome.answer;
         assert_eq!(number, 0, "the benchmark's own state was refused: {:?}", outcome.answer);
         State { book: outcome.book, table: outcome.table, used, rows }
@@ -372,7 +370,7 @@ impl Dossier {
     fn add(&mut self, passage: &Passage) -> bool {
         let fields: Vec<Vec<u8>> = self.names.iter().map(|name| field(name, passage)).collect();
         let line = fields.join(&b'|');
-        let fits = self.bytes.len() + line.len() + 2 <= MOST_DOSSIER_BYTES;
+        let fits = self.bytes.len() + line.len() + 2 <= DOSSIER;
         if fits {
             self.bytes.extend_from_slice(&line);
             self.bytes.extend_from_slice(b"\r\n");

@@ -1,4 +1,4 @@
-//! Why the proved library takes longer: parts of calls as the second implementation does them, the same parts done in the proved library's
+//! Why the proved library takes longer: parts of calls as the rival does them, the same parts done in the proved library's
 //! way by the same compiler (`bench::ways`), and as the proved library does them.
 //!
 //! A side's part is the time of a call that has it, less that of a call that has all but it.
@@ -23,7 +23,7 @@ struct Reason {
 }
 
 pub fn print(rows: usize, samples: usize) {
-    println!("| part | second | the proved way in Rust | face | way / second | face / way |");
+    println!("| part | rival | the proved way in Rust | proved | way / rival | proved / way |");
     println!("|---|---|---|---|---|---|");
     for mut reason in reasons(rows) {
         measure(&mut reason, samples);
@@ -35,20 +35,20 @@ fn measure(reason: &mut Reason, samples: usize) {
     let mut without = Room::new(reason.without.as_ref().unwrap_or(&reason.with));
     let mut times = [const { Vec::new() }; 5];
     for round in 0..samples + samples / 10 {
-        let (mut face, mut second) = (with.sample::<Face>(&reason.with), with.sample::<Second>(&reason.with));
+        let (mut proved, mut rival) = (with.sample::<Proved>(&reason.with), with.sample::<Rival>(&reason.with));
         if let Some(job) = &reason.without {
-            face -= without.sample::<Face>(job);
-            second -= without.sample::<Second>(job);
+            proved -= without.sample::<Proved>(job);
+            rival -= without.sample::<Rival>(job);
         }
         let way = with.sample_way(&reason.with, &mut reason.way);
         if round >= samples / 10 {
-            for (times, time) in times.iter_mut().zip([second, way, face, way / second, face / way]) {
+            for (times, time) in times.iter_mut().zip([rival, way, proved, way / rival, proved / way]) {
                 times.push(time);
             }
         }
     }
-    let [second, way, face, slower, compiled] = &mut times;
-    let columns = [spread(second, 1), spread(way, 1), spread(face, 1), spread(slower, 2), spread(compiled, 2)];
+    let [rival, way, proved, slower, compiled] = &mut times;
+    let columns = [spread(rival, 1), spread(way, 1), spread(proved, 1), spread(slower, 2), spread(compiled, 2)];
     println!("| {} | {} |", reason.name, columns.join(" | "));
 }
 
@@ -177,7 +177,7 @@ fn new_passages(dossier: &Dossier) -> Reason {
 }
 
 fn board_of(day: &Day) -> Reason {
-    let (with, mut places, rows) = (board(BUSY_STOP, 86_400), vec![7; MOST_ROWS], day.state.rows as usize);
+    let (with, mut places, rows) = (board(BUSY_STOP, 86_400), vec![7; ROWS], day.state.rows as usize);
     let mut without = with.clone();
     if let Call::Board { owner, .. } = &mut without {
         *owner = b"nobody".to_vec();

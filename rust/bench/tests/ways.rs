@@ -1,22 +1,22 @@
-//! The proved library's ways of working in Rust give what the second implementation gives, part by part, on generated calls: what the
+//! The proved library's ways of working in Rust give what the rival gives, part by part, on generated calls: what the
 //! benchmark sets side by side is the same work.
 
 use bench::ways::{applying, boards, opening, reading, soundness, syntax, withdrawing};
 use bench::ways::{BODY, BODY_AT, ENTRY, PLAN, ROW};
-use checks::sides::{Second, Side};
-use checks::worlds::call::{perform, Call, Job, Outcome};
+use checks::call::{perform, Call, Job, Outcome};
+use checks::sides::{Rival, Side};
 use checks::worlds::passage::padded;
 use checks::worlds::random::Random;
 use checks::worlds::run::{Run, CALLS_PER_RUN};
 
 #[test]
-fn parts_agree_with_the_second_implementation() {
+fn parts_agree_with_the_rival() {
     let mut met = [0; 8];
     for number in 0..400 {
         let mut run = Run::new(5, number);
         for _ in 0..CALLS_PER_RUN {
             let job = run.next_job();
-            let outcome = perform::<Second>(&job);
+            let outcome = perform::<Rival>(&job);
             met[check(&job, &outcome)] += 1;
             run.learn(job, outcome);
         }
@@ -132,7 +132,7 @@ fn join(bodies: &[&[u8]]) {
 
 /// Bits of form put together at random: what generated dossiers seldom have.
 #[test]
-fn syntax_agrees_with_the_second_implementation() {
+fn syntax_agrees_with_the_rival() {
     let bits: [&[u8]; 12] =
         [b"\\", b"G", b"T", b"\\L", b"\\0", b"|", b"\r\n", b"\r", b"plain text", b"\r\n\\T", b"\\p", b"\xff"];
     let mut random = Random::new(6, 0);
@@ -142,7 +142,7 @@ fn syntax_agrees_with_the_second_implementation() {
         for _ in 0..random.below(7) {
             dossier.extend_from_slice(bits[random.below(bits.len())]);
         }
-        let answer = Second::message(&dossier, 1, &[], &mut [], &mut [], 0, 0);
+        let answer = Rival::message(&dossier, 1, &[], &mut [], &mut [], 0, 0);
         assert_eq!(
             syntax::check(&dossier).err(),
             (answer[0] == 3).then_some(answer[1] as usize),

@@ -1,13 +1,106 @@
-//! The two implementations behind one name, so that each can stand in for the other.
+//! The implementations behind one name, so that each can stand in for the others.
 
-use raw as face;
-use rival as second;
+use zhemdurak::{Counts, Date, Day, Dossier, MessageNumber, Question, Refusal, Register, Sender};
 
-/// The four calls of document 01, as both sides have them.
-pub trait Side {
-    const NAME: &'static str;
+use crate::call::{perform, Job, Outcome};
 
-    fn open(planning: &[u8], calendar: &[u8], book: &mut [u8], table: &mut [u8], used: u64, rows: u64) -> [u64; 6];
+/// The calls as every side has them: the one list of their parameters here. `$then` makes something of it.
+macro_rules! calls {
+    ($then:ident! { $($head:tt)* }) => {
+        $then! {
+            $($head)*
+            fn open(planning: &[u8], calendar: &[u8], book: &mut [u8], table: &mut [u8], used: u64, rows: u64)
+                -> [u64; 6];
+            fn message(dossier: &[u8], sender: u8, register: &[u8], book: &mut [u8], table: &mut [u8], used: u64, rows: u64)
+                -> [u64; 6];
+            fn withdraw(number: u32, sender: u8, book: &mut [u8], table: &mut [u8], used: u64, rows: u64) -> [u64; 6];
+            fn board(owner: &[u8], stop: &[u8], date: u32, second: u32, horizon: u32, table: &[u8], rows: u64,
+                places: &mut [u32]) -> [u64; 3];
+        }
+    };
+}
+
+macro_rules! declare {
+    ($(fn $call:ident($($part:ident: $kind:ty),*) -> $answer:ty;)*) => {
+        /// An implementation of the calls, with the answers of the C face.
+        pub trait Side {
+            const NAME: &'static str;
+            $(#[allow(clippy::too_many_arguments)]
+            fn $call($($part: $kind),*) -> $answer;)*
+        }
+    };
+}
+
+/// A side that is a crate with functions of these names.
+macro_rules! forward {
+    ($side:ident $name:literal = $module:ident $(fn $call:ident($($part:ident: $kind:ty),*) -> $answer:ty;)*) => {
+        impl Side for $side {
+            const NAME: &'static str = $name;
+            $(fn $call($($part: $kind),*) -> $answer {
+                $module::$call($($part),*)
+            })*
+        }
+    };
+}
+
+/// The proved library, by its C calls.
+pub struct Proved;
+/// The proved library, through the typed crate.
+pub struct Typed;
+/// The second implementation.
+pub struct Rival;
+/// The scope once more, for no other use than to judge.
+pub struct Model;
+
+calls!(declare! {});
+calls!(forward! { Proved "proved" = raw });
+calls!(forward! { Rival "rival" = rival });
+calls!(forward! { Model "model" = model });
+
+/// A side among others: its name, and how it is given a job.
+#[derive(Clone, Copy)]
+pub struct Judge {
+    pub name: &'static str,
+    pub perform: fn(&Job) -> Outcome,
+    /// It judges one call in so many.
+    pub every: u64,
+}
+
+const fn judge<S: Side>(every: u64) -> Judge {
+    Judge { name: S::NAME, perform: perform::<S>, every }
+}
+
+/// Every side. The first is the one that a run goes on from; the others are compared with it.
+pub const JUDGES: &[Judge] = &[judge::<Proved>(1), judge::<Rival>(1), judge::<Model>(1), judge::<Typed>(4)];
+
+/// A test for every side: the generic function of that name as a test in a module of the side's name.
+#[macro_export]
+macro_rules! on_every_side {
+    ($($test:ident)*) => {
+        $crate::on_every_side! { proved = Proved: $($test)* }
+        $crate::on_every_side! { typed = Typed: $($test)* }
+        $crate::on_every_side! { rival = Rival: $($test)* }
+        $crate::on_every_side! { model = Model: $($test)* }
+    };
+    ($module:ident = $side:ident: $($test:ident)*) => {
+        mod $module {
+            $(#[test]
+            fn $test() {
+                super::$test::<$crate::sides::$side>();
+            })*
+        }
+    };
+}
+
+/// What the typed crate makes of an answer, turned back into the answer's numbers.
+impl Side for Typed {
+    const NAME: &'static str = "typed";
+
+    fn open(planning: &[u8], calendar: &[u8], book: &mut [u8], table: &mut [u8], used: u64, rows: u64) -> [u64; 6] {
+        let mut day = Day::resumed(book, table, Counts { used, rows });
+        let done = day.open(planning, calendar);
+        on_the_day(done.map(|()| 0), &day)
+    }
 
     fn message(
         dossier: &[u8],
@@ -17,11 +110,18 @@ pub trait Side {
         table: &mut [u8],
         used: u64,
         rows: u64,
-    ) -> [u64; 6];
+    ) -> [u64; 6] {
+        let mut day = Day::resumed(book, table, Counts { used, rows });
+        let done = day.message(dossier, Sender(sender), &Register::from_bytes(register));
+        on_the_day(done.map(|number| number.map_or(0, |number| number.0.into())), &day)
+    }
 
-    fn withdraw(number: u32, sender: u8, book: &mut [u8], table: &mut [u8], used: u64, rows: u64) -> [u64; 6];
+    fn withdraw(number: u32, sender: u8, book: &mut [u8], table: &mut [u8], used: u64, rows: u64) -> [u64; 6] {
+        let mut day = Day::resumed(book, table, Counts { used, rows });
+        let done = day.withdraw(MessageNumber(number), Sender(sender));
+        on_the_day(done.map(|()| 0), &day)
+    }
 
-    #[allow(clippy::too_many_arguments)]
     fn board(
         owner: &[u8],
         stop: &[u8],
@@ -31,62 +131,48 @@ pub trait Side {
         table: &[u8],
         rows: u64,
         places: &mut [u32],
-    ) -> [u64; 3];
-}
-
-/// Both sides have the same functions, so one text forwards to either.
-macro_rules! forward {
-    ($side:ident, $module:ident) => {
-        impl Side for $side {
-            const NAME: &'static str = stringify!($module);
-
-            fn open(
-                planning: &[u8],
-                calendar: &[u8],
-                book: &mut [u8],
-                table: &mut [u8],
-                used: u64,
-                rows: u64,
-            ) -> [u64; 6] {
-                $module::open(planning, calendar, book, table, used, rows)
+    ) -> [u64; 3] {
+        let mut own = table.to_vec();
+        let day = Day::resumed(&mut [][..], &mut own[..], Counts { used: 0, rows });
+        let question = Question { owner, stop, date: Date(date), second, horizon };
+        match day.board_in(&question, places) {
+            Ok(board) => {
+                read_through(board.rows());
+                [0, board.len() as u64, board.shown() as u64]
             }
-
-            fn message(
-                dossier: &[u8],
-                sender: u8,
-                register: &[u8],
-                book: &mut [u8],
-                table: &mut [u8],
-                used: u64,
-                rows: u64,
-            ) -> [u64; 6] {
-                $module::message(dossier, sender, register, book, table, used, rows)
-            }
-
-            fn withdraw(number: u32, sender: u8, book: &mut [u8], table: &mut [u8], used: u64, rows: u64) -> [u64; 6] {
-                $module::withdraw(number, sender, book, table, used, rows)
-            }
-
-            fn board(
-                owner: &[u8],
-                stop: &[u8],
-                date: u32,
-                second: u32,
-                horizon: u32,
-                table: &[u8],
-                rows: u64,
-                places: &mut [u32],
-            ) -> [u64; 3] {
-                $module::board(owner, stop, date, second, horizon, table, rows, places)
+            Err(refusal) => {
+                let [value, second] = refusal.values();
+                [refusal.number().into(), value, second]
             }
         }
-    };
+    }
 }
 
-/// The proved library, through its C face.
-pub struct Face;
-/// The second implementation.
-pub struct Second;
+fn on_the_day(done: Result<u64, Refusal>, day: &Day<&mut [u8]>) -> [u64; 6] {
+    let Counts { used, rows } = day.counts();
+    match done {
+        Ok(value) => {
+            read_through(day.table().expect("an accepted call leaves a sound table").iter());
+            [0, value, 0, 0, used, rows]
+        }
+        Err(refusal) => {
+            let dossier = match refusal.dossier() {
+                Some(Dossier::Planning) => 1,
+                Some(Dossier::Calendar) => 2,
+                Some(Dossier::Message) | None => 0,
+            };
+            let [value, second] = refusal.values();
+            [refusal.number().into(), value, second, dossier, used, rows]
+        }
+    }
+}
 
-forward!(Face, face);
-forward!(Second, second);
+/// Every field of every row is read, so that a reader that stumbles is seen.
+fn read_through<'day>(rows: impl Iterator<Item = zhemdurak::Row<'day>>) {
+    for row in rows {
+        let texts = row.owner().len() * row.line().len() * row.stop().len() * row.destination().len();
+        let codes = (row.status(), row.stop_type(), row.flexible());
+        assert!(texts > 0 && row.date() < Date(21_000_101), "{codes:?}");
+        assert_eq!(row.departs().is_none(), row.departure().is_none());
+    }
+}

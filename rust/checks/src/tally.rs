@@ -1,59 +1,85 @@
 //! How often each call got each number.
 
+use std::collections::BTreeMap;
 use std::fmt;
 
-use crate::worlds::call::Call;
+use layout::{numbers_of, refusal, CALLS};
 
-/// The numbers that document 01 lists for open, message, withdraw and board.
-const LISTED: [&[usize]; 4] =
-    [&[0, 2, 3, 4, 5, 7, 9, 8], &[0, 1, 2, 3, 4, 5, 6, 7, 8], &[0, 1, 10, 12, 11, 8], &[0, 1, 13]];
+use crate::call::{Call, Job};
 
-/// Each listed number is to be met at least once in so many calls.
+/// Each number that the layout lists for a call is to be met at least once in so many calls.
 const CALLS_PER_MEETING: u64 = 50_000;
 
 #[derive(Default)]
 pub struct Tally {
-    numbers: [[u64; 14]; 4],
-    /// Open's refusals 2 to 5 by dossier.
-    dossiers: [[u64; 2]; 6],
+    numbers: BTreeMap<(layout::Call, u64), u64>,
+    /// Refusals that tell their dossier, by number and dossier.
+    dossiers: BTreeMap<(u64, u64), u64>,
     /// Accepted messages without rows.
     rowless: u64,
-    /// Boards that showed something, and those cut by the places lent.
+    /// Boards that showed something, those that showed two or more, and those cut by the places lent.
     shown: u64,
+    several: u64,
     cut: u64,
     total: u64,
 }
 
 impl Tally {
-    pub fn count(&mut self, call: &Call, answer: &[u64; 6]) {
-        let number = answer[0] as usize;
-        self.numbers[call.index()][number] += 1;
+    pub fn count(&mut self, job: &Job, answer: &[u64; 6]) {
+        let [number, value, second, dossier, ..] = *answer;
+        *self.numbers.entry((job.call.kind(), number)).or_default() += 1;
         self.total += 1;
-        match call {
-            Call::Open { .. } if (2..=5).contains(&number) => {
-                self.dossiers[number][answer[3] as usize - 1] += 1;
-            }
-            Call::Message { .. } => self.rowless += u64::from(number == 0 && answer[1] == 0),
+        if dossier != 0 {
+            *self.dossiers.entry((number, dossier)).or_default() += 1;
+        }
+        match job.call {
+            Call::Message { .. } => self.rowless += u64::from(number == 0 && value == 0),
             Call::Board { .. } if number == 0 => {
-                self.shown += u64::from(answer[2] > 0);
-                self.cut += u64::from(answer[1] < answer[2]);
+                self.shown += u64::from(second > 0);
+                self.several += u64::from(second > 1);
+                self.cut += u64::from(value < second);
             }
             _ => {}
         }
     }
 
-    /// The listed numbers that were met too seldom, as call and number. A short tally misses none.
-    pub fn missing(&self) -> Vec<(&'static str, usize)> {
+    /// Adds what another has counted.
+    pub fn add(&mut self, other: &Tally) {
+        for (&key, count) in &other.numbers {
+            *self.numbers.entry(key).or_default() += count;
+        }
+        for (&key, count) in &other.dossiers {
+            *self.dossiers.entry(key).or_default() += count;
+        }
+        self.rowless += other.rowless;
+        self.shown += other.shown;
+        self.several += other.several;
+        self.cut += other.cut;
+        self.total += other.total;
+    }
+
+    /// What is wrong with the numbers met: those listed that were met too seldom, and those that are not listed. A short
+    /// tally misses none.
+    pub fn faults(&self) -> Vec<String> {
         let least = self.total / CALLS_PER_MEETING;
-        let mut missing = Vec::new();
-        for (call, listed) in LISTED.iter().enumerate() {
-            for &number in *listed {
-                if self.numbers[call][number] < least {
-                    missing.push((Call::NAMES[call], number));
+        let mut faults = Vec::new();
+        for (call, name) in CALLS {
+            for number in numbers_of(call) {
+                if self.met(call, number.into()) < least {
+                    faults.push(format!("met too seldom: number {number} of {name}"));
                 }
             }
         }
-        missing
+        for &(call, number) in self.numbers.keys() {
+            if !numbers_of(call).iter().any(|&listed| u64::from(listed) == number) {
+                faults.push(format!("not listed: number {number} of {}", call.name()));
+            }
+        }
+        faults
+    }
+
+    fn met(&self, call: layout::Call, number: u64) -> u64 {
+        self.numbers.get(&(call, number)).copied().unwrap_or(0)
     }
 }
 
@@ -61,20 +87,55 @@ impl fmt::Display for Tally {
     fn fmt(&self, f: &mut fmt::Formatter) -> fmt::Result {
         writeln!(f, "| call | calls | numbers met |")?;
         writeln!(f, "|---|---|---|")?;
-        for (call, name) in Call::NAMES.iter().enumerate() {
-            let met: Vec<String> = (0..14)
-                .filter(|&number| self.numbers[call][number] > 0)
-                .map(|number| format!("{number}: {}", self.numbers[call][number]))
-                .collect();
-            let calls: u64 = self.numbers[call].iter().sum();
+        for (call, name) in CALLS {
+            let of_call = self.numbers.iter().filter(|((of, _), _)| *of == call);
+            let met: Vec<String> = of_call.clone().map(|((_, number), count)| format!("{number}: {count}")).collect();
+            let calls: u64 = of_call.map(|(_, count)| count).sum();
             writeln!(f, "| {name} | {calls} | {} |", met.join(", "))?;
         }
-        for number in 2..=5 {
-            let [planning, calendar] = self.dossiers[number];
-            writeln!(f, "open, number {number}: planning {planning}, calendar {calendar}")?;
+        for (&(number, dossier), count) in &self.dossiers {
+            let name = refusal(number as u32).map_or("?", |form| form.name);
+            writeln!(f, "open, number {number} ({name}), dossier {dossier}: {count}")?;
         }
         writeln!(f, "accepted messages without rows: {}", self.rowless)?;
-        writeln!(f, "boards that show something: {}, cut by their places: {}", self.shown, self.cut)?;
+        writeln!(
+            f,
+            "boards that show something: {}, two or more: {}, cut by their places: {}",
+            self.shown, self.several, self.cut
+        )?;
         write!(f, "total: {}", self.total)
+    }
+}
+
+#[cfg(test)]
+mod tests {
+    use super::*;
+    use crate::call::perform;
+    use crate::sides::Rival;
+    use crate::worlds::run::{Run, CALLS_PER_RUN};
+
+    /// The generator by itself: every number that the layout lists is met, by every call that has it.
+    #[test]
+    fn every_number_is_met() {
+        let mut tally = Tally::default();
+        for number in 0..1_000 {
+            let mut run = Run::new(1, number);
+            for _ in 0..CALLS_PER_RUN {
+                let job = run.next_job();
+                let outcome = perform::<Rival>(&job);
+                assert_eq!(outcome.complaint(&job), None);
+                tally.count(&job, &outcome.answer);
+                run.learn(job, outcome);
+            }
+        }
+        assert_eq!(tally.faults(), [""; 0], "{tally}");
+    }
+
+    #[test]
+    fn a_number_that_nobody_knows_is_told_of() {
+        let mut tally = Tally::default();
+        let job = Run::new(1, 0).next_job();
+        tally.count(&job, &[99, 0, 0, 7, 0, 0]);
+        assert!(tally.faults()[0].starts_with("not listed: number 99 of "), "{tally}");
     }
 }

@@ -177,3 +177,5 @@ constants! {
 pub const STATUS_WORDS: [&str; 6] = ["PLANNED", "CANCEL", "UNKNOWN", "DRIVING", "ARRIVED", "PASSED"];
 /// The words of the stop types, by their bytes.
 pub const STOP_TYPE_WORDS: [&str; 3] = ["FIRST", "INTERMEDIATE", "LAST"];
+/// The words of what is said of flexible trips, by their bytes.
+pub const FLEXIBLE_WORDS: [&str; 4] = ["not said", "TRUE", "FALSE", "REALTIME"];

@@ -1,8 +1,13 @@
-//! A safe wrapper over the C face of the proved library.
+//! The C calls of `include/desk.h`, each a function over slices. The crate `zhemdurak` stands on these; whoever keeps
+//! book, table and counts by other means may use them by themselves.
 //!
-//! An answer of a call on the day has six numbers: document 01's number (0 is acceptance), the value
-//! and second value that belong to it, which dossier (open only), and the counts to pass on. A board's
-//! has the first three.
+//! An answer of a call on the day has six numbers, a board's the first three of them: [`layout::ANSWER_NUMBER`] and what
+//! follows it say which. The counts of an answer go to the next call. Any bytes and any numbers may be passed: a call
+//! refuses what it cannot take, and a refused call leaves every byte as it was.
+#![warn(missing_docs)]
+#![deny(unsafe_op_in_unsafe_fn)]
+
+use layout::{ANSWER, ANSWER_NUMBER, BOARD_ANSWER};
 
 extern "C" {
     fn desk_open(
@@ -60,11 +65,18 @@ extern "C" {
     ) -> u32;
 }
 
-/// Opens a day: joins pass times and validities into a new book and table.
-pub fn open(planning: &[u8], calendar: &[u8], book: &mut [u8], table: &mut [u8], used: u64, rows: u64) -> [u64; 6] {
-    let mut answer = [0; 6];
-    // SAFETY: every pointer comes with its own slice's length, `answer` has six numbers, no two
-    // mutable slices overlap, and the library keeps none of them.
+/// Opens a day: joins pass times and validities into a new book and table, whose old contents are not read.
+pub fn open(
+    planning: &[u8],
+    calendar: &[u8],
+    book: &mut [u8],
+    table: &mut [u8],
+    used: u64,
+    rows: u64,
+) -> [u64; ANSWER] {
+    let mut answer = [0; ANSWER];
+    // SAFETY: every pointer comes with its own slice's length, `answer` has its six numbers, no two mutable slices
+    // overlap, and the library keeps none of them.
     let number = unsafe {
         desk_open(
             planning.as_ptr(),
@@ -92,8 +104,8 @@ pub fn message(
     table: &mut [u8],
     used: u64,
     rows: u64,
-) -> [u64; 6] {
-    let mut answer = [0; 6];
+) -> [u64; ANSWER] {
+    let mut answer = [0; ANSWER];
     // SAFETY: as for `open`.
     let number = unsafe {
         desk_message(
@@ -115,8 +127,8 @@ pub fn message(
 }
 
 /// Withdraws a message and works its passages out again.
-pub fn withdraw(number: u32, sender: u8, book: &mut [u8], table: &mut [u8], used: u64, rows: u64) -> [u64; 6] {
-    let mut answer = [0; 6];
+pub fn withdraw(number: u32, sender: u8, book: &mut [u8], table: &mut [u8], used: u64, rows: u64) -> [u64; ANSWER] {
+    let mut answer = [0; ANSWER];
     // SAFETY: as for `open`.
     let number = unsafe {
         desk_withdraw(
@@ -145,9 +157,10 @@ pub fn board(
     table: &[u8],
     rows: u64,
     places: &mut [u32],
-) -> [u64; 3] {
-    let mut answer = [0; 3];
-    // SAFETY: as for `open`, but that `answer` has three numbers; `places` is counted in 32-bit numbers, and the table is only read.
+) -> [u64; BOARD_ANSWER] {
+    let mut answer = [0; BOARD_ANSWER];
+    // SAFETY: as for `open`, but that `answer` has three numbers; `places` is counted in 32-bit numbers, and the table
+    // is only read.
     let number = unsafe {
         desk_board(
             owner.as_ptr(),
@@ -170,6 +183,6 @@ pub fn board(
 
 /// The number comes back twice; a face that says two things is broken, so it is not passed on.
 fn checked<const N: usize>(number: u32, answer: [u64; N]) -> [u64; N] {
-    assert_eq!(u64::from(number), answer[0], "the returned number and the answer's differ");
+    assert_eq!(u64::from(number), answer[ANSWER_NUMBER], "the returned number and the answer's differ");
     answer
 }

@@ -1,6 +1,6 @@
 //! Damage to a dossier's bytes, whatever they mean, and dossiers of a given size.
 
-use super::passage::MOST_DOSSIER_BYTES;
+use super::passage::DOSSIER;
 use super::random::Random;
 
 /// Bytes that mean something in a dossier, and their neighbours.
@@ -53,13 +53,13 @@ fn move_lines(bytes: &mut Vec<u8>, random: &mut Random) {
 /// Widens the group line until the dossier has a size at or over the most; or cuts it there, so
 /// that it ends early at the largest offset.
 pub fn grow(bytes: &mut Vec<u8>, random: &mut Random) {
-    let size = MOST_DOSSIER_BYTES - 1 + *random.pick(&[0, 1, 1, 2, 2, 2, 65]);
+    let size = DOSSIER - 1 + *random.pick(&[0, 1, 1, 2, 2, 2, 65]);
     if let Some(line_end) = bytes.iter().position(|&byte| byte == b'\r') {
         let missing = size.saturating_sub(bytes.len());
         let filler = *random.pick(b"x|~ ");
         bytes.splice(line_end..line_end, std::iter::repeat_n(filler, missing));
     }
     if random.one_in(8) {
-        bytes.truncate(MOST_DOSSIER_BYTES);
+        bytes.truncate(DOSSIER);
     }
 }

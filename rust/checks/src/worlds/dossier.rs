@@ -2,7 +2,7 @@
 
 use super::columns::{Form, Kind, Wanted, CALENDAR, MESSAGE, PLANNING};
 use super::fields::{self, Field, FLEXIBLES, NOTHING, STATUSES, STOP_TYPES};
-use super::passage::{Passage, Text, ABSENT};
+use super::passage::{Passage, Text, KEPT};
 use super::random::Random;
 
 pub struct Column {
@@ -173,7 +173,7 @@ fn field(column: &Column, line: &Line, random: &mut Random) -> Field {
 }
 
 fn flag(content: u8) -> Field {
-    if content == ABSENT {
+    if content == KEPT {
         NOTHING.to_vec()
     } else {
         vec![b'0' + content]

@@ -1,34 +1,15 @@
 //! Passages as plain values, and their bytes in book and table.
 
+pub use layout::{
+    ARRIVAL_AT, BODY_WIDE, BOOK, DATE_AT, DEPARTURE_AT, DESTINATION_AT, DOSSIER, FIELDS, FIRST, FLEXIBLE_AT,
+    FORTIFY_AT, JOURNEY_AT, KEPT, KEY_WIDE, KIND_AT, KIND_PLAN, KIND_STANDING, KIND_WITHDRAWN, LAST, LINE_AT,
+    MONITORED_AT, NO_TIME, NUMBER_AT, ORDER_AT, OWNER_AT, PAIR, PASSED, PLAN_BODY_AT, PLAN_WIDE, REGISTER, ROW, ROWS,
+    SENDER_AT, SHOW_CANCELLED_AT, STATUS_AT, STOP_AT, STOP_TYPE_AT, TEXT_WIDE, TIMESTAMP_AT, TIME_WIDE, UPDATE_BODY_AT,
+    UPDATE_WIDE,
+};
+
 /// A kept text, padded with zero bytes.
-pub type Text = [u8; 10];
-
-pub const KEY_BYTES: usize = 41;
-pub const BODY_BYTES: usize = 66;
-/// A table row: the body and "heard".
-pub const ROW_BYTES: usize = 67;
-/// A plan entry: the kind and the body.
-pub const PLAN_BYTES: usize = 67;
-/// An update entry: the kind, message number, sender and the body.
-pub const UPDATE_BYTES: usize = 72;
-/// Where an update entry's body begins.
-pub const UPDATE_HEAD: usize = 6;
-
-pub const PLAN_KIND: u8 = 1;
-pub const STANDING_KIND: u8 = 2;
-pub const WITHDRAWN_KIND: u8 = 3;
-
-pub const MOST_DOSSIER_BYTES: usize = 65_536;
-pub const MOST_BOOK_BYTES: usize = 294_912;
-pub const MOST_ROWS: usize = 2_048;
-pub const MOST_REGISTER_BYTES: usize = 704;
-
-/// How a missing time is kept.
-pub const NO_TIME: u32 = 16_777_215;
-/// How an absent optional is kept in updates.
-pub const ABSENT: u8 = 255;
-pub const FIRST: u8 = 0;
-pub const LAST: u8 = 2;
+pub type Text = [u8; TEXT_WIDE];
 
 #[derive(Clone, Debug, PartialEq, Eq)]
 pub struct Key {
@@ -56,47 +37,51 @@ pub struct Passage {
 }
 
 impl Key {
-    pub fn bytes(&self) -> [u8; KEY_BYTES] {
-        let mut bytes = [0; KEY_BYTES];
-        bytes[..10].copy_from_slice(&self.owner);
-        bytes[10..14].copy_from_slice(&self.date.to_be_bytes());
-        bytes[14..24].copy_from_slice(&self.line);
-        bytes[24..28].copy_from_slice(&self.journey.to_be_bytes());
-        bytes[28] = self.fortify;
-        bytes[29..39].copy_from_slice(&self.stop);
-        bytes[39..].copy_from_slice(&self.order.to_be_bytes());
+    pub fn bytes(&self) -> [u8; KEY_WIDE] {
+        let mut bytes = [0; KEY_WIDE];
+        put(&mut bytes, OWNER_AT, &self.owner);
+        put(&mut bytes, DATE_AT, &self.date.to_be_bytes());
+        put(&mut bytes, LINE_AT, &self.line);
+        put(&mut bytes, JOURNEY_AT, &self.journey.to_be_bytes());
+        bytes[FORTIFY_AT] = self.fortify;
+        put(&mut bytes, STOP_AT, &self.stop);
+        put(&mut bytes, ORDER_AT, &self.order.to_be_bytes());
         bytes
     }
 
     /// Reads a key back from the first bytes of a body or row.
     pub fn read(bytes: &[u8]) -> Key {
         Key {
-            owner: text(bytes, 0),
-            date: number(&bytes[10..14]),
-            line: text(bytes, 14),
-            journey: number(&bytes[24..28]),
-            fortify: bytes[28],
-            stop: text(bytes, 29),
-            order: number(&bytes[39..41]) as u16,
+            owner: text(bytes, OWNER_AT),
+            date: number(&bytes[DATE_AT..][..4]),
+            line: text(bytes, LINE_AT),
+            journey: number(&bytes[JOURNEY_AT..][..4]),
+            fortify: bytes[FORTIFY_AT],
+            stop: text(bytes, STOP_AT),
+            order: number(&bytes[ORDER_AT..][..2]) as u16,
         }
     }
 }
 
 impl Passage {
-    pub fn body(&self) -> [u8; BODY_BYTES] {
-        let mut bytes = [0; BODY_BYTES];
-        bytes[..KEY_BYTES].copy_from_slice(&self.key.bytes());
-        bytes[41..51].copy_from_slice(&self.destination);
-        bytes[51..55].copy_from_slice(&self.stamp.to_be_bytes());
-        bytes[55] = self.status;
-        bytes[56..59].copy_from_slice(&self.arrival.to_be_bytes()[1..]);
-        bytes[59..62].copy_from_slice(&self.departure.to_be_bytes()[1..]);
-        bytes[62] = self.stop_type;
-        bytes[63] = self.show_cancelled;
-        bytes[64] = self.flexible;
-        bytes[65] = self.monitored;
+    pub fn body(&self) -> [u8; BODY_WIDE] {
+        let mut bytes = [0; BODY_WIDE];
+        bytes[..KEY_WIDE].copy_from_slice(&self.key.bytes());
+        put(&mut bytes, DESTINATION_AT, &self.destination);
+        put(&mut bytes, TIMESTAMP_AT, &self.stamp.to_be_bytes());
+        bytes[STATUS_AT] = self.status;
+        put(&mut bytes, ARRIVAL_AT, &self.arrival.to_be_bytes()[1..]);
+        put(&mut bytes, DEPARTURE_AT, &self.departure.to_be_bytes()[1..]);
+        bytes[STOP_TYPE_AT] = self.stop_type;
+        bytes[SHOW_CANCELLED_AT] = self.show_cancelled;
+        bytes[FLEXIBLE_AT] = self.flexible;
+        bytes[MONITORED_AT] = self.monitored;
         bytes
     }
+}
+
+fn put(bytes: &mut [u8], at: usize, content: &[u8]) {
+    bytes[at..at + content.len()].copy_from_slice(content);
 }
 
 /// A big-endian number of up to four bytes.
@@ -105,15 +90,15 @@ pub fn number(bytes: &[u8]) -> u32 {
 }
 
 fn text(bytes: &[u8], from: usize) -> Text {
-    let mut text = [0; 10];
-    text.copy_from_slice(&bytes[from..from + 10]);
+    let mut text = [0; TEXT_WIDE];
+    text.copy_from_slice(&bytes[from..from + TEXT_WIDE]);
     text
 }
 
 /// A text padded to ten bytes; what is longer is cut.
 pub fn padded(bytes: &[u8]) -> Text {
-    let mut text = [0; 10];
-    let length = bytes.len().min(10);
+    let mut text = [0; TEXT_WIDE];
+    let length = bytes.len().min(TEXT_WIDE);
     text[..length].copy_from_slice(&bytes[..length]);
     text
 }

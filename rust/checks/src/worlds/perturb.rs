@@ -6,58 +6,44 @@ use super::random::Random;
 use super::state::{forged_row, State};
 use super::world::World;
 
-/// A field of a body: where it begins, how wide it is, and values at its edges. No values: a text.
-struct Span {
-    from: usize,
-    width: usize,
-    edges: &'static [u32],
-}
-
-const fn span(from: usize, width: usize, edges: &'static [u32]) -> Span {
-    Span { from, width, edges }
-}
-
 const TIME_EDGES: &[u32] = &[0, 86_399, 86_400, 115_199, 115_200, NO_TIME - 1, NO_TIME];
 
-static SPANS: [Span; 17] = [
-    span(0, 10, &[]),
-    span(
-        10,
-        4,
-        &[
-            0,
-            19_991_231,
-            20_000_101,
-            20_000_229,
-            20_000_230,
-            20_210_431,
-            20_230_229,
-            20_240_229,
-            20_000_100,
-            20_000_001,
-            20_001_301,
-            20_991_231,
-            20_991_232,
-            21_000_101,
-            u32::MAX,
-        ],
-    ),
-    span(14, 10, &[]),
-    span(24, 4, &[0, 999_999, 1_000_000, u32::MAX]),
-    span(28, 1, &[0, 99, 100, 255]),
-    span(29, 10, &[]),
-    span(39, 2, &[0, 999, 1_000, 65_535]),
-    span(41, 10, &[]),
-    span(51, 4, &[0, 1, 946_634_399, 946_634_400, 1_456_841_730, 4_102_495_199, 4_102_495_200, u32::MAX]),
-    span(55, 1, &[0, 1, 2, 3, 4, 5, 6, 255]),
-    span(56, 3, TIME_EDGES),
-    span(59, 3, TIME_EDGES),
-    span(62, 1, &[0, 1, 2, 3, 255]),
-    span(63, 1, &[0, 1, 2, 254, 255]),
-    span(64, 1, &[0, 1, 2, 3, 4, 254, 255]),
-    span(65, 1, &[0, 1, 2, 254, 255]),
+/// Values at the edges of each field of a row, in the order of `FIELDS`. No values: a text.
+static EDGES: [&[u32]; 17] = [
+    &[],
+    &[
+        0,
+        19_991_231,
+        20_000_101,
+        20_000_229,
+        20_000_230,
+        20_210_431,
+        20_230_229,
+        20_240_229,
+        20_000_100,
+        20_000_001,
+        20_001_301,
+        20_991_231,
+        20_991_232,
+        21_000_101,
+        u32::MAX,
+    ],
+    &[],
+    &[0, 999_999, 1_000_000, u32::MAX],
+    &[0, 99, 100, 255],
+    &[],
+    &[0, 999, 1_000, 65_535],
+    &[],
+    &[0, 1, 946_634_399, 946_634_400, 1_456_841_730, 4_102_495_199, 4_102_495_200, u32::MAX],
+    &[0, 1, 2, 3, 4, 5, 6, 255],
+    TIME_EDGES,
+    TIME_EDGES,
+    &[0, 1, 2, 3, 255],
+    &[0, 1, 2, 254, 255],
+    &[0, 1, 2, 3, 4, 254, 255],
+    &[0, 1, 2, 254, 255],
     // Behind a table row's body only: heard.
-    span(66, 1, &[0, 1, 2, 255]),
+    &[0, 1, 2, 255],
 ];
 
 /// Some change to book, table or counts; many of them leave the state unsound.
@@ -87,8 +73,8 @@ fn edge_fields(state: &mut State, random: &mut Random) {
     let in_table = random.one_in(2);
     let Some(body) = any_body(state, in_table, random) else { return };
     for _ in 0..*random.pick(&[1, 1, 1, 2, 3]) {
-        let count = if in_table { SPANS.len() } else { SPANS.len() - 1 };
-        set_edge(body, &SPANS[random.below(count)], random);
+        let count = if in_table { FIELDS.len() } else { FIELDS.len() - 1 };
+        set_edge(body, random.below(count), random);
     }
 }
 
@@ -97,12 +83,12 @@ fn any_body<'a>(state: &'a mut State, in_table: bool, random: &mut Random) -> Op
     if in_table {
         let count = state.row_count();
         let index = near_ends(count, random)?;
-        return Some(&mut state.table[index * ROW_BYTES..][..ROW_BYTES]);
+        return Some(&mut state.table[index * ROW..][..ROW]);
     }
     let entries = state.entries();
     let start = entries[near_ends(entries.len(), random)?];
-    let head = if state.book[start] == PLAN_KIND { 1 } else { UPDATE_HEAD };
-    Some(&mut state.book[start + head..][..BODY_BYTES])
+    let head = if state.book[start] == KIND_PLAN { 1 } else { UPDATE_BODY_AT };
+    Some(&mut state.book[start + head..][..BODY_WIDE])
 }
 
 /// A place below the count, often the last: a key may grow there without leaving the order.
@@ -114,13 +100,14 @@ fn near_ends(count: usize, random: &mut Random) -> Option<usize> {
     }
 }
 
-fn set_edge(body: &mut [u8], span: &Span, random: &mut Random) {
-    let field = &mut body[span.from..span.from + span.width];
-    if span.edges.is_empty() {
+fn set_edge(body: &mut [u8], which: usize, random: &mut Random) {
+    let (place, edges) = (FIELDS[which], EDGES[which]);
+    let field = &mut body[place.at..place.at + place.wide];
+    if edges.is_empty() {
         set_text_edge(field, random);
     } else {
-        let bytes = random.pick(span.edges).to_be_bytes();
-        field.copy_from_slice(&bytes[4 - span.width..]);
+        let bytes = random.pick(edges).to_be_bytes();
+        field.copy_from_slice(&bytes[4 - place.wide..]);
     }
 }
 
@@ -141,8 +128,8 @@ fn swap_neighbours(state: &mut State, random: &mut Random) {
     if random.one_in(2) {
         let count = state.row_count();
         if count >= 2 {
-            let at = random.below(count - 1) * ROW_BYTES;
-            state.table[at..at + 2 * ROW_BYTES].rotate_left(ROW_BYTES);
+            let at = random.below(count - 1) * ROW;
+            state.table[at..at + 2 * ROW].rotate_left(ROW);
         }
         return;
     }
@@ -160,32 +147,32 @@ fn copy_neighbour(state: &mut State, random: &mut Random) {
     let (count, bytes) = if table {
         (state.row_count(), &mut state.table)
     } else {
-        let plans = state.entries().iter().filter(|&&start| state.book[start] == PLAN_KIND).count();
+        let plans = state.entries().iter().filter(|&&start| state.book[start] == KIND_PLAN).count();
         (plans, &mut state.book)
     };
     if count >= 2 {
-        let at = random.below(count - 1) * ROW_BYTES;
-        bytes.copy_within(at..at + ROW_BYTES, at + ROW_BYTES);
+        let at = random.below(count - 1) * ROW;
+        bytes.copy_within(at..at + ROW, at + ROW);
     }
 }
 
 /// Counts out by little, huge, or such that a product with the row length would wrap around.
 fn change_count(state: &mut State, random: &mut Random) {
-    let wrapping = u64::MAX / ROW_BYTES as u64;
+    let wrapping = u64::MAX / ROW as u64;
     let in_book = random.one_in(2);
     let (count, lent) = if in_book {
         (&mut state.used, state.book.len() as u64)
     } else {
-        (&mut state.rows, (state.table.len() / ROW_BYTES) as u64)
+        (&mut state.rows, (state.table.len() / ROW) as u64)
     };
     let now = *count;
     *count = *random.pick(&[
         now.wrapping_sub(1),
         now.wrapping_add(1),
-        now.wrapping_add(PLAN_BYTES as u64),
-        now.wrapping_add(UPDATE_BYTES as u64),
-        now.wrapping_sub(PLAN_BYTES as u64),
-        now.wrapping_sub(UPDATE_BYTES as u64),
+        now.wrapping_add(PLAN_WIDE as u64),
+        now.wrapping_add(UPDATE_WIDE as u64),
+        now.wrapping_sub(PLAN_WIDE as u64),
+        now.wrapping_sub(UPDATE_WIDE as u64),
         0,
         lent,
         lent + 1,
@@ -196,19 +183,19 @@ fn change_count(state: &mut State, random: &mut Random) {
         wrapping + 2,
         u64::MAX,
         u64::MAX - 1,
-        MOST_ROWS as u64 + 1,
-        MOST_BOOK_BYTES as u64 + 1,
+        ROWS as u64 + 1,
+        BOOK as u64 + 1,
     ]);
 }
 
 /// Lends fewer bytes than are used, or exactly those, or a part of an entry more.
 fn change_lent(state: &mut State, random: &mut Random) {
-    let less = *random.pick(&[0, 0, 1, 66, 67, 72]);
+    let less = *random.pick(&[0, 0, 1, BODY_WIDE, PLAN_WIDE, UPDATE_WIDE]);
     if random.one_in(2) {
         let used = state.used_book().len();
         state.relend_book(used.saturating_sub(less), random);
     } else {
-        let used = state.row_count() * ROW_BYTES;
+        let used = state.row_count() * ROW;
         state.relend_table(used.saturating_sub(less), random);
     }
 }
@@ -222,14 +209,14 @@ fn change_heads(state: &mut State, random: &mut Random) {
     let byte = *random.pick(&[0, 1, 2, 3, 4, 255]);
     for &start in &entries[which..reach] {
         let entry = &mut state.book[start..];
-        let number = if entry[0] == PLAN_KIND { 0 } else { number(&entry[1..5]) };
+        let number = if entry[KIND_AT] == KIND_PLAN { 0 } else { number(&entry[NUMBER_AT..][..4]) };
         match change {
-            0 => entry[0] = byte,
-            1 if entry[0] != PLAN_KIND => entry[0] ^= 1,
-            2 if number > 0 => entry[1..5].copy_from_slice(&number.wrapping_add(1).to_be_bytes()),
-            3 if number > 0 => entry[1..5].copy_from_slice(&(number - 1).to_be_bytes()),
-            4 if number > 0 => entry[5] = byte,
-            5 if number > 0 => entry[1] = byte,
+            0 => entry[KIND_AT] = byte,
+            1 if entry[KIND_AT] != KIND_PLAN => entry[KIND_AT] ^= 1,
+            2 if number > 0 => entry[NUMBER_AT..][..4].copy_from_slice(&number.wrapping_add(1).to_be_bytes()),
+            3 if number > 0 => entry[NUMBER_AT..][..4].copy_from_slice(&(number - 1).to_be_bytes()),
+            4 if number > 0 => entry[SENDER_AT] = byte,
+            5 if number > 0 => entry[NUMBER_AT] = byte,
             _ => {}
         }
     }
@@ -261,8 +248,8 @@ fn remove_rows(state: &mut State, random: &mut Random) {
         if count == 0 || state.rows != count as u64 {
             return;
         }
-        let at = random.below(count) * ROW_BYTES;
-        state.table.copy_within(at + ROW_BYTES..count * ROW_BYTES, at);
+        let at = random.below(count) * ROW;
+        state.table.copy_within(at + ROW..count * ROW, at);
         state.rows -= 1;
     }
 }
@@ -272,12 +259,12 @@ fn replace_row(state: &mut State, world: &World, random: &mut Random) {
     if count > 0 {
         let index = random.below(count);
         let row = forged_row(world, Key::read(state.row(index)), random);
-        state.table[index * ROW_BYTES..][..ROW_BYTES].copy_from_slice(&row);
+        state.table[index * ROW..][..ROW].copy_from_slice(&row);
     }
 }
 
 /// A table without room for one row more.
 fn lend_exactly(state: &mut State, random: &mut Random) {
-    let length = state.row_count() * ROW_BYTES + random.below(ROW_BYTES);
+    let length = state.row_count() * ROW + random.below(ROW);
     state.relend_table(length, random);
 }

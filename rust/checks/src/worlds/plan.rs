@@ -64,13 +64,7 @@ impl Plan {
     }
 
     /// Most validities are of an owner and level that some pass time has.
-    fn add_validity(
-        &mut self,
-        world: &World,
-        repeats: bool,
-        seen: &mut BTreeSet<[u8; KEY_BYTES]>,
-        random: &mut Random,
-    ) {
+    fn add_validity(&mut self, world: &World, repeats: bool, seen: &mut BTreeSet<[u8; KEY_WIDE]>, random: &mut Random) {
         let (mut owner, mut level) = (*random.pick(&world.owners), *random.pick(&world.levels));
         if !self.times.is_empty() && !random.one_in(6) {
             let (passage, of_passage) = random.pick(&self.times);
@@ -99,27 +93,27 @@ impl Plan {
 
     /// Lent bytes of the most that is used, or nearly, or more.
     pub fn lent_most(&self, random: &mut Random) -> State {
-        let book = MOST_BOOK_BYTES + *random.pick(&[0, 0, 1, 71, 72, 200]);
-        let table = MOST_ROWS * ROW_BYTES + *random.pick(&[0, 0, 1, 66, 67, 200]);
+        let book = BOOK + *random.pick(&[0, 0, 1, UPDATE_WIDE - 1, UPDATE_WIDE, 200]);
+        let table = ROWS * ROW + *random.pick(&[0, 0, 1, ROW - 1, ROW, 200]);
         let less = *random.pick(&[0, 0, 0, 0, 1]);
         State::blank(book - less, table - less, random)
     }
 
     /// Lent bytes: room to go on if the day is kept, else exactly as much as needed, or nearly.
     pub fn lent(&self, keep: bool, random: &mut Random) -> State {
-        let (mut book, mut table) = (self.pairs * PLAN_BYTES, self.pairs * ROW_BYTES);
+        let (mut book, mut table) = (self.pairs * PLAN_WIDE, self.pairs * ROW);
         if keep {
             let (updates, rows) =
                 *random.pick(&[(0, 0), (8, 3), (60, 14), (600, 80), (600, 80), (600, 80), (600, 80), (600, 80)]);
-            book += random.below(updates * UPDATE_BYTES + PLAN_BYTES);
-            table += random.below(rows * ROW_BYTES + ROW_BYTES);
+            book += random.below(updates * UPDATE_WIDE + PLAN_WIDE);
+            table += random.below(rows * ROW + ROW);
         } else {
-            book += spare(PLAN_BYTES, random);
-            table += spare(ROW_BYTES, random);
+            book += spare(PLAN_WIDE, random);
+            table += spare(ROW, random);
         }
         match random.below(if keep { 60 } else { 12 }) {
-            0 => book = (self.pairs * PLAN_BYTES).saturating_sub(1),
-            1 => table = (self.pairs * ROW_BYTES).saturating_sub(1),
+            0 => book = (self.pairs * PLAN_WIDE).saturating_sub(1),
+            1 => table = (self.pairs * ROW).saturating_sub(1),
             2 => book = random.below(book + 1),
             3 => table = random.below(table + 1),
             _ => {}

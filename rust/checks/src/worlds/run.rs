@@ -2,7 +2,6 @@
 //! given the counts that the last one returned.
 
 use super::calendar::{day_of_number, DAY_SECONDS};
-use super::call::{Call, Job, Outcome};
 use super::columns::{Form, CALENDAR, MESSAGE, PLANNING};
 use super::damage::{damage, grow};
 use super::dossier::{dossier, Line};
@@ -14,6 +13,7 @@ use super::question::Question;
 use super::random::Random;
 use super::state::{forged, Measure, State};
 use super::world::{Role, World};
+use crate::call::{Call, Job, Outcome};
 
 /// Every run has as many calls, so that a call's index tells its run.
 pub const CALLS_PER_RUN: u64 = 50;
@@ -164,7 +164,7 @@ impl Run {
         let (number, of_message) = if messages.is_empty() || random.one_in(12) {
             (*random.pick(&[0, messages.len() as u32 + 1, 1, u32::MAX, 1 << 16]), 1)
         } else {
-            let standing: Vec<_> = messages.iter().filter(|message| message.2 == STANDING_KIND).collect();
+            let standing: Vec<_> = messages.iter().filter(|message| message.2 == KIND_STANDING).collect();
             let known =
                 if standing.is_empty() || random.one_in(5) { random.pick(&messages) } else { random.pick(&standing) };
             (known.0, known.1)
@@ -204,7 +204,7 @@ impl Run {
         }
         let row = self.state.row(likely_shown(&self.state, random));
         let key = Key::read(row);
-        let departure = number(&row[59..62]);
+        let departure = number(&row[DEPARTURE_AT..][..TIME_WIDE]);
         let seconds = if departure == NO_TIME { 0 } else { departure };
         let moment = day_of_number(key.date) * DAY_SECONDS + i64::from(seconds);
         let ahead = i64::from(horizon);
@@ -217,7 +217,7 @@ impl Run {
         let held = (0..self.state.row_count())
             .filter(|&index| {
                 let row = self.state.row(index);
-                unpadded(&row[..10]) == owner && unpadded(&row[29..39]) == stop
+                unpadded(&row[OWNER_AT..][..TEXT_WIDE]) == owner && unpadded(&row[STOP_AT..][..TEXT_WIDE]) == stop
             })
             .count();
         let random = &mut self.random;
@@ -240,8 +240,8 @@ fn likely_shown(state: &State, random: &mut Random) -> usize {
     let mut index = random.below(count);
     for _ in 0..4 {
         let row = state.row(index);
-        let (status, stop_type, flexible) = (row[55], row[62], row[64]);
-        if status != 5 && stop_type != LAST && flexible != 2 {
+        let (status, stop_type, flexible) = (row[STATUS_AT], row[STOP_TYPE_AT], row[FLEXIBLE_AT]);
+        if status != PASSED && stop_type != LAST && flexible != 2 {
             break;
         }
         index = random.below(count);
@@ -254,13 +254,13 @@ fn forged_day(world: &World, large: bool, random: &mut Random) -> State {
     if large {
         let plans = *random.pick(&[0, 1_000, 2_000, 2_048, 2_100, 4_400]);
         // Some books and tables are sound but for being larger than the sizes allow.
-        let book_bytes = MOST_BOOK_BYTES + 300 - *random.pick(&[0, 300, 300, 400, 800, 5_300]);
-        let rows = MOST_ROWS + 1 - *random.pick(&[0, 1, 1, 1, 2, 3, 20]);
+        let book_bytes = BOOK + 300 - *random.pick(&[0, 300, 300, 400, 800, 5_300]);
+        let rows = ROWS + 1 - *random.pick(&[0, 1, 1, 1, 2, 3, 20]);
         return forged(world, &Measure { plans, book_bytes, rows }, random);
     }
     let most = *random.pick(&[1, 2, 3, 12]);
     let plans = random.below(most + 1);
-    let book_bytes = plans * PLAN_BYTES + UPDATE_BYTES * random.below(4 * most);
+    let book_bytes = plans * PLAN_WIDE + UPDATE_WIDE * random.below(4 * most);
     let measure = Measure { plans, book_bytes, rows: random.below(2 * most + 1) };
     let mut state = forged(world, &measure, random);
     if random.one_in(2) {
@@ -316,13 +316,22 @@ fn register(world: &World, sender: u8, random: &mut Random) -> Vec<u8> {
         let owner = padded(random.pick::<&[u8]>(&[b"CXX", b"", b"GVB", b"\xff"]));
         pairs.insert(random.below(pairs.len() + 1), (random.byte(), owner));
     }
-    let mut bytes = Vec::with_capacity(MOST_REGISTER_BYTES);
+    let mut bytes = Vec::with_capacity(REGISTER);
     for (sender, owner) in pairs {
         bytes.push(sender);
         bytes.extend_from_slice(&owner);
     }
     if random.one_in(60) {
-        let length = *random.pick(&[bytes.len().saturating_sub(1), bytes.len() + 1, 0, 703, 704, 705, 715, 1]);
+        let length = *random.pick(&[
+            bytes.len().saturating_sub(1),
+            bytes.len() + 1,
+            0,
+            REGISTER - 1,
+            REGISTER,
+            REGISTER + 1,
+            REGISTER + PAIR,
+            1,
+        ]);
         bytes.resize(length, 0);
     }
     bytes

@@ -6,7 +6,7 @@ use super::passage::*;
 use super::random::Random;
 use super::world::{Role, World};
 
-#[derive(Clone, PartialEq, Eq)]
+#[derive(Clone, Debug, PartialEq, Eq)]
 pub struct State {
     pub book: Vec<u8>,
     pub table: Vec<u8>,
@@ -27,11 +27,11 @@ impl State {
 
     /// How many whole rows are used, as far as they are lent.
     pub fn row_count(&self) -> usize {
-        (self.rows as usize).min(self.table.len() / ROW_BYTES)
+        (self.rows as usize).min(self.table.len() / ROW)
     }
 
     pub fn row(&self, index: usize) -> &[u8] {
-        &self.table[index * ROW_BYTES..][..ROW_BYTES]
+        &self.table[index * ROW..][..ROW]
     }
 
     /// Where the used entries begin, as far as they can be told apart.
@@ -40,7 +40,7 @@ impl State {
         let mut starts = Vec::new();
         let mut at = 0;
         while at < book.len() {
-            let length = if book[at] == PLAN_KIND { PLAN_BYTES } else { UPDATE_BYTES };
+            let length = if book[at] == KIND_PLAN { PLAN_WIDE } else { UPDATE_WIDE };
             if at + length > book.len() {
                 break;
             }
@@ -55,10 +55,10 @@ impl State {
         let mut messages: Vec<(u32, u8, u8)> = Vec::new();
         for start in self.entries() {
             let entry = &self.book[start..];
-            if entry[0] != PLAN_KIND {
-                let number = number(&entry[1..5]);
+            if entry[KIND_AT] != KIND_PLAN {
+                let number = number(&entry[NUMBER_AT..][..4]);
                 if messages.last().is_none_or(|last| last.0 != number) {
-                    messages.push((number, entry[5], entry[0]));
+                    messages.push((number, entry[SENDER_AT], entry[KIND_AT]));
                 }
             }
         }
@@ -93,14 +93,14 @@ pub struct Measure {
 pub fn forged(world: &World, measure: &Measure, random: &mut Random) -> State {
     let mut book = plan_entries(world, measure.plans, random);
     let mut number = 1;
-    while book.len() + 3 * UPDATE_BYTES <= measure.book_bytes {
+    while book.len() + 3 * UPDATE_WIDE <= measure.book_bytes {
         push_message(&mut book, number, world, random);
         number += 1;
     }
     let table = forged_rows(world, measure.rows, random);
-    let (used, rows) = (book.len() as u64, (table.len() / ROW_BYTES) as u64);
+    let (used, rows) = (book.len() as u64, (table.len() / ROW) as u64);
     let mut state = State { book, table, used, rows };
-    let (book_spare, table_spare) = (spare(UPDATE_BYTES, random), spare(ROW_BYTES, random));
+    let (book_spare, table_spare) = (spare(UPDATE_WIDE, random), spare(ROW, random));
     state.relend_book(state.book.len() + book_spare, random);
     state.relend_table(state.table.len() + table_spare, random);
     state
@@ -125,9 +125,9 @@ fn plan_entries(world: &World, count: usize, random: &mut Random) -> Vec<u8> {
             entries.insert(passage.key.bytes(), passage.body());
         }
     }
-    let mut book = Vec::with_capacity(entries.len() * PLAN_BYTES);
+    let mut book = Vec::with_capacity(entries.len() * PLAN_WIDE);
     for body in entries.values() {
-        book.push(PLAN_KIND);
+        book.push(KIND_PLAN);
         book.extend_from_slice(body);
     }
     book
@@ -135,7 +135,7 @@ fn plan_entries(world: &World, count: usize, random: &mut Random) -> Vec<u8> {
 
 /// One to three entries of one message, standing or withdrawn.
 fn push_message(book: &mut Vec<u8>, number: u32, world: &World, random: &mut Random) {
-    let kind = if random.one_in(3) { WITHDRAWN_KIND } else { STANDING_KIND };
+    let kind = if random.one_in(3) { KIND_WITHDRAWN } else { KIND_STANDING };
     let sender = *random.pick(&world.senders);
     for _ in 0..random.range(1, 3) {
         let passage = world.passage(world.key(random), Role::Update, random);

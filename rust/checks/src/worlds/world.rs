@@ -109,7 +109,7 @@ fn letters(letters: &[u8]) -> Vec<Text> {
 /// One of the contents, or in updates now and then none.
 fn optional(role: Role, contents: &[u8], random: &mut Random) -> u8 {
     if role == Role::Update && random.one_in(3) {
-        ABSENT
+        KEPT
     } else {
         *random.pick(contents)
     }

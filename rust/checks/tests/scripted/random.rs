@@ -1,10 +1,19 @@
 //! Messages and withdrawals at random against a slow, literal reckoning, and
 //! soundness against a literal check of every field.
 
-mod common;
-use common::*;
-use rival::{board, withdraw};
+use checks::on_every_side;
+use checks::sides::Side;
+
+use crate::desk::*;
 use std::collections::BTreeMap;
+
+on_every_side! {
+    messages_and_withdrawals_at_random
+    soundness_at_random
+    an_all_zero_book_or_table_is_unsound
+    boards_at_random
+    opens_at_random
+}
 
 const ALLOWED: [&str; 6] = ["NJJJJJ", "JJNJJJ", "NJJJJJ", "NJJJJJ", "NJJNJJ", "NNNNJJ"];
 
@@ -48,7 +57,7 @@ fn reckon(book: &[u8], key: &[u8]) -> Option<Vec<u8>> {
     row
 }
 
-fn rows_of(desk: &Desk) -> BTreeMap<Vec<u8>, Vec<u8>> {
+fn rows_of<S: Side>(desk: &Desk<S>) -> BTreeMap<Vec<u8>, Vec<u8>> {
     (0..desk.rows as usize).map(|i| (desk.row(i)[..41].to_vec(), desk.row(i).to_vec())).collect()
 }
 
@@ -69,8 +78,8 @@ fn some_row(random: &mut Random) -> String {
     )
 }
 
-fn some_plan(random: &mut Random) -> Desk {
-    let mut desk = Desk::new(40_000 + random.next(100), 60 * 67 + random.next(67));
+fn some_plan<S: Side>(random: &mut Random) -> Desk<S> {
+    let mut desk = Desk::<S>::new(40_000 + random.next(100), 60 * 67 + random.next(67));
     let mut passes = Vec::new();
     for journey in 0..3 {
         for order in 0..3 {
@@ -89,7 +98,7 @@ fn some_plan(random: &mut Random) -> Desk {
 }
 
 /// Makes the table forget, and makes it hold what the book does not know.
-fn disturb(desk: &mut Desk, random: &mut Random) {
+fn disturb<S: Side>(desk: &mut Desk<S>, random: &mut Random) {
     let mut kept: Vec<Vec<u8>> = rows_of(desk).into_values().collect();
     kept.retain(|_| random.next(4) != 0);
     for row in &mut kept {
@@ -108,12 +117,11 @@ fn disturb(desk: &mut Desk, random: &mut Random) {
     desk.table[..bytes.len()].copy_from_slice(&bytes);
 }
 
-#[test]
-fn messages_and_withdrawals_at_random() {
+fn messages_and_withdrawals_at_random<S: Side>() {
     let mut random = Random(0x1234_5678_9abc_def1);
     for round in 0..400 {
         let disagree = round % 2 == 1;
-        let mut desk = some_plan(&mut random);
+        let mut desk = some_plan::<S>(&mut random);
         let mut sent = 0;
         for _ in 0..12 {
             if disagree && random.next(3) == 0 {
@@ -256,12 +264,11 @@ fn book_sound(b: &[u8]) -> bool {
     true
 }
 
-#[test]
-fn soundness_at_random() {
+fn soundness_at_random<S: Side>() {
     let mut random = Random(0xfeed_beef_1357_2468);
     let mut counts = [0; 4];
     for _ in 0..300 {
-        let mut desk = some_plan(&mut random);
+        let mut desk = some_plan::<S>(&mut random);
         for n in 1..3 {
             let rows: Vec<String> = (0..1 + random.next(4)).map(|_| some_row(&mut random)).collect();
             desk.send(&rows);
@@ -286,7 +293,7 @@ fn soundness_at_random() {
             }
             let wanted = if table_sound(&t[..rows]) { 0 } else { 1 };
             counts[wanted] += 1;
-            assert_eq!(board(b"x", b"y", 20160301, 0, 0, &t, desk.rows, &mut [])[0], wanted as u64, "{at} {value}");
+            assert_eq!(S::board(b"x", b"y", 20160301, 0, 0, &t, desk.rows, &mut [])[0], wanted as u64, "{at} {value}");
             let at = random.next(used);
             b[at] = value;
             let mut used = used;
@@ -298,7 +305,7 @@ fn soundness_at_random() {
             let wanted = if book_sound(&b[..used]) { 10 } else { 1 };
             counts[2 + (wanted == 1) as usize] += 1;
             assert_eq!(
-                withdraw(0, 0, &mut b, &mut desk.table.clone(), used as u64, desk.rows)[0],
+                S::withdraw(0, 0, &mut b, &mut desk.table.clone(), used as u64, desk.rows)[0],
                 wanted,
                 "{at} {value}"
             );
@@ -307,22 +314,20 @@ fn soundness_at_random() {
     assert!(counts.iter().all(|&n| n > 5_000), "{counts:?}");
 }
 
-#[test]
-fn an_all_zero_book_or_table_is_unsound() {
-    assert_eq!(withdraw(1, 0, &mut [0; 72], &mut [], 72, 0)[0], 1);
-    assert_eq!(withdraw(1, 0, &mut [0; 67], &mut [], 67, 0)[0], 1);
-    assert_eq!(board(b"x", b"y", 20160301, 0, 0, &[0; 67], 1, &mut [])[0], 1);
+fn an_all_zero_book_or_table_is_unsound<S: Side>() {
+    assert_eq!(S::withdraw(1, 0, &mut [0; 72], &mut [], 72, 0)[0], 1);
+    assert_eq!(S::withdraw(1, 0, &mut [0; 67], &mut [], 67, 0)[0], 1);
+    assert_eq!(S::board(b"x", b"y", 20160301, 0, 0, &[0; 67], 1, &mut [])[0], 1);
 }
 
-#[test]
-fn boards_at_random() {
+fn boards_at_random<S: Side>() {
     let mut random = Random(0x0ddb_a11c_0ffe_e123);
     let dates = ["2015-12-30", "2015-12-31", "2016-01-01", "2016-02-28", "2016-02-29", "2016-03-01"];
     let numbers = [20151230, 20151231, 20160101, 20160228, 20160229, 20160301];
     let day_of = [0i64, 1, 2, 60, 61, 62];
     let mut any = 0;
     for _ in 0..60 {
-        let mut desk = Desk::big();
+        let mut desk = Desk::<S>::big();
         let rows: Vec<String> = (0..120)
             .map(|i| {
                 let time = random.next(115_200);
@@ -363,7 +368,7 @@ fn boards_at_random() {
             any += wanted.len();
             let mut places = vec![77; random.next(6)];
             let fit = wanted.len().min(places.len());
-            let a = board(
+            let a = S::board(
                 owner.as_bytes(),
                 stop.as_bytes(),
                 numbers[d] as u32,
@@ -382,12 +387,11 @@ fn boards_at_random() {
     assert!(any > 1_000);
 }
 
-#[test]
-fn opens_at_random() {
+fn opens_at_random<S: Side>() {
     let mut random = Random(0x5eed_0f0b_e455_0001);
     let mut seen = [0; 10];
     for round in 0..600 {
-        let mut desk = Desk::new(random.next(4_000), random.next(3_000));
+        let mut desk = Desk::<S>::new(random.next(4_000), random.next(3_000));
         let spread = [2, 9, 40][round % 3];
         let (mut passes, mut days) = (Vec::new(), Vec::new());
         for _ in 0..random.next(30) {

@@ -1,16 +1,32 @@
 //! Each refusal of each call, their order, and the sizes.
 
-mod common;
-use common::*;
-use rival::{board, message, open, withdraw};
+use checks::on_every_side;
+use checks::sides::Side;
+
+use crate::desk::*;
+
+on_every_side! {
+    counts_out_of_range
+    lent_lengths_that_are_no_multiple
+    register
+    order_of_refusals_in_a_dossier
+    columns
+    each_column_outside_its_type
+    nothing_as_a_time
+    open_refusals
+    withdraw_refusals
+    board_refusals
+    what_a_board_shows
+    dossiers_at_the_limit
+    book_and_table_at_the_limit
+}
 
 fn cxx() -> Vec<u8> {
     pair(7, "CXX")
 }
 
-#[test]
-fn counts_out_of_range() {
-    let desk = planned();
+fn counts_out_of_range<S: Side>() {
+    let desk = planned::<S>();
     for (used, rows) in [
         (68, 1),
         (66, 1),
@@ -27,25 +43,24 @@ fn counts_out_of_range() {
         (67, u64::MAX / 67 + 1),
     ] {
         let (mut b, mut t) = (desk.book.clone(), desk.table.clone());
-        assert_eq!(message(b"\\G\r\n", 7, &cxx(), &mut b, &mut t, used, rows), [1, 0, 0, 0, used, rows]);
-        assert_eq!(withdraw(1, 0, &mut b, &mut t, used, rows), [1, 0, 0, 0, used, rows]);
+        assert_eq!(S::message(b"\\G\r\n", 7, &cxx(), &mut b, &mut t, used, rows), [1, 0, 0, 0, used, rows]);
+        assert_eq!(S::withdraw(1, 0, &mut b, &mut t, used, rows), [1, 0, 0, 0, used, rows]);
         if rows > 1 {
-            assert_eq!(board(b"CXX", b"S1", 20160301, 0, 0, &t, rows, &mut []), [1, 0, 0]);
+            assert_eq!(S::board(b"CXX", b"S1", 20160301, 0, 0, &t, rows, &mut []), [1, 0, 0]);
         }
         // Open only hands the counts back.
-        assert_eq!(open(b"", b"", &mut b, &mut t, used, rows), [3, 0, 0, 1, used, rows]);
-        assert_eq!(open(b"\\G\r\n", b"\\G\r\n", &mut b, &mut t, used, rows), [0; 6]);
+        assert_eq!(S::open(b"", b"", &mut b, &mut t, used, rows), [3, 0, 0, 1, used, rows]);
+        assert_eq!(S::open(b"\\G\r\n", b"\\G\r\n", &mut b, &mut t, used, rows), [0; 6]);
         assert!(b == desk.book && t == desk.table);
     }
 }
 
-#[test]
-fn lent_lengths_that_are_no_multiple() {
+fn lent_lengths_that_are_no_multiple<S: Side>() {
     let plan = planning(&[pass("w", 1, "10:00:00"), pass("w", 2, "10:00:00")]);
     let days = calendar(&[day("w", "2016-03-01")]);
-    assert_eq!(Desk::new(133, 1000).open(&plan, &days)[0], 7);
-    assert_eq!(Desk::new(134, 133).open(&plan, &days)[0], 8);
-    let mut desk = Desk::new(134 + 71, 134 + 66);
+    assert_eq!(Desk::<S>::new(133, 1000).open(&plan, &days)[0], 7);
+    assert_eq!(Desk::<S>::new(134, 133).open(&plan, &days)[0], 8);
+    let mut desk = Desk::<S>::new(134 + 71, 134 + 66);
     assert_eq!(desk.open(&plan, &days), [0, 0, 0, 0, 134, 2]);
     assert_eq!(desk.send(&[row(3, "CANCEL")])[0], 7);
     desk.book.push(0xAA);
@@ -54,9 +69,8 @@ fn lent_lengths_that_are_no_multiple() {
     assert_eq!(desk.send(&[row(2, "CANCEL")])[0], 7);
 }
 
-#[test]
-fn register() {
-    let mut desk = planned();
+fn register<S: Side>() {
+    let mut desk = planned::<S>();
     let good = updates(&[row(1, "CANCEL")]);
     for length in [1, 10, 12, 715, 704 + 1] {
         assert_eq!(desk.message(&good, 7, &vec![0; length])[0], 1);
@@ -74,9 +88,8 @@ fn register() {
     assert_eq!(desk.message(&two, 7, &[cxx(), pair(7, "ARR")].concat())[..2], [0, 2]);
 }
 
-#[test]
-fn order_of_refusals_in_a_dossier() {
-    let mut desk = planned();
+fn order_of_refusals_in_a_dossier<S: Side>() {
+    let mut desk = planned::<S>();
     let (six, five, four) = (row(1, "CANCEL").replace("CXX", "ARR"), row(1, "PLAN"), "a|b".to_string());
     assert_eq!(desk.send(&[six.clone(), five.clone(), four.clone()])[..3], [4, 6, 0]);
     assert_eq!(desk.send(&[six.clone(), five.clone()])[..3], [5, 5, 10]);
@@ -96,14 +109,13 @@ fn order_of_refusals_in_a_dossier() {
     // Two faults in one line: the smaller column.
     assert_eq!(desk.send(&[row(1, "PLAN").replace("|CIOS|", "||")])[..3], [5, 4, 8]);
     // 7 after 6; 8 last.
-    let mut short = Desk::new(0, 0);
+    let mut short = Desk::<S>::new(0, 0);
     assert_eq!(short.send(&[six])[..2], [6, 4]);
     assert_eq!(short.send(&[row(1, "CANCEL")])[0], 7);
 }
 
-#[test]
-fn columns() {
-    let mut desk = planned();
+fn columns<S: Side>() {
+    let mut desk = planned::<S>();
     let good = String::from_utf8(updates(&[row(1, "CANCEL")])).unwrap();
     let mut try_one =
         |from: &str, to: &str| desk.message(good.replacen(from, to, 1).as_bytes(), 7, &cxx())[..3].to_vec();
@@ -137,9 +149,8 @@ TripStopStatus|LastUpdateTimeStamp|DestinationCode|UserStopCode|FortifyOrderNumb
     assert_eq!(desk.message(&again, 7, &cxx()), [0, 2, 0, 0, 67 + 72 * 3, 2]);
 }
 
-#[test]
-fn each_column_outside_its_type() {
-    let mut desk = planned();
+fn each_column_outside_its_type<S: Side>() {
+    let mut desk = planned::<S>();
     let good: Vec<&str> =
         "CXX|2016-03-01|A031|1|0|S1|1|CIOS|2016-03-01T15:15:30+01:00|CANCEL|10:00:00|10:00:30|INTERMEDIATE|\\0|\\0|\\0"
             .split('|')
@@ -177,10 +188,9 @@ fn each_column_outside_its_type() {
     }
 }
 
-#[test]
-fn nothing_as_a_time() {
+fn nothing_as_a_time<S: Side>() {
     let times = |arrival: &str, departure: &str, kind: &str| {
-        let mut desk = Desk::big();
+        let mut desk = Desk::<S>::big();
         let row = row(1, "CANCEL").replace("10:00:00|10:00:30|INTERMEDIATE", &format!("{arrival}|{departure}|{kind}"));
         desk.send(&[row])[..3].to_vec()
     };
@@ -196,9 +206,8 @@ fn nothing_as_a_time() {
     assert_eq!(times("\\0", "\\0", "FIRST"), [5, 4, 12]);
 }
 
-#[test]
-fn open_refusals() {
-    let mut desk = planned();
+fn open_refusals<S: Side>() {
+    let mut desk = planned::<S>();
     let (good, days) = (planning(&[pass("w", 1, "10:00:00")]), calendar(&[day("w", "2016-03-01")]));
     let long = vec![b'x'; 65_537];
     assert_eq!(desk.open(&long, &long), [2, 0, 0, 1, 67, 1]);
@@ -225,14 +234,13 @@ fn open_refusals() {
     let other = calendar(&[day("w", "2016-03-01").replace("CXX", "ARR"), day("x", "2016-03-01")]);
     assert_eq!(desk.open(&planning(&[pass("w", 1, "10:00:00"), pass("w", 1, "12:00:00")]), &other), [0; 6]);
     // 7 by pairs before 9 before 8.
-    assert_eq!(Desk::new(133, 0).open(&good, &twice)[0], 7);
-    assert_eq!(Desk::new(134, 0).open(&good, &twice)[0], 9);
-    assert_eq!(Desk::new(134, 0).open(&good, &days)[0], 8);
+    assert_eq!(Desk::<S>::new(133, 0).open(&good, &twice)[0], 7);
+    assert_eq!(Desk::<S>::new(134, 0).open(&good, &twice)[0], 9);
+    assert_eq!(Desk::<S>::new(134, 0).open(&good, &days)[0], 8);
 }
 
-#[test]
-fn withdraw_refusals() {
-    let mut desk = planned();
+fn withdraw_refusals<S: Side>() {
+    let mut desk = planned::<S>();
     assert_eq!(desk.withdraw(1, 0)[0], 10);
     desk.send(&[row(1, "CANCEL")]);
     for number in [0, 2, u32::MAX] {
@@ -254,12 +262,11 @@ fn withdraw_refusals() {
     assert_eq!(desk.row(0)[66], 0);
 }
 
-#[test]
-fn board_refusals() {
-    let desk = planned();
+fn board_refusals<S: Side>() {
+    let desk = planned::<S>();
     let ask = |owner: &[u8], stop: &[u8], date, second, horizon| {
         let mut places = [5; 3];
-        let a = board(owner, stop, date, second, horizon, &desk.table, desk.rows, &mut places);
+        let a = S::board(owner, stop, date, second, horizon, &desk.table, desk.rows, &mut places);
         assert!(a[0] == 0 || places == [5; 3]);
         a
     };
@@ -288,13 +295,12 @@ fn board_refusals() {
     ] {
         assert_eq!(ask(b"CXX", b"S1", date, second, horizon), [13, 0, 0]);
     }
-    assert_eq!(board(b"", b"", 0, 0, 0, &desk.table, 2, &mut [])[0], 1);
+    assert_eq!(S::board(b"", b"", 0, 0, 0, &desk.table, 2, &mut [])[0], 1);
 }
 
-#[test]
-fn what_a_board_shows() {
+fn what_a_board_shows<S: Side>() {
     let base = |change: &dyn Fn(&mut [u8])| {
-        let mut desk = planned();
+        let mut desk = planned::<S>();
         let at = 0;
         change(&mut desk.table[at..67]);
         let mut places = [3];
@@ -348,9 +354,8 @@ fn what_a_board_shows() {
     );
 }
 
-#[test]
-fn dossiers_at_the_limit() {
-    let mut desk = Desk::big();
+fn dossiers_at_the_limit<S: Side>() {
+    let mut desk = Desk::<S>::big();
     let mut rows: Vec<String> = (0..470).map(|i| row(i, "DRIVING")).collect();
     let length = updates(&rows).len();
     rows.truncate(rows.len() - length.saturating_sub(65_000).div_ceil(100));
@@ -397,10 +402,9 @@ fn dossiers_at_the_limit() {
     assert_eq!(desk.message(&last, 7, &cxx())[..3], [5, 4, 30_010]);
 }
 
-#[test]
-fn book_and_table_at_the_limit() {
+fn book_and_table_at_the_limit<S: Side>() {
     // Lent more than the sizes: the rest is never used.
-    let mut desk = Desk::new(300_000, 2_100 * 67);
+    let mut desk = Desk::<S>::new(300_000, 2_100 * 67);
     let mut sent = 0;
     for part in 0..4 {
         let rows: Vec<String> =

@@ -1,7 +1,8 @@
 //! Dossiers and a desk to try the calls on.
-#![allow(dead_code)]
 
-use rival::{board, message, open, withdraw};
+use std::marker::PhantomData;
+
+use checks::sides::Side;
 
 pub const LABELS: &str = "DataOwnerCode|OperationDate|LinePlanningNumber|VehicleJourneyNumber|FortifyOrderNumber|\
 UserStopCode|UserStopOrderNumber|DestinationCode|LastUpdateTimeStamp|TripStopStatus|ExpectedArrivalTime|\
@@ -52,25 +53,31 @@ pub fn pair(sender: u8, owner: &str) -> Vec<u8> {
     p
 }
 
-#[derive(Clone, PartialEq)]
-pub struct Desk {
+pub struct Desk<S> {
     pub book: Vec<u8>,
     pub table: Vec<u8>,
     pub used: u64,
     pub rows: u64,
+    side: PhantomData<S>,
 }
 
-impl Desk {
-    pub fn new(book: usize, table: usize) -> Desk {
-        Desk { book: vec![0xAA; book], table: vec![0xBB; table], used: 0, rows: 0 }
+impl<S> Clone for Desk<S> {
+    fn clone(&self) -> Desk<S> {
+        Desk { book: self.book.clone(), table: self.table.clone(), used: self.used, rows: self.rows, side: PhantomData }
+    }
+}
+
+impl<S: Side> Desk<S> {
+    pub fn new(book: usize, table: usize) -> Desk<S> {
+        Desk { book: vec![0xAA; book], table: vec![0xBB; table], used: 0, rows: 0, side: PhantomData }
     }
 
-    pub fn big() -> Desk {
+    pub fn big() -> Desk<S> {
         Desk::new(294_912, 2_048 * 67)
     }
 
     /// Keeps the counts and checks that a refusal changes nothing.
-    pub fn done(&mut self, before: Desk, answer: [u64; 6]) -> [u64; 6] {
+    pub fn done(&mut self, before: Desk<S>, answer: [u64; 6]) -> [u64; 6] {
         if answer[0] != 0 {
             assert!(self.book == before.book && self.table == before.table);
             assert_eq!(answer[4..], [before.used, before.rows]);
@@ -86,13 +93,13 @@ impl Desk {
 
     pub fn open(&mut self, planning: &[u8], calendar: &[u8]) -> [u64; 6] {
         let before = self.clone();
-        let a = open(planning, calendar, &mut self.book, &mut self.table, self.used, self.rows);
+        let a = S::open(planning, calendar, &mut self.book, &mut self.table, self.used, self.rows);
         self.done(before, a)
     }
 
     pub fn message(&mut self, dossier: &[u8], sender: u8, register: &[u8]) -> [u64; 6] {
         let before = self.clone();
-        let a = message(dossier, sender, register, &mut self.book, &mut self.table, self.used, self.rows);
+        let a = S::message(dossier, sender, register, &mut self.book, &mut self.table, self.used, self.rows);
         self.done(before, a)
     }
 
@@ -102,7 +109,7 @@ impl Desk {
 
     pub fn withdraw(&mut self, number: u32, sender: u8) -> [u64; 6] {
         let before = self.clone();
-        let a = withdraw(number, sender, &mut self.book, &mut self.table, self.used, self.rows);
+        let a = S::withdraw(number, sender, &mut self.book, &mut self.table, self.used, self.rows);
         if a[0] == 0 {
             let (r, was) = (a[5] as usize * 67, before.rows as usize * 67);
             assert!(self.table[r.min(was)..was].iter().all(|&b| b == 0) || r >= was);
@@ -111,7 +118,7 @@ impl Desk {
     }
 
     pub fn board(&self, date: u32, second: u32, horizon: u32, places: &mut [u32]) -> [u64; 3] {
-        board(b"CXX", b"S1", date, second, horizon, &self.table, self.rows, places)
+        S::board(b"CXX", b"S1", date, second, horizon, &self.table, self.rows, places)
     }
 
     pub fn row(&self, place: usize) -> &[u8] {
@@ -123,7 +130,7 @@ impl Desk {
     }
 }
 
-pub fn planned() -> Desk {
+pub fn planned<S: Side>() -> Desk<S> {
     let mut desk = Desk::big();
     assert_eq!(
         desk.open(&planning(&[pass("w", 1, "10:00:00")]), &calendar(&[day("w", "2016-03-01")])),

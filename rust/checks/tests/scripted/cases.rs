@@ -1,12 +1,24 @@
 //! The cases of the document and the dossier's form.
 
-mod common;
-use common::*;
-use rival::message;
+use checks::on_every_side;
+use checks::sides::Side;
 
-#[test]
-fn p1_p2_p3_fields_of_a_message() {
-    let mut desk = Desk::big();
+use crate::desk::*;
+
+on_every_side! {
+    p1_p2_p3_fields_of_a_message
+    p4_escapes
+    p5_and_the_whole_of_table_17
+    p6_p7_withdrawals
+    p8_p9_horizon_and_order_numbers
+    p10_p11_small_dossiers
+    the_listing
+    syntax_faults_by_kind
+    syntax_faults_at_random
+}
+
+fn p1_p2_p3_fields_of_a_message<S: Side>() {
+    let mut desk = Desk::<S>::big();
     let good = row(1, "DRIVING").replace("10:00:30", "31:59:59").replace("2016-03-01|", "2000-02-29|");
     assert_eq!(desk.send(std::slice::from_ref(&good)), [0, 1, 0, 0, 72, 1]);
     let r = desk.row(0);
@@ -20,9 +32,8 @@ fn p1_p2_p3_fields_of_a_message() {
     assert_eq!(desk.send(&[good.replace("2000-02-29", "2023-02-29")]), [5, 4, 2, 0, 72, 1]);
 }
 
-#[test]
-fn p4_escapes() {
-    let mut desk = Desk::big();
+fn p4_escapes<S: Side>() {
+    let mut desk = Desk::<S>::big();
     assert_eq!(desk.send(&[row(1, "DRIVING").replace("CIOS", "a\\pb\\i")])[0], 0);
     assert_eq!(desk.row(0)[41..51], *b"a|b\\\0\0\0\0\0\0");
     let bad = updates(&[row(1, "DRIVING").replace("CIOS", "\\x")]);
@@ -30,13 +41,12 @@ fn p4_escapes() {
     assert_eq!(desk.message(&bad, 7, &[]), [3, at + 1, 0, 0, 72, 1]);
 }
 
-#[test]
-fn p5_and_the_whole_of_table_17() {
+fn p5_and_the_whole_of_table_17<S: Side>() {
     let words = ["PLANNED", "CANCEL", "UNKNOWN", "DRIVING", "ARRIVED", "PASSED"];
     let table = ["NJJJJJ", "JJNJJJ", "NJJJJJ", "NJJJJJ", "NJJNJJ", "NNNNJJ"];
     for from in 0..6 {
         for to in 0..6 {
-            let mut desk = Desk::big();
+            let mut desk = Desk::<S>::big();
             desk.send(&[row(1, words[from])]);
             assert_eq!(desk.status(0), from as u8);
             let told = row(1, words[to]).replace("10:00:30", "11:11:11").replace("CIOS", "NEW");
@@ -47,16 +57,15 @@ fn p5_and_the_whole_of_table_17() {
             assert_eq!(desk.row(0)[59..62], 40271u32.to_be_bytes()[1..]);
         }
     }
-    let mut desk = Desk::big();
+    let mut desk = Desk::<S>::big();
     desk.send(&[row(1, "ARRIVED"), row(1, "DRIVING")]);
     assert_eq!((desk.rows, desk.used, desk.status(0)), (1, 144, 4));
     desk.send(&[row(1, "PASSED"), row(1, "ARRIVED")]);
     assert_eq!(desk.status(0), 4);
 }
 
-#[test]
-fn p6_p7_withdrawals() {
-    let mut desk = planned();
+fn p6_p7_withdrawals<S: Side>() {
+    let mut desk = planned::<S>();
     assert_eq!(desk.send(&[row(1, "CANCEL")])[..2], [0, 1]);
     assert_eq!(desk.send(&[row(1, "UNKNOWN")])[..2], [0, 2]);
     assert_eq!(desk.status(0), 1);
@@ -65,7 +74,7 @@ fn p6_p7_withdrawals() {
     // The next number counts withdrawn messages too.
     assert_eq!(desk.send(&[row(1, "UNKNOWN")])[..2], [0, 3]);
 
-    let mut desk = planned();
+    let mut desk = planned::<S>();
     desk.send(&[row(1, "PASSED")]);
     desk.send(&[row(1, "CANCEL")]);
     assert_eq!(desk.status(0), 5);
@@ -75,9 +84,8 @@ fn p6_p7_withdrawals() {
     assert_eq!(desk.row(0)[51..], [0, 0, 0, 0, 0, 0, 0x8c, 0xa0, 0, 0x8c, 0xa0, 1, 1, 0, 0, 0]);
 }
 
-#[test]
-fn p8_p9_horizon_and_order_numbers() {
-    let mut desk = Desk::big();
+fn p8_p9_horizon_and_order_numbers<S: Side>() {
+    let mut desk = Desk::<S>::big();
     let plan = planning(&[
         pass("w", 1, "10:30:00"),
         pass("w", 2, "10:30:01"),
@@ -96,9 +104,8 @@ fn p8_p9_horizon_and_order_numbers() {
     assert_eq!(desk.rows, 5);
 }
 
-#[test]
-fn p10_p11_small_dossiers() {
-    let mut desk = planned();
+fn p10_p11_small_dossiers<S: Side>() {
+    let mut desk = planned::<S>();
     assert_eq!(desk.message(b"", 7, &[]), [3, 0, 0, 0, 67, 1]);
     for sender in [0, 7] {
         assert_eq!(desk.message(b"\\G\r\n", sender, &[]), [0, 0, 0, 0, 67, 1]);
@@ -107,7 +114,7 @@ fn p10_p11_small_dossiers() {
     assert_eq!(desk.open(b"", b""), [3, 0, 0, 1, 67, 1]);
     assert_eq!(desk.open(b"\\G\r\n", b""), [3, 0, 0, 2, 67, 1]);
     assert_eq!(desk.open(b"\\G\r\n", b"\\G\r\n"), [0; 6]);
-    let mut nothing = Desk::new(0, 0);
+    let mut nothing = Desk::<S>::new(0, 0);
     assert_eq!(nothing.message(b"\\G\r\n", 1, &[]), [0; 6]);
     assert_eq!(nothing.open(b"\\G\r\n", b"\\G\r\n"), [0; 6]);
     assert_eq!(nothing.withdraw(0, 0)[0], 10);
@@ -115,9 +122,8 @@ fn p10_p11_small_dossiers() {
     assert_eq!(nothing.send(&[row(1, "CANCEL")])[0], 7);
 }
 
-#[test]
-fn the_listing() {
-    let mut desk = Desk::big();
+fn the_listing<S: Side>() {
+    let mut desk = Desk::<S>::big();
     let plan = planning(&[pass("a", 1, "24:10:00"), pass("b", 1, "00:05:00")]);
     let days = calendar(&[day("a", "2016-03-01"), day("b", "2016-03-02")]);
     assert_eq!(desk.open(&plan, &days), [0, 0, 0, 0, 134, 2]);
@@ -125,7 +131,7 @@ fn the_listing() {
     assert_eq!(desk.board(20160301, 85_800, 1_800, &mut places), [0, 2, 2]);
     assert_eq!(places, [1, 0, 7]);
     // Across a year's end: 25:20:00 on the old year's last day.
-    let mut desk = Desk::big();
+    let mut desk = Desk::<S>::big();
     let days = calendar(&[day("a", "2016-12-31")]);
     desk.open(&planning(&[pass("a", 1, "25:20:00")]), &days);
     assert_eq!(desk.board(20170101, 4_800, 0, &mut places)[2], 1);
@@ -202,13 +208,12 @@ fn plain_fault(bytes: &[u8]) -> Option<usize> {
     (s != S::AfterGroup && s != S::Body).then_some(bytes.len())
 }
 
-fn fault(bytes: &[u8]) -> Option<u64> {
-    let a = message(bytes, 1, &[], &mut [], &mut [], 0, 0);
+fn fault<S: Side>(bytes: &[u8]) -> Option<u64> {
+    let a = S::message(bytes, 1, &[], &mut [], &mut [], 0, 0);
     (a[0] == 3).then_some(a[1])
 }
 
-#[test]
-fn syntax_faults_by_kind() {
+fn syntax_faults_by_kind<S: Side>() {
     let cases: &[(&[u8], Option<u64>)] = &[
         (b"", Some(0)),
         (b"G", Some(0)),
@@ -256,19 +261,18 @@ fn syntax_faults_by_kind() {
     ];
     for (bytes, wanted) in cases {
         assert_eq!(plain_fault(bytes).map(|o| o as u64), *wanted, "{}", bytes.escape_ascii());
-        assert_eq!(fault(bytes), *wanted, "{}", bytes.escape_ascii());
+        assert_eq!(fault::<S>(bytes), *wanted, "{}", bytes.escape_ascii());
         // The same behind a group line that moves it over block borders.
         for pad in 55..75 {
             if bytes.len() >= 2 && bytes.starts_with(b"\\G") {
                 let moved = [b"\\G", &vec![b'p'; pad][..], b"|", &bytes[2..]].concat();
-                assert_eq!(fault(&moved), plain_fault(&moved).map(|o| o as u64), "{}", moved.escape_ascii());
+                assert_eq!(fault::<S>(&moved), plain_fault(&moved).map(|o| o as u64), "{}", moved.escape_ascii());
             }
         }
     }
 }
 
-#[test]
-fn syntax_faults_at_random() {
+fn syntax_faults_at_random<S: Side>() {
     let mut random = Random(88172645463325252);
     let parts: [&[u8]; 14] =
         [b"\\", b"G", b"T", b"L", b"0", b"\\0", b"|", b"\r\n", b"\r", b"\n", b"a", b"\r\n\\T", b"\\p", b"\xff"];
@@ -287,6 +291,6 @@ fn syntax_faults_at_random() {
         if random.next(5) == 0 {
             bytes.truncate(random.next(bytes.len() + 1));
         }
-        assert_eq!(fault(&bytes), plain_fault(&bytes).map(|o| o as u64), "{}", bytes.escape_ascii());
+        assert_eq!(fault::<S>(&bytes), plain_fault(&bytes).map(|o| o as u64), "{}", bytes.escape_ascii());
     }
 }

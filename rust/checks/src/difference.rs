@@ -1,0 +1,98 @@
+//! What sides do not agree on, down to the first byte.
+
+use std::cell::Cell;
+use std::panic::{catch_unwind, AssertUnwindSafe};
+
+use layout::{field_in_book, field_in_row};
+
+use crate::call::{Job, Outcome};
+use crate::sides::Judge;
+
+/// A side's name and what it made of a job: an outcome, or the words of a panic.
+pub type Seen = (&'static str, Result<Outcome, String>);
+
+/// Gives the job to each judge.
+pub fn see(job: &Job, judges: &[Judge]) -> Vec<Seen> {
+    judges.iter().map(|judge| (judge.name, attempt(judge, job))).collect()
+}
+
+thread_local! {
+    static TRYING: Cell<bool> = const { Cell::new(false) };
+}
+
+/// Whether this thread is in a side's call: a panic is caught then and told of as a difference.
+pub fn trying() -> bool {
+    TRYING.get()
+}
+
+fn attempt(judge: &Judge, job: &Job) -> Result<Outcome, String> {
+    TRYING.set(true);
+    let tried = catch_unwind(AssertUnwindSafe(|| (judge.perform)(job)));
+    TRYING.set(false);
+    tried.map_err(|panic| {
+        let words = panic.downcast_ref::<String>().map(String::as_str);
+        words.or(panic.downcast_ref::<&str>().copied()).unwrap_or("without a word").to_string()
+    })
+}
+
+/// The first thing that is wrong with what was seen, in words: a side by itself, or one that differs from the first.
+pub fn difference(job: &Job, seen: &[Seen]) -> Option<String> {
+    let call = job.call.kind().name();
+    let alone = seen.iter().find_map(|(name, outcome)| match outcome {
+        Err(panic) => Some(format!("{call}: {name} panicked: {panic}")),
+        Ok(outcome) => outcome.complaint(job).map(|complaint| format!("{call}: {name}: {complaint}")),
+    });
+    alone.or_else(|| {
+        let mut outcomes = seen.iter().filter_map(|(name, outcome)| Some((*name, outcome.as_ref().ok()?)));
+        let first = outcomes.next()?;
+        outcomes.find_map(|other| between(job, first, other)).map(|words| format!("{call}: {words}"))
+    })
+}
+
+/// What two sides do not agree on.
+fn between(job: &Job, one: (&str, &Outcome), other: (&str, &Outcome)) -> Option<String> {
+    const NAMES: [&str; 6] = ["number", "value", "second value", "dossier", "used", "rows"];
+    let ((name, ours), (other_name, theirs)) = (one, other);
+    if ours == theirs {
+        return None;
+    }
+    let told =
+        |what: String, ours: u64, theirs: u64| Some(format!("{what}: {ours} by {name}, {theirs} by {other_name}"));
+    if let Some(place) = first_different(&ours.answer, &theirs.answer) {
+        let what = format!("answers {:?} and {:?} differ in their {}", ours.answer, theirs.answer, NAMES[place]);
+        return told(what, ours.answer[place], theirs.answer[place]);
+    }
+    if let Some(byte) = first_different(&ours.book, &theirs.book) {
+        let what = book_byte(job, ours, byte);
+        return told(what, ours.book[byte].into(), theirs.book[byte].into());
+    }
+    if let Some(byte) = first_different(&ours.table, &theirs.table) {
+        let what = table_byte(job, ours, byte);
+        return told(what, ours.table[byte].into(), theirs.table[byte].into());
+    }
+    if let Some(place) = first_different(&ours.places, &theirs.places) {
+        let what = format!("places differ first at place {place} of the board");
+        return told(what, ours.places[place].into(), theirs.places[place].into());
+    }
+    Some(format!("{name} and {other_name} leave different lengths"))
+}
+
+fn first_different<T: PartialEq>(one: &[T], other: &[T]) -> Option<usize> {
+    one.iter().zip(other).position(|(one, other)| one != other)
+}
+
+fn book_byte(job: &Job, outcome: &Outcome, byte: usize) -> String {
+    let used = outcome.answer[4].max(job.lent.used);
+    let whose = match field_in_book(&outcome.book, byte) {
+        Some((entry, field)) if (byte as u64) < used => format!("entry {entry}, its {}", field.name),
+        _ => "behind the used bytes".to_string(),
+    };
+    format!("books differ first at byte {byte} ({whose})")
+}
+
+fn table_byte(job: &Job, outcome: &Outcome, byte: usize) -> String {
+    let (row, field) = field_in_row(byte);
+    let used = outcome.answer[5].max(job.lent.rows);
+    let behind = if row as u64 >= used { ", behind the rows" } else { "" };
+    format!("tables differ first at byte {byte} (row {row}, its {}{behind})", field.name)
+}

@@ -1,0 +1,6 @@
+//! Scripted cases, each tried on every side: what is written here is what the scope says, not what a side does.
+
+mod cases;
+mod desk;
+mod random;
+mod refusals;
