@@ -6,6 +6,7 @@ use Rattle.columns.specs.Layout.{total, offset}
 use Rattle.columns.specs.Claims.{All, CellsApart}
 use Rattle.columns.proofs.CellLaws.{cell-width, cell-bytes}
 use Rattle.columns.proofs.LayoutLaws.{wanted-most, row-room, offset-next, offset-within, offset-apart, row-flat, absent-width}
+use Rattle.columns.proofs.SaidLaws.{texts-kept, numbers-kept, times-kept, left-out-as-absent}
 use Rattle.columns.proofs.RangeLaws.{texts-in-range, dates-in-range, numbers-in-range, stamps-in-range, words-in-range, times-in-range, missing-exactly, null-keeps-nothing, empty-keeps-nothing, stop-types-coded}
 
 first-offset : (t : Table) → offset t 0 ≡ 0
@@ -19,6 +20,10 @@ pub claims : All
 claims = (
   λ k stop f. (cell-width k stop f, cell-bytes k stop f),
   texts-in-range,
+  texts-kept,
+  numbers-kept,
+  times-kept,
+  left-out-as-absent,
   dates-in-range,
   numbers-in-range,
   stamps-in-range,

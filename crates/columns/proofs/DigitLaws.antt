@@ -1,11 +1,12 @@
 -- Kinds, offsets and optionals of the columns as hex digits. Assumes nothing.
 use mathlib.Core.Path.{_≡_, _∙_, ap}
-use mathlib.Core.List.{List, map}
+use mathlib.Core.List.{List, [], _∷_, map}
 use Prim.Native.Nat.{ℕ, _+_, _*_, _-_, _/_, _%_, _^_, _≤_, _<_}
 use borrow.Author.Tests.{lt-ltb, le-ltb}
 use lib.Dec.{T, eqb, eqb→eq}
-use lib.ListN.{getD}
+use lib.ListN.{take, drop, getD}
 use Rattle.clock.proofs.BelowLaws.{allBelow, below-at}
+use Rattle.columns.specs.declared.Table.{Table}
 use Rattle.columns.specs.declared.Table.the-variants.{Message, Planning, Calendar}
 use Rattle.columns.specs.declared.Kind.{Kind}
 use Rattle.columns.specs.Cell.{width}
@@ -35,51 +36,61 @@ digit-second first second j h = rw (le-ltb j 16 h)
 named : {d : ℕ} {k : Kind} → d ≡ digitFor k → kindNamed d ≡ k
 named {d} {k} e = ap kindNamed e ∙ digit-names k
 
--- two digits, as a number
-abbrev twoOf : ℕ → ℕ → ℕ → ℕ → ℕ → ℕ
-twoOf high more-high low more-low j = digitAt high more-high j * 16 + digitAt low more-low j
-
 pub two-told : {n high low h l : ℕ} → n ≡ high * 16 + low → high ≡ h → low ≡ l → n ≡ h * 16 + l
 two-told e p q = e ∙ rw (p, q)
 
--- ---- message
+-- ---- a list of digits packed into two numbers
 
-pub message-kind : (j : ℕ) → j < wanted Message → kindNamed (digitAt 12369566719478538256 0 j) ≡ kindAt Message j
-unfolding digitAt digitOf columnsIn messageColumns
-message-kind j h = named (agree (digitAt 12369566719478538256 0) (map digitIn (columnsIn Message)) (wanted Message) tt j h ∙ kind-listed Message j)
+-- as one number, the first digit the last
+abbrev packed : List ℕ → ℕ
+packed [] = 0
+packed (d ∷ ds) = d + 16 * packed ds
 
-pub message-offset : (j : ℕ) → j < wanted Message → twoOf 4914327913099235328 0 1224618955299917472 0 j ≡ offset Message j
-unfolding digitAt digitOf widths width columnsIn messageColumns
-message-offset j h = agree (twoOf 4914327913099235328 0 1224618955299917472 0) (places 0 (widths Message)) (wanted Message) tt j h ∙ offset-listed Message j h
+-- digit j of the two numbers into which the digits are packed: sixteen in the first
+abbrev pub packedAt : List ℕ → ℕ → ℕ
+packedAt ds j = digitAt (packed (take 16 ds)) (packed (drop 16 ds)) j
 
-pub message-optional : (j : ℕ) → j < wanted Message → eqb (digitAt 1229482698272145408 0 j) 1 ≡ optionalAt Message j
-unfolding digitAt digitOf columnsIn messageColumns
-message-optional j h = ap (λ (m : ℕ). eqb m 1) (agree (digitAt 1229482698272145408 0) (map flagOf (columnsIn Message)) (wanted Message) tt j h) ∙ optional-listed Message j
+-- the digits of the columns' kinds; the first and the second digits of their offsets; 1 for a column that may be absent
+abbrev pub kindsIn : Table → List ℕ
+kindsIn t = map digitIn (columnsIn t)
 
--- ---- planning
+abbrev pub highIn : Table → List ℕ
+highIn t = map (λ (n : ℕ). n / 16) (places 0 (widths t))
 
-pub planning-kind : (j : ℕ) → j < wanted Planning → kindNamed (digitAt 203989475930624 0 j) ≡ kindAt Planning j
-unfolding digitAt digitOf columnsIn planningColumns
-planning-kind j h = named (agree (digitAt 203989475930624 0) (map digitIn (columnsIn Planning)) (wanted Planning) tt j h ∙ kind-listed Planning j)
+abbrev pub lowIn : Table → List ℕ
+lowIn t = map (λ (n : ℕ). n % 16) (places 0 (widths t))
 
-pub planning-offset : (j : ℕ) → j < wanted Planning → twoOf 73886894985472 0 17360077030560 0 j ≡ offset Planning j
-unfolding digitAt digitOf widths width columnsIn planningColumns
-planning-offset j h = agree (twoOf 73886894985472 0 17360077030560 0) (places 0 (widths Planning)) (wanted Planning) tt j h ∙ offset-listed Planning j h
+abbrev pub flagsIn : Table → List ℕ
+flagsIn t = map flagOf (columnsIn t)
 
-pub planning-optional : (j : ℕ) → j < wanted Planning → eqb (digitAt 17592186044416 0 j) 1 ≡ optionalAt Planning j
-unfolding digitAt digitOf columnsIn planningColumns
-planning-optional j h = ap (λ (m : ℕ). eqb m 1) (agree (digitAt 17592186044416 0) (map flagOf (columnsIn Planning)) (wanted Planning) tt j h) ∙ optional-listed Planning j
+-- ---- what the digits say of each column, tested once for each table
 
--- ---- calendar
+kind-digits : (t : Table) (j : ℕ) → j < wanted t → packedAt (kindsIn t) j ≡ getD (kindsIn t) j 0
+unfolding digitAt digitOf columnsIn messageColumns planningColumns calendarColumns
+kind-digits Message j h = agree (packedAt (kindsIn Message)) (kindsIn Message) (wanted Message) tt j h
+kind-digits Planning j h = agree (packedAt (kindsIn Planning)) (kindsIn Planning) (wanted Planning) tt j h
+kind-digits Calendar j h = agree (packedAt (kindsIn Calendar)) (kindsIn Calendar) (wanted Calendar) tt j h
 
-pub calendar-kind : (j : ℕ) → j < wanted Calendar → kindNamed (digitAt 256 0 j) ≡ kindAt Calendar j
-unfolding digitAt digitOf columnsIn calendarColumns
-calendar-kind j h = named (agree (digitAt 256 0) (map digitIn (columnsIn Calendar)) (wanted Calendar) tt j h ∙ kind-listed Calendar j)
+pub kinds-agree : (t : Table) (j : ℕ) → j < wanted t → kindNamed (packedAt (kindsIn t) j) ≡ kindAt t j
+kinds-agree t j h = named (kind-digits t j h ∙ kind-listed t j)
 
-pub calendar-offset : (j : ℕ) → j < wanted Calendar → twoOf 256 0 1184 0 j ≡ offset Calendar j
-unfolding digitAt digitOf widths width columnsIn calendarColumns
-calendar-offset j h = agree (twoOf 256 0 1184 0) (places 0 (widths Calendar)) (wanted Calendar) tt j h ∙ offset-listed Calendar j h
+abbrev offsetDigits : Table → ℕ → ℕ
+offsetDigits t j = packedAt (highIn t) j * 16 + packedAt (lowIn t) j
 
-pub calendar-optional : (j : ℕ) → j < wanted Calendar → eqb (digitAt 0 0 j) 1 ≡ optionalAt Calendar j
-unfolding digitAt digitOf columnsIn calendarColumns
-calendar-optional j h = ap (λ (m : ℕ). eqb m 1) (agree (digitAt 0 0) (map flagOf (columnsIn Calendar)) (wanted Calendar) tt j h) ∙ optional-listed Calendar j
+offset-digits : (t : Table) (j : ℕ) → j < wanted t → offsetDigits t j ≡ getD (places 0 (widths t)) j 0
+unfolding digitAt digitOf widths width columnsIn messageColumns planningColumns calendarColumns
+offset-digits Message j h = agree (offsetDigits Message) (places 0 (widths Message)) (wanted Message) tt j h
+offset-digits Planning j h = agree (offsetDigits Planning) (places 0 (widths Planning)) (wanted Planning) tt j h
+offset-digits Calendar j h = agree (offsetDigits Calendar) (places 0 (widths Calendar)) (wanted Calendar) tt j h
+
+pub offsets-agree : (t : Table) (j : ℕ) → j < wanted t → packedAt (highIn t) j * 16 + packedAt (lowIn t) j ≡ offset t j
+offsets-agree t j h = offset-digits t j h ∙ offset-listed t j h
+
+flag-digits : (t : Table) (j : ℕ) → j < wanted t → packedAt (flagsIn t) j ≡ getD (flagsIn t) j 0
+unfolding digitAt digitOf columnsIn messageColumns planningColumns calendarColumns
+flag-digits Message j h = agree (packedAt (flagsIn Message)) (flagsIn Message) (wanted Message) tt j h
+flag-digits Planning j h = agree (packedAt (flagsIn Planning)) (flagsIn Planning) (wanted Planning) tt j h
+flag-digits Calendar j h = agree (packedAt (flagsIn Calendar)) (flagsIn Calendar) (wanted Calendar) tt j h
+
+pub optionals-agree : (t : Table) (j : ℕ) → j < wanted t → eqb (packedAt (flagsIn t) j) 1 ≡ optionalAt t j
+optionals-agree t j h = ap (λ (m : ℕ). eqb m 1) (flag-digits t j h) ∙ optional-listed t j

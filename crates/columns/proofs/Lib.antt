@@ -4,5 +4,6 @@ pub mod KindLaws
 pub mod LayoutLaws
 pub mod DigitLaws
 pub mod RangeLaws
+pub mod SaidLaws
 pub mod Claims
 pub mod Determined

@@ -1,4 +1,4 @@
--- What is claimed of cells and of rows: what is kept is in range, field by field. Assumes nothing.
+-- What is claimed of cells and of rows: what is kept is what the field says, and in range, field by field. Assumes nothing.
 use mathlib.Core.Path.{_≡_}
 use mathlib.Core.Bool.{true}
 use mathlib.Core.List.{List, [], _∷_}
@@ -9,16 +9,24 @@ use Rattle.lists.specs.Each.{Bytes}
 use Rattle.lists.specs.Text.{bytes}
 use Rattle.lists.specs.Part.{part, some}
 use Rattle.lists.specs.Rows.{flat}
-use Rattle.lists.specs.BigEndian.{number}
+use Rattle.lists.specs.BigEndian.{number, spelled}
+use Rattle.clock.specs.declared.OperatingSeconds.{OperatingSeconds}
 use Rattle.clock.specs.Date.{isDate}
 use Rattle.turbo.specs.Escape.{decode}
-use Rattle.field_types.specs.Stamps.{inStampRange}
+use Rattle.field_types.specs.declared.Number.{Number}
+use Rattle.field_types.specs.declared.Number.the-variants as Numbers
+use Rattle.field_types.specs.declared.Time.the-variants as Times
+use Rattle.field_types.specs.Digits.{numeral}
+use Rattle.field_types.specs.Dates.{date}
+use Rattle.field_types.specs.Times.{time}
+use Rattle.field_types.specs.Stamps.{stamp, inStampRange}
+use Rattle.field_types.specs.Names.{bit, status, stopType, flexible}
 use Rattle.texts.specs.Texts.{padded, isText}
 use Rattle.columns.specs.declared.Table.{Table}
 use Rattle.columns.specs.declared.Kind.{Kind}
 use Rattle.columns.specs.declared.Kind.the-variants.{Text, Date, Journey, Fortify, Order, Stamp, Status, Arrival, Departure, StopType, Bit, Flexible}
 use Rattle.columns.specs.Cell.{width, null, cell}
-use Rattle.columns.specs.Tables.{rowWidth}
+use Rattle.columns.specs.Tables.{Column, rowWidth, cellOf}
 use Rattle.columns.specs.Layout.{wanted, columnAt, kindAt, optionalAt, offset}
 
 -- ---- cells, whatever the field and the field of the row's own stop type
@@ -32,6 +40,42 @@ abbrev pub TextsInRange : Type 0
 TextsInRange =
     (stop f : List ℕ) → some (cell Text stop f) ≡ true
     → (isText (decode f) ≡ true) × (cell Text stop f ≡ padded (decode f))
+
+-- And each such field is kept so.
+abbrev pub TextsKept : Type 0
+TextsKept = (stop f : List ℕ) → isText (decode f) ≡ true → cell Text stop f ≡ padded (decode f)
+
+-- Of a field that the rule reads as a number, that number is kept, in w bytes; of any other field nothing is.
+abbrev pub KeptAs : Kind → ℕ → (List ℕ → Number) → Type 0
+KeptAs k w rule = (stop f : List ℕ) → ((n : ℕ) → rule f ≡ Numbers.Is n → cell k stop f ≡ spelled w n) × (rule f ≡ Numbers.Wrong → cell k stop f ≡ [])
+
+-- A column of each kind keeps what its type reads: D, N6, N2, N3, U, a status, a stop type, B, a flexible.
+abbrev pub NumbersKept : Type 0
+NumbersKept =
+    KeptAs Date 4 date
+    × KeptAs Journey 4 (numeral 6)
+    × KeptAs Fortify 1 (numeral 2)
+    × KeptAs Order 2 (numeral 3)
+    × KeptAs Stamp 4 stamp
+    × KeptAs Status 1 status
+    × KeptAs StopType 1 stopType
+    × KeptAs Bit 1 bit
+    × KeptAs Flexible 1 flexible
+
+-- An arrival and a departure keep the seconds of a T, and nothing of what is neither a T nor `\0`.
+abbrev pub TimesKept : Type 0
+TimesKept =
+    (stop f : List ℕ)
+    → ((s : OperatingSeconds) → time f ≡ Times.Is s → (cell Arrival stop f ≡ spelled 3 (s .0)) × (cell Departure stop f ≡ spelled 3 (s .0)))
+    × (time f ≡ Times.Wrong → (f ≡ null → ⊥) → (cell Arrival stop f ≡ []) × (cell Departure stop f ≡ []))
+
+-- `\0` in a column that may be absent is kept as an absent one is; every other field, and every field of a column that must be there, by its kind.
+abbrev pub LeftOutAsAbsent : Type 0
+LeftOutAsAbsent =
+    (c : Column) (stop f : List ℕ)
+    → ((c .absent ≡ [] → ⊥) → cellOf c stop null ≡ c .absent)
+    × ((f ≡ null → ⊥) → cellOf c stop f ≡ cell (c .kind) stop f)
+    × (c .absent ≡ [] → cellOf c stop f ≡ cell (c .kind) stop f)
 
 -- Of what is kept in a column of kind k, the number that its bytes spell is one of P.
 abbrev pub Spells : Kind → (ℕ → Type 0) → Type 0
@@ -125,6 +169,10 @@ abbrev pub All : Type 0
 All =
     CellsWide
     × TextsInRange
+    × TextsKept
+    × NumbersKept
+    × TimesKept
+    × LeftOutAsAbsent
     × DatesInRange
     × NumbersInRange
     × StampsInRange

@@ -2,7 +2,7 @@
 use mathlib.Core.Path.{_≡_, _∙_, refl, sym, ap}
 use mathlib.Core.Bool.{true}
 use mathlib.Core.List.{List, []}
-use Prim.Native.Nat.{ℕ, _+_, _-_, _^_, _<_, _≤_}
+use Prim.Native.Nat.{ℕ, zero, suc, _+_, _-_, _^_, _<_, _≤_}
 use Prim.Native.String.{String}
 use native.Mathlib.Omega.{arith}
 use lib.ListN.{length, getD}
@@ -19,7 +19,7 @@ use Rattle.field_types.specs.Dates.{date}
 use Rattle.field_types.specs.Stamps.{stamp}
 use Rattle.field_types.specs.Names.{nameFrom, bits, statuses, stopTypes, flexibles, bit, status, stopType, flexible}
 use Rattle.field_types.specs.Written.{written}
-use Rattle.field_types.specs.Claims.{NumbersRead, TimesRead, DatesRead, WrittenAs, StampsRead, StampsGiven, StampsTested, WordsOnly, WordsWithin, Words, EmptyOutside, NoContentOutside, All}
+use Rattle.field_types.specs.Claims.{NumbersRead, TimesRead, DatesRead, WrittenAs, StampsRead, StampsGiven, StampsTested, WordsExactly, WordsWithin, Words, EmptyOutside, NoContentOutside, All}
 use Rattle.field_types.proofs.DigitLaws.{number-told, number-none, number-other, written-read}
 use Rattle.field_types.proofs.TripleLaws.{clock-below, date-real}
 use Rattle.field_types.proofs.WrittenLaws.{clock-written, date-written, stamp-written}
@@ -92,11 +92,46 @@ stamps-tested n = (within-true 946634400 4102495199 n, λ r. in-range 946634400 
 words-within : (k : ℕ) (ws : List String) → WordsWithin (nameFrom k ws) k (k + length ws)
 words-within k ws f n e = let t = named ws k f (sym e) in (t .from, t .below)
 
-words-only : (k : ℕ) (ws : List String) → WordsOnly (nameFrom k ws) k ws
+words-only : (k : ℕ) (ws : List String) (f : List ℕ) (n : ℕ) → nameFrom k ws f ≡ Is (k + n) → (n < length ws) × (f ≡ bytes (getD ws n ""))
 words-only k ws f n e =
     let t = named ws k f (sym e) in
     let q : k + n - k ≡ n = omega arith in
     (omega arith, t .word ∙ ap (λ (j : ℕ). bytes (getD ws j "")) q)
+
+-- each word is read as its place
+bits-read : (n : ℕ) → n < 2 → nameFrom 0 bits (bytes (getD bits n "")) ≡ Is (0 + n)
+unfolding same
+bits-read zero h = refl
+bits-read (suc zero) h = refl
+bits-read (suc (suc n)) h = absurd (omega arith)
+
+statuses-read : (n : ℕ) → n < 6 → nameFrom 0 statuses (bytes (getD statuses n "")) ≡ Is (0 + n)
+unfolding same
+statuses-read zero h = refl
+statuses-read (suc zero) h = refl
+statuses-read (suc (suc zero)) h = refl
+statuses-read (suc (suc (suc zero))) h = refl
+statuses-read (suc (suc (suc (suc zero)))) h = refl
+statuses-read (suc (suc (suc (suc (suc zero))))) h = refl
+statuses-read (suc (suc (suc (suc (suc (suc n)))))) h = absurd (omega arith)
+
+stop-types-read : (n : ℕ) → n < 3 → nameFrom 0 stopTypes (bytes (getD stopTypes n "")) ≡ Is (0 + n)
+unfolding same
+stop-types-read zero h = refl
+stop-types-read (suc zero) h = refl
+stop-types-read (suc (suc zero)) h = refl
+stop-types-read (suc (suc (suc n))) h = absurd (omega arith)
+
+flexibles-read : (n : ℕ) → n < 3 → nameFrom 1 flexibles (bytes (getD flexibles n "")) ≡ Is (1 + n)
+unfolding same
+flexibles-read zero h = refl
+flexibles-read (suc zero) h = refl
+flexibles-read (suc (suc zero)) h = refl
+flexibles-read (suc (suc (suc n))) h = absurd (omega arith)
+
+words-exactly :
+    (k : ℕ) (ws : List String) → ((n : ℕ) → n < length ws → nameFrom k ws (bytes (getD ws n "")) ≡ Is (k + n)) → WordsExactly (nameFrom k ws) k ws
+words-exactly k ws read f n = (words-only k ws f n, λ p. rw (p .1) (read n (p .0)))
 
 pub words : Words
 unfolding bit status stopType flexible
@@ -105,10 +140,10 @@ words = (
   words-within 0 statuses,
   words-within 0 stopTypes,
   words-within 1 flexibles,
-  words-only 0 bits,
-  words-only 0 statuses,
-  words-only 0 stopTypes,
-  words-only 1 flexibles,
+  words-exactly 0 bits bits-read,
+  words-exactly 0 statuses statuses-read,
+  words-exactly 0 stopTypes stop-types-read,
+  words-exactly 1 flexibles flexibles-read,
 )
 
 -- ---- fields outside every type

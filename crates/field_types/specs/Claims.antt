@@ -3,7 +3,7 @@ use Prim.Native.Nat.{ℕ, _+_, _*_, _^_, _<_, _≤_}
 use Prim.Native.String.{String}
 use mathlib.Core.Path.{_≡_}
 use mathlib.Core.Bool.{Bool, true}
-use mathlib.Core.List.{List, []}
+use mathlib.Core.List.{List, [], _∷_}
 use mathlib.Core.Logic.{_↔_}
 use lib.ListN.{length, getD}
 use Rattle.lists.specs.Text.{bytes}
@@ -16,7 +16,7 @@ use Rattle.field_types.specs.Digits.{numeral}
 use Rattle.field_types.specs.Times.{time}
 use Rattle.field_types.specs.Dates.{date}
 use Rattle.field_types.specs.Stamps.{stampSeconds, stamp, inStampRange}
-use Rattle.field_types.specs.Names.{bits, statuses, stopTypes, flexibles, bit, status, stopType, flexible}
+use Rattle.field_types.specs.Names.{bit, status, stopType, flexible}
 use Rattle.field_types.specs.Written.{written, writtenTime, writtenDate, writtenStamp}
 
 -- ---- numbers, times, dates and stamps: what is read is exactly what is written
@@ -60,25 +60,25 @@ StampsTested = (n : ℕ) → (inStampRange n ≡ true) ↔ ((946634400 ≤ n) ×
 
 -- ---- words
 
--- A field that the rule reads as k and n more is the word at place n of ws, and no other bytes.
-abbrev pub WordsOnly : (List ℕ → Number) → ℕ → List String → Type 0
-WordsOnly rule k ws = (f : List ℕ) (n : ℕ) → rule f ≡ Is (k + n) → (n < length ws) × (f ≡ bytes (getD ws n ""))
+-- A field is read as k and n more exactly where it is the word at place n of ws.
+abbrev pub WordsExactly : (List ℕ → Number) → ℕ → List String → Type 0
+WordsExactly rule k ws = (f : List ℕ) (n : ℕ) → (rule f ≡ Is (k + n)) ↔ ((n < length ws) × (f ≡ bytes (getD ws n "")))
 
 -- What the rule reads is from k on and below m.
 abbrev pub WordsWithin : (List ℕ → Number) → ℕ → ℕ → Type 0
 WordsWithin rule k m = (f : List ℕ) (n : ℕ) → rule f ≡ Is n → (k ≤ n) × (n < m)
 
--- B gives 0 or 1, a status 0 to 5, a stop type 0 to 2, a ShowFlexibleTrip 1 to 3, each for its own word only.
+-- B gives 0 or 1, a status 0 to 5, a stop type 0 to 2, a ShowFlexibleTrip 1 to 3, each for its own word and for no other bytes.
 abbrev pub Words : Type 0
 Words =
     WordsWithin bit 0 2
     × WordsWithin status 0 6
     × WordsWithin stopType 0 3
     × WordsWithin flexible 1 4
-    × WordsOnly bit 0 bits
-    × WordsOnly status 0 statuses
-    × WordsOnly stopType 0 stopTypes
-    × WordsOnly flexible 1 flexibles
+    × WordsExactly bit 0 ("0" ∷ "1" ∷ [])
+    × WordsExactly status 0 ("PLANNED" ∷ "CANCEL" ∷ "UNKNOWN" ∷ "DRIVING" ∷ "ARRIVED" ∷ "PASSED" ∷ [])
+    × WordsExactly stopType 0 ("FIRST" ∷ "INTERMEDIATE" ∷ "LAST" ∷ [])
+    × WordsExactly flexible 1 ("TRUE" ∷ "FALSE" ∷ "REALTIME" ∷ [])
 
 -- ---- fields outside every type
 

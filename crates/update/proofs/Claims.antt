@@ -3,11 +3,13 @@ use mathlib.Core.Path.{_≡_, refl, sym, ap, _∙_}
 use mathlib.Core.Bool.{Bool}
 use mathlib.Core.List.{List, [], map}
 use Prim.Native.Nat.{ℕ}
+use borrow.Author.Tests.{eq-eqb, ne-eqb}
 use lib.Dec.{eqb}
 use lib.ListN.{getD, List·getD-map}
-use Rattle.update.specs.Moves.{table17, mayMove, statusAfter}
-use Rattle.update.specs.Rule.{beginning}
-use Rattle.update.specs.Claims.{moves, MovesByTable, BeginsPlanned, ArrivedStays, All}
+use Rattle.passage.specs.Layout.{statusOf}
+use Rattle.update.specs.Moves.{table17, mayMove, statusAfter, keeps}
+use Rattle.update.specs.Rule.{beginning, begun}
+use Rattle.update.specs.Claims.{moves, MovesByTable, StatusByTable, LeavesOrTakes, OptionalsKeep, BeginsPlanned, ArrivedStays, All}
 use Rattle.update.proofs.RuleLaws.{rule-wide, rule-key, rule-destination, rule-stamp, rule-arrival, rule-departure, rule-stop-type, rule-heard, rule-status, rule-show, rule-flexible, rule-monitored}
 use Rattle.update.proofs.InRangeLaws.{rule-in-range}
 
@@ -33,6 +35,21 @@ arrived-after = (refl, refl)
 
 -- ---- the row rule
 
+status-by-table : StatusByTable
+status-by-table h u wide =
+    let moved = moves-by-table (statusOf (begun h)) (statusOf u) in
+    (λ e. rule-status h u wide ∙ rw (moved ∙ e), λ e. rule-status h u wide ∙ rw (moved ∙ e))
+
+leaves-or-takes : (held said becomes : ℕ) → becomes ≡ keeps held said → LeavesOrTakes held said becomes
+leaves-or-takes held said becomes e = (λ p. e ∙ rw (eq-eqb said 255 p), λ p. e ∙ rw (ne-eqb said 255 p))
+
+optionals-keep : OptionalsKeep
+optionals-keep h u wide = (
+  leaves-or-takes _ _ _ (rule-show h u wide),
+  leaves-or-takes _ _ _ (rule-flexible h u wide),
+  leaves-or-takes _ _ _ (rule-monitored h u wide),
+)
+
 begins-planned : BeginsPlanned
 unfolding beginning
 begins-planned = (refl, refl, refl, refl)
@@ -53,8 +70,9 @@ claims = (
     rule-departure h u wide,
     rule-stop-type h u wide,
   ),
-  rule-status,
-  λ h u wide. (rule-show h u wide, rule-flexible h u wide, rule-monitored h u wide),
+  status-by-table,
+  optionals-keep,
+  λ b r. refl,
   begins-planned,
   rule-in-range,
   arrived-stays,

@@ -7,7 +7,7 @@ use Prim.Native.Nat.{ℕ}
 use lib.ListN.{getD, length}
 use Rattle.passage.specs.Layout.{body-wide, row-wide, keyOf, destinationOf, stampOf, statusOf, arrivalOf, departureOf, stopTypeOf, showCancelledOf, flexibleOf, monitoredOf, heardOf}
 use Rattle.passage.specs.Ranges.{updateInRange, rowInRange}
-use Rattle.update.specs.Moves.{mayMove, statusAfter, keeps}
+use Rattle.update.specs.Moves.{mayMove}
 use Rattle.update.specs.Rule.{begun, rowRule}
 
 -- ---- statuses
@@ -58,18 +58,30 @@ ReplacesRest =
     × (departureOf (rowRule h u) ≡ departureOf u)
     × (stopTypeOf (rowRule h u) ≡ stopTypeOf u)
 
--- The status moves where the table says so, and else stays.
+-- Where the table has J the status becomes the update's, else the held one stays.
 abbrev pub StatusByTable : Type 0
-StatusByTable = (h u : List ℕ) → length u ≡ body-wide → statusOf (rowRule h u) ≡ statusAfter (statusOf (begun h)) (statusOf u)
+StatusByTable =
+    (h u : List ℕ)
+    → length u ≡ body-wide
+    → let letter = getD (getD moves (statusOf (begun h)) []) (statusOf u) N in
+    (letter ≡ J → statusOf (rowRule h u) ≡ statusOf u) × (letter ≡ N → statusOf (rowRule h u) ≡ statusOf (begun h))
 
--- An optional that the update gives is the row's; one that is absent leaves the held content.
+-- Of an optional, 255 in the update leaves what is held; anything else is taken.
+abbrev pub LeavesOrTakes : ℕ → ℕ → ℕ → Type 0
+LeavesOrTakes held said becomes = (said ≡ 255 → becomes ≡ held) × ((said ≡ 255 → ⊥) → becomes ≡ said)
+
+-- So it is with show cancelled, flexible and monitored.
 abbrev pub OptionalsKeep : Type 0
 OptionalsKeep =
     (h u : List ℕ)
     → length u ≡ body-wide
-    → (showCancelledOf (rowRule h u) ≡ keeps (showCancelledOf (begun h)) (showCancelledOf u))
-    × (flexibleOf (rowRule h u) ≡ keeps (flexibleOf (begun h)) (flexibleOf u))
-    × (monitoredOf (rowRule h u) ≡ keeps (monitoredOf (begun h)) (monitoredOf u))
+    → LeavesOrTakes (showCancelledOf (begun h)) (showCancelledOf u) (showCancelledOf (rowRule h u))
+    × LeavesOrTakes (flexibleOf (begun h)) (flexibleOf u) (flexibleOf (rowRule h u))
+    × LeavesOrTakes (monitoredOf (begun h)) (monitoredOf u) (monitoredOf (rowRule h u))
+
+-- A row that is held is changed as it stands.
+abbrev pub HeldIsChanged : Type 0
+HeldIsChanged = (b : ℕ) (r : List ℕ) → begun (b ∷ r) ≡ b ∷ r
 
 -- A passage that is missing begins as PLANNED, show cancelled 1, flexible 0, monitored 0.
 abbrev pub BeginsPlanned : Type 0
@@ -106,6 +118,7 @@ All =
     × ReplacesRest
     × StatusByTable
     × OptionalsKeep
+    × HeldIsChanged
     × BeginsPlanned
     × InRange
     × ArrivedStays

@@ -2,8 +2,10 @@ use mathlib.Core.Path.{_∙_, ap}
 use native.Mathlib.Omega.{arith}
 use borrow.Author.Needs.{needs}
 use Rattle.columns.specs.inner.Digit.{kindNamed}
+use Rattle.columns.specs.declared.Table.the-variants.{Message, Planning, Calendar}
+use Rattle.columns.specs.Tables.{messageColumns, planningColumns, calendarColumns, columnsIn}
 use Rattle.columns.proofs.LayoutLaws.{wanted-most, told-below}
-use Rattle.columns.proofs.DigitLaws.{message-kind, planning-kind, calendar-kind}
+use Rattle.columns.proofs.DigitLaws.{kinds-agree}
 use Rattle.columns.proofs.kind_of.Statement.{statement}
 use Rattle.columns.proofs.kind_of.Tie as tie
 
@@ -35,22 +37,25 @@ kind-named-requires-3 : tie.Need-kind-named-requires-3
 kind-named-requires-3 c κs = search needs
 
 returns : tie.Need-returns
+unfolding columnsIn messageColumns
 returns c =
     let a = c .before .before .before .before in
     let told = c .before .before .enum-told .given .1 in
-    rw told (c .kind-named .ensures ∙ ap kindNamed (c .before .digit .ensures .0) ∙ message-kind (a .args .index) (told-below (a .args .index) told (a .pre)))
+    rw told (c .kind-named .ensures ∙ ap kindNamed (c .before .digit .ensures .0) ∙ kinds-agree Message (a .args .index) (told-below (a .args .index) told (a .pre)))
 
 returns-2 : tie.Need-returns-2
+unfolding columnsIn planningColumns
 returns-2 c =
     let a = c .before .before .before .before in
     let told = c .before .before .enum-told2 .given .1 in
-    rw told (c .kind-named2 .ensures ∙ ap kindNamed (c .before .digit2 .ensures .0) ∙ planning-kind (a .args .index) (told-below (a .args .index) told (a .pre)))
+    rw told (c .kind-named2 .ensures ∙ ap kindNamed (c .before .digit2 .ensures .0) ∙ kinds-agree Planning (a .args .index) (told-below (a .args .index) told (a .pre)))
 
 returns-3 : tie.Need-returns-3
+unfolding columnsIn calendarColumns
 returns-3 c =
     let a = c .before .before .before .before in
     let told = c .before .before .enum-told3 .given .1 in
-    rw told (c .kind-named3 .ensures ∙ ap kindNamed (c .before .digit3 .ensures .0) ∙ calendar-kind (a .args .index) (told-below (a .args .index) told (a .pre)))
+    rw told (c .kind-named3 .ensures ∙ ap kindNamed (c .before .digit3 .ensures .0) ∙ kinds-agree Calendar (a .args .index) (told-below (a .args .index) told (a .pre)))
 
 pub kind-of-spec : {M : Type 1} → statement M
 kind-of-spec =

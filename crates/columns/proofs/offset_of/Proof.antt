@@ -1,8 +1,12 @@
 use mathlib.Core.Path.{_∙_}
 use native.Mathlib.Omega.{arith}
 use borrow.Author.Needs.{needs}
+use Rattle.columns.specs.declared.Table.the-variants.{Message, Planning, Calendar}
+use Rattle.columns.specs.Tables.{messageColumns, planningColumns, calendarColumns, columnsIn}
+use Rattle.columns.specs.Cell.{width}
+use Rattle.columns.specs.Layout.{widths}
 use Rattle.columns.proofs.LayoutLaws.{wanted-most, told-below}
-use Rattle.columns.proofs.DigitLaws.{two-told, message-offset, planning-offset, calendar-offset}
+use Rattle.columns.proofs.DigitLaws.{two-told, offsets-agree}
 use Rattle.columns.proofs.offset_of.Statement.{statement}
 use Rattle.columns.proofs.offset_of.Tie as tie
 
@@ -43,22 +47,25 @@ two-digits-requires-3 : tie.Need-two-digits-requires-3
 two-digits-requires-3 c κs = search needs
 
 returns : tie.Need-returns
+unfolding widths width columnsIn messageColumns
 returns c =
     let a = c .before .before .before .before .before in
     let told = c .before .before .before .enum-told .given .1 in
-    rw told (two-told (c .two-digits .ensures) (c .before .before .digit .ensures .0) (c .before .digit2 .ensures .0) ∙ message-offset (a .args .index) (told-below (a .args .index) told (a .pre)))
+    rw told (two-told (c .two-digits .ensures) (c .before .before .digit .ensures .0) (c .before .digit2 .ensures .0) ∙ offsets-agree Message (a .args .index) (told-below (a .args .index) told (a .pre)))
 
 returns-2 : tie.Need-returns-2
+unfolding widths width columnsIn planningColumns
 returns-2 c =
     let a = c .before .before .before .before .before in
     let told = c .before .before .before .enum-told2 .given .1 in
-    rw told (two-told (c .two-digits2 .ensures) (c .before .before .digit3 .ensures .0) (c .before .digit4 .ensures .0) ∙ planning-offset (a .args .index) (told-below (a .args .index) told (a .pre)))
+    rw told (two-told (c .two-digits2 .ensures) (c .before .before .digit3 .ensures .0) (c .before .digit4 .ensures .0) ∙ offsets-agree Planning (a .args .index) (told-below (a .args .index) told (a .pre)))
 
 returns-3 : tie.Need-returns-3
+unfolding widths width columnsIn calendarColumns
 returns-3 c =
     let a = c .before .before .before .before .before in
     let told = c .before .before .before .enum-told3 .given .1 in
-    rw told (two-told (c .two-digits3 .ensures) (c .before .before .digit5 .ensures .0) (c .before .digit6 .ensures .0) ∙ calendar-offset (a .args .index) (told-below (a .args .index) told (a .pre)))
+    rw told (two-told (c .two-digits3 .ensures) (c .before .before .digit5 .ensures .0) (c .before .digit6 .ensures .0) ∙ offsets-agree Calendar (a .args .index) (told-below (a .args .index) told (a .pre)))
 
 pub offset-of-spec : {M : Type 1} → statement M
 offset-of-spec =
