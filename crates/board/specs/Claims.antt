@@ -8,17 +8,26 @@ use lib.Dec.{eqb}
 use lib.ListN.{length, getD}
 use Rattle.lists.specs.Logic.{on}
 use Rattle.lists.specs.Part.{part}
+use Rattle.clock.specs.Moment.{dayCount}
 use Rattle.texts.specs.Texts.{padded}
-use Rattle.passage.specs.Layout.{keyOf, ownerOf, stopOf, statusOf, stopTypeOf, showCancelledOf, flexibleOf, monitoredOf, row-wide}
+use Rattle.passage.specs.Layout.{keyOf, ownerOf, dateOf, stopOf, statusOf, departureOf, stopTypeOf, showCancelledOf, flexibleOf, monitoredOf, row-wide}
 use Rattle.keys.specs.declared.Order.the-variants.{Less}
 use Rattle.keys.specs.Keys.{cmp}
 use Rattle.table.specs.Rules.{tableSound}
 use Rattle.board.specs.declared.Listing.the-variants.{Listed, Unsound, OutOfRange}
-use Rattle.board_show.specs.Ask.{Question, asksInRange, nowOf}
-use Rattle.board_show.specs.Show.{departs, shows}
+use Rattle.board_show.specs.Ask.{Question, asksInRange}
+use Rattle.board_show.specs.Show.{shows}
 use Rattle.board.specs.Rules.{boardOf, boardWith, boardLeaves, boardNumbers, boardGives}
 
 -- ---- which rows
+
+-- the moment of a second of a date's operating day, in seconds since 2000-01-01 00:00:00
+abbrev pub momentAt : ℕ → ℕ → ℕ
+momentAt date second = dayCount date * 86400 + second
+
+-- the moment at which a row departs: its departure on its own date
+abbrev pub departsAt : List ℕ → ℕ
+departsAt r = momentAt (dateOf r) (departureOf r)
 
 -- document 01's conditions, each by name
 pub record ShowFacts (q : Question) (r : List ℕ) : Type 0 where
@@ -26,8 +35,8 @@ pub record ShowFacts (q : Question) (r : List ℕ) : Type 0 where
   pub stop-equal : stopOf r ≡ padded (q .stop)
   pub not-last : stopTypeOf r ≡ 2 → ⊥
   pub not-passed : statusOf r ≡ 5 → ⊥
-  pub from-now : nowOf q .0 ≤ departs r .0
-  pub to-horizon : departs r .0 ≤ nowOf q .0 + q .horizon
+  pub from-now : momentAt (q .date) (q .second) ≤ departsAt r
+  pub to-horizon : departsAt r ≤ momentAt (q .date) (q .second) + q .horizon
   pub cancel-shown : statusOf r ≡ 1 → showCancelledOf r ≡ 1
   pub flexible-shown : (flexibleOf r ≤ 1) ⊎ ((flexibleOf r ≡ 3) × (monitoredOf r ≡ 1))
 
@@ -61,8 +70,8 @@ InOrder =
     → let l = boardOf q table n in
     let i = getD l k 0 in
     let j = getD l (k + 1) 0 in
-    let a = departs (rowAt table i) .0 in
-    let b = departs (rowAt table j) .0 in
+    let a = departsAt (rowAt table i) in
+    let b = departsAt (rowAt table j) in
     k + 1 < length l → (a < b) ⊎ ((a ≡ b) × (i < j))
 
 -- the lower place has the lower key
