@@ -31,8 +31,8 @@ use Rattle.columns.specs.declared.Table.the-variants.{Message, Planning, Calend
 use Rattle.columns.specs.Cell.{null, missingTime, cell, numberCell, timeCell, timeAt}
 use Rattle.columns.specs.declared.Kind.{Kind}
 use Rattle.columns.specs.declared.Kind.the-variants as Kinds
-use Rattle.columns.specs.Layout.{columnAt}
-use Rattle.columns.specs.Tables.{must, stopField, cellUnder, wrongColumn, rowOf, columnsIn, messageColumns, planningColumns, calendarColumns}
+use Rattle.columns.specs.Layout.{wanted, columnAt}
+use Rattle.columns.specs.Tables.{must, names, stopField, cellUnder, wrongColumn, rowOf, columnsIn, messageColumns, planningColumns, calendarColumns}
 use Rattle.rows.proofs.RowLaws.{all-right}
 use Rattle.reader.proofs.HeldLaws.{must-cell}
 use Rattle.reader.specs.Items.{Item, head, row, Place, outside, awaiting, under, placeAfter, seen, inFront, items}
@@ -126,29 +126,35 @@ right :
     → some (cell k (stopField ls l) (fieldAt (columnOf (bytes name) ls) l)) ≡ true
 right ls l name k e = must-cell ls l name k e .1
 
--- the ninth column of a message is its stamp
+-- a column by its name, when no column is wrong
+kept-of :
+    (t : Table) (ls : List (List ℕ)) (l : List ℕ) → wrongColumn t ls l ≡ 0 → (name : String) → columnOf (bytes name) (names t) < wanted t
+    → some (cellUnder ls l (columnAt t (columnOf (bytes name) (names t)))) ≡ true
+kept-of t ls l e name h = all-right t ls l e (columnOf (bytes name) (names t)) h
+
+-- a message has its stamp
 pub message-long : (ls : List (List ℕ)) (l : List ℕ) → wrongColumn Message ls l ≡ 0 → 27 ≤ length l + 2
-unfolding columnsIn messageColumns columnAt
+unfolding columnsIn messageColumns columnAt names columnOf same
 message-long ls l e =
-    let m = right ls l "LastUpdateTimeStamp" Kinds.Stamp (all-right Message ls l e 8 (omega arith)) in
+    let m = right ls l "LastUpdateTimeStamp" Kinds.Stamp (kept-of Message ls l e "LastUpdateTimeStamp" (omega arith)) in
     omega (arith, field-shorter (columnOf (bytes "LastUpdateTimeStamp") ls) l, stamp-long _ _ m)
 
--- the ninth and tenth of a planning are its times
+-- a planning its times
 planning-long : (ls : List (List ℕ)) (l : List ℕ) → wrongColumn Planning ls l ≡ 0 → 10 ≤ length l + 2
-unfolding columnsIn planningColumns columnAt
+unfolding columnsIn planningColumns columnAt names columnOf same
 planning-long ls l e =
-    let a = right ls l "TargetArrivalTime" Kinds.Arrival (all-right Planning ls l e 8 (omega arith)) in
-    let b = right ls l "TargetDepartureTime" Kinds.Departure (all-right Planning ls l e 9 (omega arith)) in
+    let a = right ls l "TargetArrivalTime" Kinds.Arrival (kept-of Planning ls l e "TargetArrivalTime" (omega arith)) in
+    let b = right ls l "TargetDepartureTime" Kinds.Departure (kept-of Planning ls l e "TargetDepartureTime" (omega arith)) in
     ⊎-elim
     (λ h. omega (arith, field-shorter (columnOf (bytes "TargetArrivalTime") ls) l, h))
     (λ h. omega (arith, field-shorter (columnOf (bytes "TargetDepartureTime") ls) l, h))
     (times-long _ _ _ a b)
 
--- the third of a calendar is its date
+-- a calendar its date
 calendar-long : (ls : List (List ℕ)) (l : List ℕ) → wrongColumn Calendar ls l ≡ 0 → 12 ≤ length l + 2
-unfolding columnsIn calendarColumns columnAt
+unfolding columnsIn calendarColumns columnAt names columnOf same
 calendar-long ls l e =
-    let m = right ls l "OperationDate" Kinds.Date (all-right Calendar ls l e 2 (omega arith)) in
+    let m = right ls l "OperationDate" Kinds.Date (kept-of Calendar ls l e "OperationDate" (omega arith)) in
     omega (arith, field-shorter (columnOf (bytes "OperationDate") ls) l, date-long _ _ m)
 
 -- ---- the rows of a dossier, each of at least `least` bytes with its line end

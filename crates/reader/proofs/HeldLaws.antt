@@ -22,7 +22,7 @@ use Rattle.columns.specs.declared.Kind.{Kind}
 use Rattle.columns.specs.declared.Kind.the-variants as Kinds
 use Rattle.columns.specs.Cell.{cell, null, width}
 use Rattle.columns.specs.Claims.{TimeOrMissing}
-use Rattle.columns.specs.Tables.{Column, must, may, stopField, cellUnder, rowOf, rowWidth, wrongColumn}
+use Rattle.columns.specs.Tables.{Column, must, may, names, stopField, cellUnder, rowOf, rowWidth, wrongColumn}
 use Rattle.columns.specs.Layout.{wanted, columnAt, kindAt, offset}
 use Rattle.columns.proofs.RangeLaws.{texts-in-range}
 use Rattle.rows.proofs.RowLaws.{all-right, row-length, row-part}
@@ -91,6 +91,12 @@ module _ {t : Table} {ls : List (List ℕ)} {l : List ℕ} (right : Right t ls l
   -- what stands at column j's place
   pub there : (j : ℕ) → j < wanted t → Stands (offset t j) (width (kindAt t j)) (columnAt t j)
   there j h = (row-part t ls l (right .none) j h, all-right t ls l (right .none) j h)
+
+  -- by its name: so a column more moves no place that is written out
+  pub named : (name : String) → columnOf (bytes name) (names t) < wanted t
+      → let j = columnOf (bytes name) (names t) in
+      Stands (offset t j) (width (kindAt t j)) (columnAt t j)
+  named name h = there (columnOf (bytes name) (names t)) h
 
   module _ (at w : ℕ) (k : Kind) (name : String) (x : Stands at w (must name k)) where
     held : (part at w body ≡ cell k stop (fieldOf name)) × (some (cell k stop (fieldOf name)) ≡ true)

@@ -3,14 +3,15 @@ use native.Mathlib.Omega.{arith}
 use mathlib.Core.Path.{_≡_}
 use mathlib.Core.Bool.{true}
 use mathlib.Core.List.{List}
-use Rattle.lists.specs.Text.{bytes}
+use Rattle.lists.specs.Text.{bytes, same}
 use Rattle.lists.specs.Each.{Each}
 use Rattle.clock.specs.Date.{isDate}
 use Rattle.field_types.specs.Stamps.{inStampRange}
 use Rattle.columns.specs.declared.Table.the-variants.{Message}
 use Rattle.columns.specs.declared.Kind.the-variants as Kinds
 use Rattle.columns.specs.Cell.{width}
-use Rattle.columns.specs.Tables.{columnsIn, messageColumns, rowOf, rowWidth, wrongColumn}
+use Rattle.turbo_labels.specs.Columns.{columnOf}
+use Rattle.columns.specs.Tables.{columnsIn, messageColumns, names, rowOf, rowWidth, wrongColumn}
 use Rattle.columns.specs.Layout.{columnAt, kindAt, widths, total, offset}
 use Rattle.columns.proofs.RangeLaws.{dates-in-range, numbers-in-range, stamps-in-range, words-in-range, times-in-range, stop-types-coded}
 use Rattle.passage.specs.Layout.{date-wide, journey-wide, order-wide, stamp-wide, owner-at, date-at, line-at, journey-at, fortify-at, stop-at, order-at, destination-at, stamp-at, status-at, arrival-at, departure-at, stop-type-at, show-cancelled-at, flexible-at, monitored-at, kept}
@@ -19,7 +20,7 @@ use Rattle.passage.specs.Facts.{UpdateFacts}
 use Rattle.passage.proofs.RangeLaws.{facts-update}
 use Rattle.reader.specs.Items.{Item}
 use Rattle.reader.specs.Staging.{rowsUpTo}
-use Rattle.reader.proofs.HeldLaws.{Right, there, text-in, spelled-in, byte-in, optional-in, time-in}
+use Rattle.reader.proofs.HeldLaws.{Right, named, text-in, spelled-in, byte-in, optional-in, time-in}
 use Rattle.reader.proofs.EachRowLaws.{rows-each}
 
 -- The rows of a message are updates in range: each column's cell is, and a body is its cells. Assumes nothing.
@@ -29,36 +30,36 @@ module _ (ls : List (List ℕ)) (l : List ℕ) (e : wrongColumn Message ls l ≡
   right = record { none = e }
 
   update-facts : UpdateFacts (rowOf Message ls l)
-  unfolding offset total widths rowWidth columnsIn messageColumns width kindAt columnAt
+  unfolding offset total widths rowWidth columnsIn messageColumns width kindAt columnAt names columnOf same
   update-facts =
-      let type = there right 12 (omega arith) in
+      let type = named right "JourneyStopType" (omega arith) in
       record {
         common =
             record {
               key =
                   record {
-                    owner = text-in right owner-at "DataOwnerCode" (there right 0 (omega arith));
-                    date = spelled-in right date-at date-wide Kinds.Date "OperationDate" (there right 1 (omega arith)) (λ (n : ℕ). isDate n ≡ true) (dates-in-range _ _);
-                    line = text-in right line-at "LinePlanningNumber" (there right 2 (omega arith));
-                    journey = spelled-in right journey-at journey-wide Kinds.Journey "VehicleJourneyNumber" (there right 3 (omega arith)) (λ (n : ℕ). n < 1000000) (numbers-in-range .0 _ _);
-                    fortify = byte-in right fortify-at Kinds.Fortify "FortifyOrderNumber" (λ (n : ℕ). n < 100) (omega arith) (there right 4 (omega arith)) (numbers-in-range .1 _ _);
-                    stop = text-in right stop-at "UserStopCode" (there right 5 (omega arith));
-                    order = spelled-in right order-at order-wide Kinds.Order "UserStopOrderNumber" (there right 6 (omega arith)) (λ (n : ℕ). n < 1000) (numbers-in-range .2 _ _);
+                    owner = text-in right owner-at "DataOwnerCode" (named right "DataOwnerCode" (omega arith));
+                    date = spelled-in right date-at date-wide Kinds.Date "OperationDate" (named right "OperationDate" (omega arith)) (λ (n : ℕ). isDate n ≡ true) (dates-in-range _ _);
+                    line = text-in right line-at "LinePlanningNumber" (named right "LinePlanningNumber" (omega arith));
+                    journey = spelled-in right journey-at journey-wide Kinds.Journey "VehicleJourneyNumber" (named right "VehicleJourneyNumber" (omega arith)) (λ (n : ℕ). n < 1000000) (numbers-in-range .0 _ _);
+                    fortify = byte-in right fortify-at Kinds.Fortify "FortifyOrderNumber" (λ (n : ℕ). n < 100) (omega arith) (named right "FortifyOrderNumber" (omega arith)) (numbers-in-range .1 _ _);
+                    stop = text-in right stop-at "UserStopCode" (named right "UserStopCode" (omega arith));
+                    order = spelled-in right order-at order-wide Kinds.Order "UserStopOrderNumber" (named right "UserStopOrderNumber" (omega arith)) (λ (n : ℕ). n < 1000) (numbers-in-range .2 _ _);
                   };
-              destination = text-in right destination-at "DestinationCode" (there right 7 (omega arith));
+              destination = text-in right destination-at "DestinationCode" (named right "DestinationCode" (omega arith));
               stop-type = byte-in right stop-type-at Kinds.StopType "JourneyStopType" (λ (n : ℕ). n ≤ 2) (omega arith) type (words-in-range .1 _ _);
               arrival =
                   time-in right stop-type-at (omega arith) type (bytes "FIRST") 0 arrival-at Kinds.Arrival "ExpectedArrivalTime" (stop-types-coded _ .0) (times-in-range _ _ .0)
-                  (there right 10 (omega arith));
+                  (named right "ExpectedArrivalTime" (omega arith));
               departure =
                   time-in right stop-type-at (omega arith) type (bytes "LAST") 2 departure-at Kinds.Departure "ExpectedDepartureTime" (stop-types-coded _ .2) (times-in-range _ _ .1)
-                  (there right 11 (omega arith));
+                  (named right "ExpectedDepartureTime" (omega arith));
             };
-        stamp = spelled-in right stamp-at stamp-wide Kinds.Stamp "LastUpdateTimeStamp" (there right 8 (omega arith)) (λ (n : ℕ). inStampRange n ≡ true) (stamps-in-range _ _);
-        status = byte-in right status-at Kinds.Status "TripStopStatus" (λ (n : ℕ). n ≤ 5) (omega arith) (there right 9 (omega arith)) (words-in-range .0 _ _);
-        show-cancelled = optional-in right show-cancelled-at Kinds.Bit kept "ShowCancelledTrip" (λ (n : ℕ). n ≤ 1) (omega arith) (there right 13 (omega arith)) (words-in-range .2 _ _);
-        flexible = optional-in right flexible-at Kinds.Flexible kept "ShowFlexibleTrip" (λ (n : ℕ). (1 ≤ n) × (n ≤ 3)) (omega arith) (there right 14 (omega arith)) (words-in-range .3 _ _);
-        monitored = optional-in right monitored-at Kinds.Bit kept "Monitored" (λ (n : ℕ). n ≤ 1) (omega arith) (there right 15 (omega arith)) (words-in-range .2 _ _);
+        stamp = spelled-in right stamp-at stamp-wide Kinds.Stamp "LastUpdateTimeStamp" (named right "LastUpdateTimeStamp" (omega arith)) (λ (n : ℕ). inStampRange n ≡ true) (stamps-in-range _ _);
+        status = byte-in right status-at Kinds.Status "TripStopStatus" (λ (n : ℕ). n ≤ 5) (omega arith) (named right "TripStopStatus" (omega arith)) (words-in-range .0 _ _);
+        show-cancelled = optional-in right show-cancelled-at Kinds.Bit kept "ShowCancelledTrip" (λ (n : ℕ). n ≤ 1) (omega arith) (named right "ShowCancelledTrip" (omega arith)) (words-in-range .2 _ _);
+        flexible = optional-in right flexible-at Kinds.Flexible kept "ShowFlexibleTrip" (λ (n : ℕ). (1 ≤ n) × (n ≤ 3)) (omega arith) (named right "ShowFlexibleTrip" (omega arith)) (words-in-range .3 _ _);
+        monitored = optional-in right monitored-at Kinds.Bit kept "Monitored" (λ (n : ℕ). n ≤ 1) (omega arith) (named right "Monitored" (omega arith)) (words-in-range .2 _ _);
       }
 
   row-in-range : updateInRange (rowOf Message ls l) ≡ true

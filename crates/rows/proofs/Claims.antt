@@ -1,5 +1,7 @@
 -- The claims of `specs/Claims.antt`. Assumes nothing.
 use mathlib.Core.Path.{_∙_}
+use Rattle.lists.specs.Text.{bytes}
+use Rattle.turbo_labels.proofs.LookupLaws.{lookup-by-name}
 use Rattle.rows.specs.Claims.{All}
 use Rattle.rows.proofs.LabelLaws.{faultless, once, there}
 use Rattle.rows.proofs.RowLaws.{shape-reads, row-length, row-part}
@@ -8,6 +10,7 @@ use Rattle.rows.proofs.UnderLaws.{cell-stands, cell-absent, right-none,
 pub claims : All
 claims = (
   λ t labels. (λ e. (once t labels e, there t labels e), λ p. faultless t labels (p .0) (p .1)),
+  λ labels line. lookup-by-name line (bytes "JourneyStopType") labels,
   shape-reads,
   row-length,
   λ t labels line e w j h. (

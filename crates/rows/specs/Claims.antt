@@ -6,6 +6,7 @@ use mathlib.Core.List.{List, []}
 use mathlib.Core.Logic.{_⊎_, _↔_}
 use lib.ListN.{length, getD}
 use Rattle.lists.specs.Part.{part, some}
+use Rattle.lists.specs.Text.{bytes}
 use Rattle.turbo.specs.Split.{fieldAt}
 use Rattle.turbo_labels.specs.Columns.{columnOf}
 use Rattle.turbo_labels.specs.Claims.{Twice}
@@ -39,6 +40,14 @@ cellBy t labels line j p = cellOf (columnAt t j) (stopField labels line) (fieldA
 -- the part of column j in a row
 abbrev pub partOf : Table → ℕ → List ℕ → List ℕ
 partOf t j row = part (offset t j) (width (kindAt t j)) row
+
+-- The stop type by which a time of a line may be missing is the line's own: the field under JourneyStopType, wherever that stands once; no bytes where it is missing.
+abbrev pub OwnStopType : Type 0
+OwnStopType =
+    (labels : List (List ℕ)) (line : List ℕ)
+    → let word = bytes "JourneyStopType" in
+    ((p : ℕ) → p < length labels → getD labels p [] ≡ word → (Twice word labels → ⊥) → stopField labels line ≡ fieldAt p line)
+    × (((p : ℕ) → p < length labels → getD labels p [] ≡ word → ⊥) → stopField labels line ≡ [])
 
 -- By the shape of a label line without a fault, the code reads a line as its labels say: its row, or its first wrong column.
 abbrev pub ReadByLabels : Type 0
@@ -97,4 +106,4 @@ OrderIsFree =
     × (((j : ℕ) → j < wanted t → Twice (nameOf (columnAt t j)) labels′ → ⊥) → labelFault t labels ≡ false → labelFault t labels′ ≡ false)
 
 abbrev pub All : Type 0
-All = FaultlessLabels × ReadByLabels × RowsWide × RowHoldsLine × NoneWrong × FirstWrong × OrderIsFree
+All = FaultlessLabels × OwnStopType × ReadByLabels × RowsWide × RowHoldsLine × NoneWrong × FirstWrong × OrderIsFree
