@@ -18,7 +18,7 @@ fn days_of_month(year: u32, month: u32) -> u32 {
 
 /// The calendar: every fourth year, but of the hundreds only every fourth.
 fn is_leap(year: u32) -> bool {
-    year % 4 == 0 && (year % 100 != 0 || year % 400 == 0)
+    year.is_multiple_of(4) && (!year.is_multiple_of(100) || year.is_multiple_of(400))
 }
 
 /// 2.5: days from 2000-01-01 to a date.

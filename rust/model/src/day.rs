@@ -104,7 +104,7 @@ fn numbers_rise(updates: &[Update]) -> bool {
 
 /// 4.6: a register is sound by its length alone: whole pairs, at most 64.
 pub fn sound_register(register: &[u8]) -> bool {
-    register.len() % PAIR_BYTES == 0 && register.len() <= REGISTER_PAIRS * PAIR_BYTES
+    register.len().is_multiple_of(PAIR_BYTES) && register.len() <= REGISTER_PAIRS * PAIR_BYTES
 }
 
 /// 4.4: whether a sender may send for an owner: where some pair has both, byte for byte. A pair with sender 0 grants nothing.

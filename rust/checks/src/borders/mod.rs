@@ -1,0 +1,21 @@
+//! Fixed cases at the borders of the scope's rules. Each is run against every side of a panel: they must agree, and say what stands
+//! here.
+
+pub mod boards;
+pub mod fields;
+pub mod refusals;
+pub mod rows;
+pub mod sizes;
+pub mod sound;
+
+use crate::panel::listed;
+
+listed! {
+    boards: show_rule, horizon, question, months, order, full_table;
+    fields: texts, numbers, words, times, no_content, absent, months, stamps, one_byte, every_day;
+    refusals: message_causes, open_causes, withdraw_causes, owners, forms, syntax, far_faults, joins;
+    rows: status, optionals, new_rows, close, disagreeing, entries;
+    sizes: dossier, register, full_book, book_room, table_room, counts, open_room, most_lines, many_columns, areas, many_messages,
+        withdrawal_room;
+    sound: numbers, dates, times, codes, texts, one_byte, rising, messages, lent_only;
+}
