@@ -1,11 +1,13 @@
 //! A call kept in a folder: its numbers in `call.txt`, and a file for each piece of bytes that it is lent.
 //!
-//!     message
-//!     sender 7
-//!     used 139
-//!     rows 1
-//!     shift 0
-//!     answer 0 2 0 0 211 1
+//! ```text
+//! message
+//! sender 7
+//! used 139
+//! rows 1
+//! shift 0
+//! answer 0 2 0 0 211 1
+//! ```
 //!
 //! with the files `dossier`, `register`, `book` and `table`. The answer is what all sides gave when the case was kept.
 

@@ -71,7 +71,7 @@ const fn judge<S: Side>(every: u64) -> Judge {
 }
 
 /// Every side. The first is the one that a run goes on from; the others are compared with it.
-pub const JUDGES: &[Judge] = &[judge::<Proved>(1), judge::<Rival>(1), judge::<Model>(1), judge::<Typed>(4)];
+pub const JUDGES: &[Judge] = &[judge::<Proved>(1), judge::<Rival>(1), judge::<Model>(2), judge::<Typed>(4)];
 
 /// A test for every side: the generic function of that name as a test in a module of the side's name.
 #[macro_export]
