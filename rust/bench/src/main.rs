@@ -1,6 +1,8 @@
 //! Times the proved library against the rival, in one run on the same input.
 //!
-//!     bench [SAMPLES]
+//! ```text
+//! bench [SAMPLES]
+//! ```
 //!
 //! Samples of the two sides alternate. Before each one the lent bytes are set anew, outside the
 //! measured time. The table printed gives the median and, in brackets, the 10th and the 90th

@@ -74,6 +74,18 @@ pub fn perform<S: Side>(job: &Job) -> Outcome {
     })
 }
 
+/// Whether a side leaves just what another has left. Nothing is copied to tell.
+pub fn agrees<S: Side>(job: &Job, other: &Outcome) -> bool {
+    ROOMS.with_borrow_mut(|rooms| {
+        let answer = rooms.call::<S>(job);
+        let written = match job.call {
+            Call::Board { .. } => rooms.places.content() == other.places,
+            _ => rooms.book.content() == other.book,
+        };
+        answer == other.answer && written && rooms.table.content() == other.table && rooms.stray(job) == other.stray
+    })
+}
+
 impl Rooms {
     fn call<S: Side>(&mut self, job: &Job) -> [u64; 6] {
         let Rooms { first, other, book, table, places } = self;

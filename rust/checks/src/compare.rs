@@ -7,7 +7,7 @@ use std::thread;
 use std::time::Duration;
 
 use crate::call::Job;
-use crate::difference::{difference, see};
+use crate::difference::agreed;
 use crate::pages::making;
 use crate::sides::Judge;
 use crate::tally::Tally;
@@ -91,13 +91,12 @@ impl Task<'_> {
             making(self.seed, index);
             let job = run.next_job();
             let judges: Vec<Judge> = self.judges.iter().filter(|judge| index % judge.every == 0).copied().collect();
-            let mut seen = see(&job, &judges);
-            if let Some(words) = difference(&job, &seen) {
-                return Some(Found { index, job, words });
-            }
-            if let (_, Ok(outcome)) = seen.swap_remove(0) {
-                tally.count(&job, &outcome.answer);
-                run.learn(job, outcome);
+            match agreed(&job, &judges) {
+                Ok(outcome) => {
+                    tally.count(&job, &outcome.answer);
+                    run.learn(job, outcome);
+                }
+                Err(words) => return Some(Found { index, job, words }),
             }
             done.fetch_add(1, Ordering::Relaxed);
         }

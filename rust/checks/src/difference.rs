@@ -13,7 +13,19 @@ pub type Seen = (&'static str, Result<Outcome, String>);
 
 /// Gives the job to each judge.
 pub fn see(job: &Job, judges: &[Judge]) -> Vec<Seen> {
-    judges.iter().map(|judge| (judge.name, attempt(judge, job))).collect()
+    judges.iter().map(|judge| (judge.name, attempt(|| (judge.perform)(job)))).collect()
+}
+
+/// What the first judge leaves, where nothing is wrong with it and all others leave the same; else what is wrong.
+pub fn agreed(job: &Job, judges: &[Judge]) -> Result<Outcome, String> {
+    let first = attempt(|| (judges[0].perform)(job));
+    if let Ok(outcome) = &first {
+        let same = |judge: &Judge| attempt(|| (judge.agrees)(job, outcome)) == Ok(true);
+        if outcome.complaint(job).is_none() && judges[1..].iter().all(same) {
+            return first;
+        }
+    }
+    Err(difference(job, &see(job, judges)).unwrap_or("a side does not do the same again".to_string()))
 }
 
 thread_local! {
@@ -25,9 +37,9 @@ pub fn trying() -> bool {
     TRYING.get()
 }
 
-fn attempt(judge: &Judge, job: &Job) -> Result<Outcome, String> {
+fn attempt<T>(call: impl FnOnce() -> T) -> Result<T, String> {
     TRYING.set(true);
-    let tried = catch_unwind(AssertUnwindSafe(|| (judge.perform)(job)));
+    let tried = catch_unwind(AssertUnwindSafe(call));
     TRYING.set(false);
     tried.map_err(|panic| {
         let words = panic.downcast_ref::<String>().map(String::as_str);

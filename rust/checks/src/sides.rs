@@ -2,7 +2,7 @@
 
 use zhemdurak::{Counts, Date, Day, Dossier, MessageNumber, Question, Refusal, Register, Sender};
 
-use crate::call::{perform, Job, Outcome};
+use crate::call::{agrees, perform, Job, Outcome};
 
 /// The calls as every side has them: the one list of their parameters here. `$then` makes something of it.
 macro_rules! calls {
@@ -62,16 +62,18 @@ calls!(forward! { Model "model" = model });
 pub struct Judge {
     pub name: &'static str,
     pub perform: fn(&Job) -> Outcome,
+    /// Whether it leaves just what another has left.
+    pub agrees: fn(&Job, &Outcome) -> bool,
     /// It judges one call in so many.
     pub every: u64,
 }
 
 const fn judge<S: Side>(every: u64) -> Judge {
-    Judge { name: S::NAME, perform: perform::<S>, every }
+    Judge { name: S::NAME, perform: perform::<S>, agrees: agrees::<S>, every }
 }
 
 /// Every side. The first is the one that a run goes on from; the others are compared with it.
-pub const JUDGES: &[Judge] = &[judge::<Proved>(1), judge::<Rival>(1), judge::<Model>(2), judge::<Typed>(4)];
+pub const JUDGES: &[Judge] = &[judge::<Proved>(1), judge::<Rival>(1), judge::<Model>(2), judge::<Typed>(8)];
 
 /// A test for every side: the generic function of that name as a test in a module of the side's name.
 #[macro_export]

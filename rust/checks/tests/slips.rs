@@ -7,9 +7,11 @@ use checks::difference::{difference, see};
 use checks::shrink::shrink;
 use checks::sides::{Judge, Rival, JUDGES};
 
-/// The rival's answers, changed by a slip.
-fn slipping(perform: fn(&Job) -> Outcome) -> [Judge; 2] {
-    [JUDGES[1], Judge { name: "slip", perform, every: 1 }]
+/// The rival, and the rival with a slip in what it leaves.
+macro_rules! slipping {
+    ($slip:ident) => {
+        [JUDGES[1], Judge { name: "slip", perform: $slip, agrees: |job, other| $slip(job) == *other, every: 1 }]
+    };
 }
 
 /// A row that is new in the table counts as not heard.
@@ -59,7 +61,7 @@ fn cut_down(judges: &[Judge]) -> (Job, String) {
 
 #[test]
 fn the_first_byte_is_named() {
-    let (job, words) = cut_down(&slipping(unheard));
+    let (job, words) = cut_down(&slipping!(unheard));
     assert_eq!(words, "message: tables differ first at byte 66 (row 0, its heard): 1 by rival, 0 by slip");
     let Call::Message { dossier, register, .. } = job.call else { panic!("a message") };
     assert_eq!(dossier.iter().filter(|&&byte| byte == b'\n').count(), 4, "{}", dossier.escape_ascii());
@@ -68,7 +70,7 @@ fn the_first_byte_is_named() {
 
 #[test]
 fn a_call_is_cut_down_to_what_matters() {
-    let (job, words) = cut_down(&slipping(late));
+    let (job, words) = cut_down(&slipping!(late));
     assert_eq!(words.split(" and ").next(), Some("message: answers [3, 0, 0, 0, 0, 0]"), "{words}");
     assert!(words.ends_with("differ in their value: 0 by rival, 1 by slip"), "{words}");
     let Call::Message { dossier, register, .. } = job.call else { panic!("a message") };
@@ -77,23 +79,23 @@ fn a_call_is_cut_down_to_what_matters() {
 
 #[test]
 fn a_panic_is_a_difference() {
-    let (job, words) = cut_down(&slipping(panics));
+    let (job, words) = cut_down(&slipping!(panics));
     assert!(words.ends_with(": slip panicked: three rows"), "{words}");
     assert!(job.lent.rows >= 3);
 }
 
 #[test]
 fn an_entry_of_the_book_is_named() {
-    let (job, words) = cut_down(&slipping(forgets));
+    let (job, words) = cut_down(&slipping!(forgets));
     assert_eq!(words, "withdraw: books differ first at byte 0 (entry 0, its kind): 3 by rival, 2 by slip");
     assert_eq!((job.lent.used, job.lent.book.len()), (72, 72));
 }
 
 #[test]
 fn threads_change_nothing() {
-    for slip in [unheard, late, forgets] {
-        let one = first_difference(&slipping(slip), 1);
-        assert_eq!(one, first_difference(&slipping(slip), 3));
+    for judges in [slipping!(unheard), slipping!(late), slipping!(forgets)] {
+        let one = first_difference(&judges, 1);
+        assert_eq!(one, first_difference(&judges, 3));
         assert_eq!(one.1, job_at(1, one.0, JUDGES[1]));
     }
     let tally = |threads| Task { calls: 3_021, seed: 9, threads, judges: &JUDGES[..2] }.run(|_| {});

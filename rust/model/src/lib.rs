@@ -6,8 +6,6 @@
 //! that was decided there, that is no evidence for the decision.
 
 #![forbid(unsafe_code)]
-// A remainder of 0 reads as the scope says it.
-#![allow(clippy::manual_is_multiple_of)]
 
 mod answer;
 mod board;

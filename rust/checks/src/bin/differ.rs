@@ -1,10 +1,12 @@
 //! Holds the proved library and the other implementations against each other.
 //!
-//!     differ [CALLS [SEED]]             so many calls (1,000,000) of a seed (1; `new` takes one from the clock)
-//!     differ --replay SEED INDEX        what each side answers to one of them
-//!     differ --case FOLDER SEED INDEX   keeps that call in a folder, as small as it shows the same
-//!     differ --case FOLDER              what each side answers to the call kept in a folder
-//!     differ --gather FOLDER SEED       keeps a small call for each number of each call that the folder has none for
+//! ```text
+//! differ [CALLS [SEED]]             so many calls (1,000,000) of a seed (1; `new` takes one from the clock)
+//! differ --replay SEED INDEX        what each side answers to one of them
+//! differ --case FOLDER SEED INDEX   keeps that call in a folder, as small as it shows the same
+//! differ --case FOLDER              what each side answers to the call kept in a folder
+//! differ --gather FOLDER SEED       keeps a small call for each number of each call that the folder has none for
+//! ```
 //!
 //! Before these, `--threads N` sets how many threads work; as many as there are processors unless told. Each call goes
 //! to every side with separate copies of the same lent bytes; answers and all lent bytes afterwards are compared whole.
