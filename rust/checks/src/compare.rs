@@ -93,7 +93,7 @@ impl Task<'_> {
             let judges: Vec<Judge> = self.judges.iter().filter(|judge| index % judge.every == 0).copied().collect();
             match agreed(&job, &judges) {
                 Ok(outcome) => {
-                    tally.count(&job, &outcome.answer);
+                    tally.count(&job, &outcome);
                     run.learn(job, outcome);
                 }
                 Err(words) => return Some(Found { index, job, words }),

@@ -7,6 +7,7 @@ pub mod borders;
 pub mod call;
 pub mod case;
 pub mod compare;
+pub mod coverage;
 pub mod difference;
 pub mod lend;
 pub mod lines;

@@ -38,6 +38,11 @@ struct Told<'a> {
     sent: Vec<Sent>,
 }
 
+/// A layout without so many columns that a dossier could be too long.
+fn layout(random: &mut Random) -> Layout {
+    *random.pick(&[Layout::Wanted, Layout::Permuted, Layout::Full])
+}
+
 /// A dossier of one wanted table.
 fn written(table: Table, random: &mut Random) -> Vec<u8> {
     Dossier { group: group(random), tables: vec![table] }.bytes()
@@ -62,7 +67,7 @@ impl<'a> Told<'a> {
         let world = World::new(random.range(2, 7), &mut random);
         loop {
             let plan = Plan::small(&world, &mut random);
-            let times = table(&PLANNING, Layout::any(&mut random), &plan.planning(), &mut random);
+            let times = table(&PLANNING, layout(&mut random), &plan.planning(), &mut random);
             let bodies = plan_bodies(&plan, &times.columns);
             let (planning, calendar) = (written(times, &mut random), calendar_of(&plan, &mut random));
             let mut day = Day::new(panel, 80_000 + random.below(100), 400 * 67 + random.below(67));
@@ -100,7 +105,7 @@ impl<'a> Told<'a> {
     fn send(&mut self) -> u32 {
         let passages = self.passages();
         let lines: Vec<Line> = passages.iter().map(|passage| Line { passage, level: &passage.key.line }).collect();
-        let table = table(&MESSAGE, Layout::any(&mut self.random), &lines, &mut self.random);
+        let table = table(&MESSAGE, layout(&mut self.random), &lines, &mut self.random);
         let bodies = passages.iter().map(|passage| meant(passage, &table.columns, 255)).collect();
         let dossier = written(table, &mut self.random);
         let sender = *self.random.pick(&[1, 7, 128, 255]);
@@ -172,7 +177,7 @@ fn plan_bodies(plan: &Plan, columns: &[Column]) -> Vec<Vec<u8>> {
 }
 
 fn calendar_of(plan: &Plan, random: &mut Random) -> Vec<u8> {
-    let days = table(&CALENDAR, Layout::any(random), &plan.calendar(), random);
+    let days = table(&CALENDAR, layout(random), &plan.calendar(), random);
     written(days, random)
 }
 
@@ -238,8 +243,8 @@ pub mod days {
             let mut random = Random::new(13, number);
             let world = World::new(random.range(2, 7), &mut random);
             let plan = Plan::small(&world, &mut random);
-            let mut times = table(&PLANNING, Layout::any(&mut random), &plan.planning(), &mut random);
-            let mut days = table(&CALENDAR, Layout::any(&mut random), &plan.calendar(), &mut random);
+            let mut times = table(&PLANNING, layout(&mut random), &plan.planning(), &mut random);
+            let mut days = table(&CALENDAR, layout(&mut random), &plan.calendar(), &mut random);
             let mut left = None;
             for _ in 0..4 {
                 random.shuffle(&mut times.rows);

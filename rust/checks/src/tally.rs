@@ -5,7 +5,8 @@ use std::fmt;
 
 use layout::{numbers_of, refusal, CALLS};
 
-use crate::call::{Call, Job};
+use crate::call::{Call, Job, Outcome};
+use crate::coverage::Coverage;
 
 /// Each number that the layout lists for a call is to be met at least once in so many calls.
 const CALLS_PER_MEETING: u64 = 50_000;
@@ -22,11 +23,13 @@ pub struct Tally {
     several: u64,
     cut: u64,
     total: u64,
+    coverage: Coverage,
 }
 
 impl Tally {
-    pub fn count(&mut self, job: &Job, answer: &[u64; 6]) {
-        let [number, value, second, dossier, ..] = *answer;
+    pub fn count(&mut self, job: &Job, outcome: &Outcome) {
+        self.coverage.count(job, outcome);
+        let [number, value, second, dossier, ..] = outcome.answer;
         *self.numbers.entry((job.call.kind(), number)).or_default() += 1;
         self.total += 1;
         if dossier != 0 {
@@ -56,6 +59,12 @@ impl Tally {
         self.several += other.several;
         self.cut += other.cut;
         self.total += other.total;
+        self.coverage.add(&other.coverage);
+    }
+
+    /// All that was reached, by name.
+    pub fn coverage(&self) -> &Coverage {
+        &self.coverage
     }
 
     /// What is wrong with the numbers met: those listed that were met too seldom, and those that are not listed. A short
@@ -75,6 +84,8 @@ impl Tally {
                 faults.push(format!("not listed: number {number} of {}", call.name()));
             }
         }
+        let short = self.coverage.short().into_iter();
+        faults.extend(short.map(|(name, met, least)| format!("met {met} times and not {least}: {name}")));
         faults
     }
 
@@ -124,7 +135,7 @@ mod tests {
                 let job = run.next_job();
                 let outcome = perform::<Rival>(&job);
                 assert_eq!(outcome.complaint(&job), None);
-                tally.count(&job, &outcome.answer);
+                tally.count(&job, &outcome);
                 run.learn(job, outcome);
             }
         }
@@ -135,7 +146,8 @@ mod tests {
     fn a_number_that_nobody_knows_is_told_of() {
         let mut tally = Tally::default();
         let job = Run::new(1, 0).next_job();
-        tally.count(&job, &[99, 0, 0, 7, 0, 0]);
+        let outcome = Outcome { answer: [99, 0, 0, 7, 0, 0], ..perform::<Rival>(&job) };
+        tally.count(&job, &outcome);
         assert!(tally.faults()[0].starts_with("not listed: number 99 of "), "{tally}");
     }
 }

@@ -23,10 +23,10 @@ fn unheard(job: &Job) -> Outcome {
     outcome
 }
 
-/// A fault of syntax is told one byte late.
+/// A message's fault of syntax is told one byte late.
 fn late(job: &Job) -> Outcome {
     let mut outcome = perform::<Rival>(job);
-    outcome.answer[1] += u64::from(outcome.answer[0] == 3);
+    outcome.answer[1] += u64::from(outcome.answer[0] == 3 && matches!(job.call, Call::Message { .. }));
     outcome
 }
 

@@ -107,8 +107,12 @@ pub fn columns(form: &Form, layout: Layout, random: &mut Random) -> Vec<Column> 
         random.shuffle(&mut columns);
     }
     if layout == Layout::Mixed {
-        // Now and then so many that a column's place no longer fits in a byte.
-        let unwanted = if random.one_in(150) { random.range(200, 400) } else { random.range(1, 8) };
+        // Now and then so many that a column's place no longer fits in a byte, or has four digits.
+        let unwanted = match random.below(60) {
+            0 => random.range(200, 400),
+            1 => random.range(1_000, 2_000),
+            _ => random.range(1, 8),
+        };
         for _ in 0..unwanted {
             let name = random.pick(&UNWANTED_NAMES).as_bytes().to_vec();
             columns.insert(random.below(columns.len() + 1), Column { name, kind: None });

@@ -64,6 +64,14 @@ impl Key {
 }
 
 impl Passage {
+    /// Makes its line short: at its first stop, with no arrival.
+    pub fn shorten(&mut self) {
+        (self.stop_type, self.arrival) = (FIRST, NO_TIME);
+        if self.departure == NO_TIME {
+            self.departure = 36_000;
+        }
+    }
+
     pub fn body(&self) -> [u8; BODY_WIDE] {
         let mut bytes = [0; BODY_WIDE];
         bytes[..KEY_WIDE].copy_from_slice(&self.key.bytes());

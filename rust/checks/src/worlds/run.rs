@@ -19,7 +19,10 @@ use crate::call::{Call, Job, Outcome};
 pub const CALLS_PER_RUN: u64 = 50;
 
 /// One run in so many has states at the sizes' limits; they cost most of their time in soundness.
-const LARGE_EVERY: usize = 40;
+const LARGE_EVERY: usize = 30;
+
+/// One run in so many is at busy stops.
+const BUSY_EVERY: usize = 4;
 
 pub struct Run {
     random: Random,
@@ -36,9 +39,14 @@ impl Run {
     pub fn new(seed: u64, number: u64) -> Run {
         let mut random = Random::new(seed, number);
         let large = random.one_in(LARGE_EVERY);
-        let dense = large && random.one_in(3);
-        let world = if large { World::large(dense, &mut random) } else { World::new(random.range(1, 8), &mut random) };
-        let forge = random.one_in(4);
+        let dense = large && random.one_in(2);
+        let busy = !large && random.one_in(BUSY_EVERY);
+        let world = match () {
+            _ if large => World::large(dense, &mut random),
+            _ if busy => World::busy(&mut random),
+            _ => World::new(random.range(1, 8), &mut random),
+        };
+        let forge = random.one_in(if large { 2 } else { 4 });
         let state = if forge { forged_day(&world, large, &mut random) } else { State::blank(0, 0, &mut random) };
         Run { random, world, state, large, dense, ready: forge }
     }
@@ -49,8 +57,9 @@ impl Run {
             _ if !self.ready => self.open(true),
             0..=15 => self.open(false),
             16 => self.open(true),
-            17..=59 => self.message(),
-            60..=79 => self.withdraw(),
+            17..=44 => self.message(),
+            45..=59 if !self.world.busy => self.message(),
+            60..=79 if !self.world.busy || self.random.one_in(2) => self.withdraw(),
             _ => self.board(),
         };
         if !matches!(job.call, Call::Open { .. }) {
@@ -123,7 +132,7 @@ impl Run {
         let count = match self.random.below(20) {
             0 => 0,
             1..=13 => self.random.range(1, 4),
-            _ if self.dense && self.random.one_in(4) => self.random.range(400, 760),
+            _ if self.dense && self.random.one_in(2) => self.random.range(500, 860),
             _ if self.large && self.random.one_in(4) => self.random.range(100, 450),
             _ => self.random.range(4, 12),
         };
@@ -131,6 +140,9 @@ impl Run {
         for _ in 0..count {
             let key = self.update_key(&passages);
             passages.push(self.world.passage(key, Role::Update, &mut self.random));
+        }
+        if count > 600 {
+            passages.iter_mut().for_each(Passage::shorten);
         }
         passages
     }
@@ -196,7 +208,12 @@ impl Run {
     fn question(&mut self) -> Question {
         let rows = self.state.row_count();
         let random = &mut self.random;
-        let horizon = *random.pick(&[0, 1, 60, 600, 1_800, 3_600, 40_000, 86_399, 86_400]);
+        let horizons: &[u32] = if self.world.busy {
+            &[600, 1_800, 3_600, 3_600, 40_000, 86_400]
+        } else {
+            &[0, 1, 60, 600, 1_800, 3_600, 40_000, 86_399, 86_400]
+        };
+        let horizon = *random.pick(horizons);
         if rows == 0 || random.one_in(15) {
             let key = self.world.key(random);
             let now = day_of_number(key.date) * DAY_SECONDS + random.below(86_400) as i64;
@@ -252,13 +269,20 @@ fn likely_shown(state: &State, random: &mut Random) -> usize {
 /// A sound state that no call has made.
 fn forged_day(world: &World, large: bool, random: &mut Random) -> State {
     if large {
-        let plans = *random.pick(&[0, 1_000, 2_000, 2_048, 2_100, 4_400]);
+        // With a multiple of 72 plan entries, updates can fill the book to its last byte.
+        let plans = *random.pick(&[0, 72, 1_008, 1_008, 2_016, 2_016, 2_048, 2_100, 4_400]);
         // Some books and tables are sound but for being larger than the sizes allow.
-        let book_bytes = BOOK + 300 - *random.pick(&[0, 300, 300, 400, 800, 5_300]);
-        let rows = ROWS + 1 - *random.pick(&[0, 1, 1, 1, 2, 3, 20]);
-        return forged(world, &Measure { plans, book_bytes, rows }, random);
+        let book_bytes = BOOK + 300 - *random.pick(&[0, 300, 300, 372, 372, 444, 444, 516, 516, 800, 5_300]);
+        let rows = ROWS + 1 - *random.pick(&[0, 1, 1, 1, 2, 3, 20, 300, 300]);
+        let mut state = forged(world, &Measure { plans, book_bytes, rows }, random);
+        if !random.one_in(3) {
+            let more = random.below(400);
+            state.relend_book(state.book.len().max(BOOK + more), random);
+            state.relend_table(state.table.len().max(ROWS * ROW + more), random);
+        }
+        return state;
     }
-    let most = *random.pick(&[1, 2, 3, 12]);
+    let most = if world.busy { 12 } else { *random.pick(&[1, 2, 3, 12]) };
     let plans = random.below(most + 1);
     let book_bytes = plans * PLAN_WIDE + UPDATE_WIDE * random.below(4 * most);
     let measure = Measure { plans, book_bytes, rows: random.below(2 * most + 1) };

@@ -93,8 +93,9 @@ pub struct Measure {
 pub fn forged(world: &World, measure: &Measure, random: &mut Random) -> State {
     let mut book = plan_entries(world, measure.plans, random);
     let mut number = 1;
-    while book.len() + 3 * UPDATE_WIDE <= measure.book_bytes {
-        push_message(&mut book, number, world, random);
+    while book.len() + UPDATE_WIDE <= measure.book_bytes {
+        let most = (measure.book_bytes - book.len()) / UPDATE_WIDE;
+        push_message(&mut book, number, most, world, random);
         number += 1;
     }
     let table = forged_rows(world, measure.rows, random);
@@ -133,12 +134,18 @@ fn plan_entries(world: &World, count: usize, random: &mut Random) -> Vec<u8> {
     book
 }
 
-/// One to three entries of one message, standing or withdrawn.
-fn push_message(book: &mut Vec<u8>, number: u32, world: &World, random: &mut Random) {
+/// One to three entries of one message, standing or withdrawn, but no more than the most; about passages of the plan and others.
+fn push_message(book: &mut Vec<u8>, number: u32, most: usize, world: &World, random: &mut Random) {
+    let plans = book.chunks(PLAN_WIDE).take_while(|entry| entry[0] == KIND_PLAN).take(40).count();
     let kind = if random.one_in(3) { KIND_WITHDRAWN } else { KIND_STANDING };
     let sender = *random.pick(&world.senders);
-    for _ in 0..random.range(1, 3) {
-        let passage = world.passage(world.key(random), Role::Update, random);
+    for _ in 0..random.range(1, 3).min(most) {
+        let key = if plans > 0 && random.one_in(2) {
+            Key::read(&book[random.below(plans) * PLAN_WIDE + 1..])
+        } else {
+            world.key(random)
+        };
+        let passage = world.passage(key, Role::Update, random);
         book.push(kind);
         book.extend_from_slice(&number.to_be_bytes());
         book.push(sender);

@@ -16,6 +16,8 @@ pub struct World {
     pub orders: Vec<u16>,
     pub times: Vec<u32>,
     pub senders: Vec<u8>,
+    /// Passages that a board mostly shows, at few stops.
+    pub busy: bool,
 }
 
 /// What a passage is made for: it decides on the ranges of its fields.
@@ -41,7 +43,26 @@ impl World {
             orders: narrow(spread(size.min(5), &[0, 1, 2, 3, 255, 256, 998, 999], 1_000, random)),
             times: times(size, random),
             senders: (0..3).map(|_| *random.pick(&[1, 2, 3, 7, 128, 254, 255])).collect(),
+            busy: false,
         }
+    }
+
+    /// A world of many journeys at two stops: boards with several rows, in an order that is not the keys'.
+    pub fn busy(random: &mut Random) -> World {
+        let mut world = World::new(4, random);
+        world.owners.truncate(*random.pick(&[1, 1, 2]));
+        world.stops.truncate(*random.pick(&[1, 1, 2]));
+        world.lines.truncate(2);
+        world.levels.truncate(1);
+        world.dates.truncate(2);
+        world.journeys = (0..12).map(|_| random.below(1_000_000) as u32).collect();
+        world.orders = vec![1, 2];
+        // Around midnight, written as times of the one day and of the next.
+        let late: Vec<u32> = (0..12).map(|_| 85_000 + random.below(3_000) as u32).collect();
+        let early = late.iter().filter_map(|time| time.checked_sub(86_400));
+        world.times = early.chain(late.iter().copied()).collect();
+        world.busy = true;
+        world
     }
 
     /// A world with keys for a full table, and dates for plans beyond it. Where it is dense, texts
@@ -76,18 +97,25 @@ impl World {
 
     /// A sound passage of this role with this key.
     pub fn passage(&self, key: Key, role: Role, random: &mut Random) -> Passage {
-        let stop_type = *random.pick(&[0, 1, 1, 1, 2]);
+        let stop_type = *random.pick(if self.busy { &[0, 1, 1, 1, 1, 1, 1, 2] } else { &[0, 1, 1, 1, 2] });
         let plan = role == Role::Plan;
+        let statuses: &[u8] = if self.busy { &[0, 0, 1, 2, 3, 3, 3, 4, 4, 5] } else { &[0, 1, 2, 3, 4, 5] };
+        let flexibles: &[u8] = match (role, self.busy) {
+            (Role::Update, false) => &[1, 2, 3],
+            (Role::Update, true) => &[1, 1, 1, 1, 2, 3],
+            (_, false) => &[0, 0, 1, 2, 3],
+            (_, true) => &[0, 0, 0, 0, 1, 1, 2, 3],
+        };
         Passage {
             key,
             destination: *random.pick(&self.destinations),
             stamp: if matches!(role, Role::Plan | Role::Row { heard: false }) { 0 } else { stamp(random) },
-            status: if plan { 0 } else { random.below(6) as u8 },
+            status: if plan { 0 } else { *random.pick(statuses) },
             arrival: self.time(stop_type == FIRST, random),
             departure: self.time(stop_type == LAST, random),
             stop_type,
             show_cancelled: if plan { 1 } else { optional(role, &[0, 1], random) },
-            flexible: optional(role, if role == Role::Update { &[1, 2, 3] } else { &[0, 0, 1, 2, 3] }, random),
+            flexible: optional(role, flexibles, random),
             monitored: if plan { 0 } else { optional(role, &[0, 1], random) },
         }
     }
@@ -144,11 +172,12 @@ fn texts(count: usize, known: &[&[u8]], random: &mut Random) -> Vec<Text> {
         .collect()
 }
 
-/// Days next to each other, so that times after midnight meet those of the next day.
+/// Days next to each other, so that times after midnight meet those of the next day; mostly over a month's border.
 fn dates(count: usize, random: &mut Random) -> Vec<u32> {
-    let first = *random.pick(&[
-        20_000_101, 20_000_228, 20_000_229, 20_160_229, 20_160_301, 20_161_231, 20_230_228, 20_991_230, 20_991_228,
-    ]);
+    let known = *random.pick(&[20_000_101, 20_000_228, 20_160_228, 20_161_231, 20_230_228, 20_991_230, 20_991_228]);
+    let month = random.range(1, 1_199) as u32;
+    let border = (2000 + month / 12) * 10_000 + (month % 12 + 1) * 100 + 1;
+    let first = if random.one_in(4) { known } else { number_of_day(day_of_number(border) - 1) };
     let last = day_of_number(20_991_231);
     (0..count.max(1) as i64).map(|step| number_of_day((day_of_number(first) + step).min(last))).collect()
 }

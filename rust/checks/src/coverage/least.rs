@@ -1,0 +1,156 @@
+//! How often each thing has to be met in so many calls.
+
+use crate::worlds::columns::{Form, CALENDAR, MESSAGE, PLANNING};
+use crate::worlds::fields::STATUSES;
+
+/// Fewer calls than these say too little to be held to anything.
+const FEWEST: u64 = 20_000;
+
+/// What has to be met at least so often in 100,000 calls.
+const NAMED: &[(&str, u64)] = &[
+    ("1 by the register", 100),
+    ("1 by the used bytes", 100),
+    ("1 by the rows", 100),
+    ("1 by used bytes over the size", 10),
+    ("1 by rows over the size", 10),
+    ("1 by contents", 1_000),
+    ("2: planning", 10),
+    ("2: calendar", 6),
+    ("2: message", 20),
+    ("a dossier of 65,536 bytes is read", 20),
+    ("a dossier of 65,537 bytes", 20),
+    ("6: the desk", 100),
+    ("6: a sender", 500),
+    ("6: behind the first line", 100),
+    ("6: a sender of other owners", 100),
+    ("7: open, by what is lent", 100),
+    ("8: open, by what is lent", 50),
+    ("8: open, by the size", 8),
+    ("9: open", 100),
+    ("7: message, by what is lent", 100),
+    ("7: message, by the size", 10),
+    ("8: message, by what is lent", 100),
+    ("8: message, by the size", 10),
+    ("8: withdraw, by what is lent", 20),
+    ("8: withdraw, by the size", 5),
+    ("10: number 0", 100),
+    ("10: another number", 100),
+    ("11: by the desk", 20),
+    ("11: by the sender", 100),
+    ("12", 100),
+    ("13: owner", 100),
+    ("13: stop", 100),
+    ("13: date", 50),
+    ("13: second", 50),
+    ("13: horizon", 50),
+    ("5: in a line beyond 255", 5),
+    ("open: to the last byte lent", 100),
+    ("open: to the last row lent", 50),
+    ("open: over a dozen validities of a pass time", 50),
+    ("open: nothing joins", 50),
+    ("open: several owners", 200),
+    ("message: without rows", 200),
+    ("message: without rows, no room for one", 10),
+    ("message: to the last byte lent", 10),
+    ("message: to the last row lent", 50),
+    ("message: to row 2,048", 8),
+    ("message: onto 2,048 rows", 5),
+    ("message: of held passages alone", 500),
+    ("message: a number beyond 255", 5),
+    ("message: show cancelled says nothing", 1_000),
+    ("message: flexible says nothing", 1_000),
+    ("message: monitored says nothing", 1_000),
+    ("withdraw: by the desk", 200),
+    ("withdraw: by the sender", 1_000),
+    ("withdraw: rows leave", 500),
+    ("withdraw: two rows leave", 200),
+    ("withdraw: rows come", 50),
+    ("withdraw: in a full book", 3),
+    ("withdraw: an earlier row stands", 200),
+    ("withdraw: a later row stands", 200),
+    ("withdraw: no row stands", 500),
+    ("withdraw: a row of another withdrawn message", 100),
+    ("board: two rows and more", 4_000),
+    ("board: five rows and more", 1_200),
+    ("board: not in the keys' order", 2_000),
+    ("board: equal moments", 500),
+    ("board: cut by its places", 500),
+    ("board: places to spare", 2_000),
+    ("board: shown at now", 500),
+    ("board: shown at the horizon's end", 500),
+    ("board: hidden a second before now", 100),
+    ("board: hidden a second behind the horizon", 100),
+    ("board: shown behind midnight of its operating day", 500),
+    ("board: shown behind midnight of the question", 500),
+    ("board: shown on 2100-01-01", 20),
+    ("board: shown CANCEL", 200),
+    ("board: shown flexible TRUE", 200),
+    ("board: shown flexible REALTIME", 100),
+    ("board: hidden by FALSE alone", 100),
+    ("board: hidden by REALTIME alone", 50),
+    ("board: hidden by owner alone", 200),
+    ("board: hidden by stop alone", 200),
+    ("board: hidden by LAST alone", 200),
+    ("board: hidden by PASSED alone", 200),
+    ("board: hidden by before now alone", 200),
+    ("board: hidden by behind the horizon alone", 200),
+    ("board: hidden by CANCEL alone", 100),
+    ("board: hidden by flexible alone", 200),
+];
+
+/// What is rarer, in a million calls: fixed cases at the borders see to these as well.
+const RARE: &[(&str, u64)] = &[
+    ("5: in a column beyond 1,000", 5),
+    ("message: over 700 rows", 3),
+    ("open: 1,400 pass times of a date", 5),
+    ("7: open, by the size", 5),
+    ("open: to row 2,048", 20),
+    ("open: over 1,000 validities of a pass time", 20),
+    ("message: to byte 294,912", 10),
+    ("5: in a column beyond 255", 30),
+];
+
+/// What has to be met in so many calls, and how often.
+pub(super) fn least(calls: u64) -> Vec<(String, u64)> {
+    if calls < FEWEST {
+        return Vec::new();
+    }
+    let mut least: Vec<(String, u64)> = NAMED.iter().map(|(name, least)| (name.to_string(), *least)).collect();
+    least.extend(cells());
+    for (which, form) in [("message", &MESSAGE), ("planning", &PLANNING), ("calendar", &CALENDAR)] {
+        least.extend(dossiers(which, form));
+    }
+    let common = least.into_iter().map(|(name, least)| (name, least * calls / 100_000));
+    let rare = RARE.iter().map(|(name, least)| (name.to_string(), least * calls / 1_000_000));
+    // The ends of months are counted once each: more calls do not bring more of them in proportion.
+    let months = ("first and last days of months".to_string(), 1_000 * calls.min(100_000) / 100_000);
+    common.chain(rare).chain([months]).collect()
+}
+
+/// All 36 cells of table 17, by messages and by withdrawals.
+fn cells() -> Vec<(String, u64)> {
+    let cell = |held: &str, said: &str| {
+        [(format!("message: {held} then {said}"), 100), (format!("withdraw: {held} then {said}"), 10)]
+    };
+    STATUSES.iter().flat_map(|held| STATUSES.iter().flat_map(move |said| cell(held, said))).collect()
+}
+
+/// Refusals 3 to 5 of a dossier at each of their causes, every wanted column among them.
+fn dossiers(which: &str, form: &Form) -> Vec<(String, u64)> {
+    let causes = [
+        ("3", "at its end", 20),
+        ("3", "at a byte below 32", 20),
+        ("3", "at behind a backslash", 20),
+        ("3", "at behind CR", 5),
+        ("3", "at another byte", 10),
+        ("4", "a field less", 20),
+        ("4", "a field more", 20),
+        ("4", "a name twice", 20),
+        ("4", "a name missing", 20),
+        ("5", "empty", 20),
+        ("5", "no content", 20),
+        ("5", "outside its type", 50),
+    ];
+    let columns = form.wanted.iter().map(|wanted| (format!("5: {which}, {}", wanted.name), 10));
+    causes.iter().map(|(number, what, least)| (format!("{number}: {which}, {what}"), *least)).chain(columns).collect()
+}
