@@ -9,7 +9,7 @@
 
    THREADS. There is no data but what is lent, and what stands on the stack: calls may run side by side, in as many threads as wanted, if what one
    writes no other is lent. A call takes the same stack whatever it is passed: open 1 MB, message and withdraw less than 400 KB, board less than 10 KB
-   (measured on x86-64). Threads with small stacks need more than their default.
+   (on x86-64; `tools/stack` measures it). Threads with small stacks need more than their default.
 
    ANY BYTES and any numbers may be passed: a call refuses what it cannot take, and a refused call changes nothing but `answer`.
 
