@@ -189,6 +189,25 @@ pub fn forms(panel: &Panel) {
     assert_eq!(ask("\\T\\iDATEDPASSTIME\r\n\\Lx\r\n"), [0, 0, 0], "names are raw");
 }
 
+/// Lines far down: an unwanted table of so many empty lines, then one that gets 4, 5 or 6.
+pub fn far_lines(panel: &Panel) {
+    let wrong = [
+        (Line::update().with("Monitored", "2"), [5, 16]),
+        (Line::update().with("DataOwnerCode", "GVB"), [6, 0]),
+        (Line::update().without("UserStopCode"), [4, 0]),
+    ];
+    for empty in [0, 244, 245, 246, 247, 248, 249, 250, 251, 252, 253, 4_000, 30_000] {
+        for (line, [number, second]) in &wrong {
+            let said = message(std::slice::from_ref(line));
+            let before = format!("\\G\r\n\\TLINE\r\n\\Lx\r\n{}", "\r\n".repeat(empty));
+            let dossier = [before.as_bytes(), &said[4..]].concat();
+            let answer = Day::new(panel, 500, 500).message(dossier, 7, &pair(7, b"CXX"));
+            let at = empty as u64 + if *number == 4 { 5 } else { 6 };
+            assert_eq!(answer[..3], [*number, at, *second], "{empty} empty lines before");
+        }
+    }
+}
+
 /// Section 1: the form, by small dossiers and where each is at fault, or at none.
 pub fn syntax(panel: &Panel) {
     let cases: [(&str, Option<u64>); 46] = [
