@@ -189,6 +189,25 @@ pub fn forms(panel: &Panel) {
     assert_eq!(ask("\\T\\iDATEDPASSTIME\r\n\\Lx\r\n"), [0, 0, 0], "names are raw");
 }
 
+/// 5.3: of several wrong fields the first in the line's own order, whatever the order of the wanted columns; every two of them.
+pub fn first_field(panel: &Panel) {
+    let (names, fields) = (Line::update().names(), Line::update().fields());
+    for turn in 0..names.len() {
+        for (one, other) in [(0, 15), (3, 8), (10, 12), (7, 14), (11, 13)] {
+            let place = |wanted: usize| (wanted * 7 + turn) % 16;
+            let (mut label, mut line) = (vec![""; 16], vec![Vec::new(); 16]);
+            for wanted in 0..16 {
+                (label[place(wanted)], line[place(wanted)]) = (names[wanted], fields[wanted].clone());
+            }
+            (line[place(one)], line[place(other)]) = (Vec::new(), Vec::new());
+            let head = format!("\\G\r\n\\TDATEDPASSTIME\r\n\\L{}\r\n", label.join("|"));
+            let dossier = [head.as_bytes(), &line.join(&b'|'), b"\r\n"].concat();
+            let answer = Day::new(panel, 500, 500).message(dossier, 7, &pair(7, b"CXX"));
+            assert_eq!(answer[..3], [5, 4, 1 + place(one).min(place(other)) as u64], "{label:?}");
+        }
+    }
+}
+
 /// Lines far down: an unwanted table of so many empty lines, then one that gets 4, 5 or 6.
 pub fn far_lines(panel: &Panel) {
     let wrong = [
