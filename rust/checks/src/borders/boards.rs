@@ -93,22 +93,6 @@ pub fn question(panel: &Panel) {
     for (horizon, number) in [(0, 0), (86_400, 0), (86_401, 13), (u32::MAX, 13)] {
         assert_eq!(ask(Question { horizon, ..QUESTION }), number);
     }
-    for year in 2000..=2099 {
-        for month in 0..=13 {
-            let known = (1..=12).contains(&month);
-            let first = year * 10_000 + month * 100 + 1;
-            let next = if month == 12 { (year + 1) * 10_000 + 101 } else { first + 100 };
-            let last = if known { (day_of_number(next) - day_of_number(first)) as u32 } else { 31 };
-            for day in [0, 1, last, last + 1] {
-                let is_date = known && (1..=last).contains(&day);
-                let date = year * 10_000 + month * 100 + day;
-                assert_eq!(ask(Question { date, ..QUESTION }), if is_date { 0 } else { 13 }, "{date}");
-            }
-        }
-    }
-    for date in [0, 19_991_231, 21_000_101, 20_210_229, u32::MAX] {
-        assert_eq!(ask(Question { date, ..QUESTION }), 13);
-    }
     for length in 0..=12 {
         let text = &b"ABCDEFGHIJKL"[..length];
         let number = if (1..=10).contains(&length) { 0 } else { 13 };
@@ -126,6 +110,28 @@ pub fn question(panel: &Panel) {
     }
     day.state.table[55] = 6;
     assert_eq!(day.board(&Question { second: 86_400, ..QUESTION }, 2).1, [1, 0, 0]);
+}
+
+/// 8.1: a question's date at every month border of the century, and outside it.
+pub fn question_dates(panel: &Panel) {
+    let mut day = day_of(panel, &[row(1, 20_160_301, 36_000)]);
+    let mut ask = |question: Question| day.board(&question, 2).1[0];
+    for year in 2000..=2099 {
+        for month in 0..=13 {
+            let known = (1..=12).contains(&month);
+            let first = year * 10_000 + month * 100 + 1;
+            let next = if month == 12 { (year + 1) * 10_000 + 101 } else { first + 100 };
+            let last = if known { (day_of_number(next) - day_of_number(first)) as u32 } else { 31 };
+            for day in [0, 1, last, last + 1] {
+                let is_date = known && (1..=last).contains(&day);
+                let date = year * 10_000 + month * 100 + day;
+                assert_eq!(ask(Question { date, ..QUESTION }), if is_date { 0 } else { 13 }, "{date}");
+            }
+        }
+    }
+    for date in [0, 19_991_231, 21_000_101, 20_210_229, u32::MAX] {
+        assert_eq!(ask(Question { date, ..QUESTION }), 13);
+    }
 }
 
 /// 2.5: at every month border of the century the last day's 24:00:00 is the first day's 00:00:00, to the second.

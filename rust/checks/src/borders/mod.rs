@@ -11,9 +11,9 @@ pub mod sound;
 use crate::panel::listed;
 
 listed! {
-    boards: show_rule, horizon, question, months, order, full_table;
+    boards: show_rule, horizon, question, question_dates, months, order, full_table;
     fields: texts, numbers, words, times, no_content, absent, months, stamps, one_byte, every_day;
-    refusals: message_causes, open_causes, withdraw_causes, owners, forms, first_field, syntax, far_faults, far_lines, joins;
+    refusals: message_causes, open_causes, withdraw_causes, owners, forms, first_field, syntax, far_faults, far_lines, joins, joined;
     rows: status, optionals, new_rows, close, disagreeing, entries;
     sizes: dossier, register, full_book, book_room, table_room, counts, open_room, most_lines, many_columns, areas, many_messages,
         withdrawal_room;

@@ -227,57 +227,59 @@ pub fn far_lines(panel: &Panel) {
     }
 }
 
+/// Small dossiers, and where each is at fault, or at none.
+const FORMS: [(&str, Option<u64>); 46] = [
+    ("", Some(0)),
+    ("\\", Some(1)),
+    ("\\G", Some(2)),
+    ("\\G\r", Some(3)),
+    ("\\G\r\n", None),
+    ("\\Gx\r\n", None),
+    ("x", Some(0)),
+    ("\\T", Some(1)),
+    ("\\g", Some(1)),
+    ("\\G\n", Some(2)),
+    ("\\G\rx", Some(3)),
+    ("\\G\r\r\n", Some(3)),
+    ("\\G\r\nx", Some(4)),
+    ("\\G\r\n\r\n", Some(4)),
+    ("\\G\r\n\\", Some(5)),
+    ("\\G\r\n\\G", Some(5)),
+    ("\\G\r\n\\L", Some(5)),
+    ("\\G\r\n\\T", Some(6)),
+    ("\\G\r\n\\T\r\n", Some(8)),
+    ("\\G\r\n\\T\r\n\\T", Some(9)),
+    ("\\G\r\n\\T\r\n\r\n", Some(8)),
+    ("\\G\r\n\\T\r\nx", Some(8)),
+    ("\\G\r\n\\T\r\n\\L\r\n", None),
+    ("\\G\r\n\\T\r\n\\L\r\n\\T\r\n\\L\r\n", None),
+    ("\\G\r\n\\T\r\n\\L\r\n\\L", Some(13)),
+    ("\\G\r\n\\T\r\n\\L\r\n\\G", Some(13)),
+    ("\\G\r\n\\T\r\n\\L\r\n\r\n\r\n", None),
+    ("\\G\r\n\\T\r\n\\L\r\nx", Some(13)),
+    ("\\G\r\n\\T\r\n\\L\r\nx\\T", Some(14)),
+    ("\\G\r\n\\T\r\n\\L\r\n|\\T", Some(14)),
+    ("\\G\r\n\\T\r\n\\L\r\n\\0\r\n", None),
+    ("\\G\r\n\\T\r\n\\L\r\n\\0x", Some(14)),
+    ("\\G\r\n\\T\r\n\\L\r\n\\0\\", Some(14)),
+    ("\\G\r\n\\T\r\n\\L\r\nx\\0", Some(14)),
+    ("\\G\r\n\\T\r\n\\L\r\n\\i\\0", Some(15)),
+    ("\\G\r\n\\T\r\n\\L\r\n|\\0|\\0\r\n", None),
+    ("\\G\r\n\\T\r\n\\L\r\n\\r\\n\\i\\p\r\n", None),
+    ("\\G\r\n\\T\r\n\\L\r\n\\R", Some(13)),
+    ("\\G\r\n\\T\r\n\\L\r\n\\1", Some(13)),
+    ("\\G\\0\r\n", None),
+    ("\\Gx\\0\r\n", Some(4)),
+    ("\\G|\\0|\r\n\\T\\0\r\n\\L\\0|\\0\r\n", None),
+    ("\\G\\x\r\n", Some(3)),
+    ("\\G\t\r\n", Some(2)),
+    ("\\G\u{7f}\u{80}\r\n", None),
+    ("\\G\r\n\\T\r\n\\L\r\n\\0\rx", Some(15)),
+];
+
 /// Section 1: the form, by small dossiers and where each is at fault, or at none.
 pub fn syntax(panel: &Panel) {
-    let cases: [(&str, Option<u64>); 46] = [
-        ("", Some(0)),
-        ("\\", Some(1)),
-        ("\\G", Some(2)),
-        ("\\G\r", Some(3)),
-        ("\\G\r\n", None),
-        ("\\Gx\r\n", None),
-        ("x", Some(0)),
-        ("\\T", Some(1)),
-        ("\\g", Some(1)),
-        ("\\G\n", Some(2)),
-        ("\\G\rx", Some(3)),
-        ("\\G\r\r\n", Some(3)),
-        ("\\G\r\nx", Some(4)),
-        ("\\G\r\n\r\n", Some(4)),
-        ("\\G\r\n\\", Some(5)),
-        ("\\G\r\n\\G", Some(5)),
-        ("\\G\r\n\\L", Some(5)),
-        ("\\G\r\n\\T", Some(6)),
-        ("\\G\r\n\\T\r\n", Some(8)),
-        ("\\G\r\n\\T\r\n\\T", Some(9)),
-        ("\\G\r\n\\T\r\n\r\n", Some(8)),
-        ("\\G\r\n\\T\r\nx", Some(8)),
-        ("\\G\r\n\\T\r\n\\L\r\n", None),
-        ("\\G\r\n\\T\r\n\\L\r\n\\T\r\n\\L\r\n", None),
-        ("\\G\r\n\\T\r\n\\L\r\n\\L", Some(13)),
-        ("\\G\r\n\\T\r\n\\L\r\n\\G", Some(13)),
-        ("\\G\r\n\\T\r\n\\L\r\n\r\n\r\n", None),
-        ("\\G\r\n\\T\r\n\\L\r\nx", Some(13)),
-        ("\\G\r\n\\T\r\n\\L\r\nx\\T", Some(14)),
-        ("\\G\r\n\\T\r\n\\L\r\n|\\T", Some(14)),
-        ("\\G\r\n\\T\r\n\\L\r\n\\0\r\n", None),
-        ("\\G\r\n\\T\r\n\\L\r\n\\0x", Some(14)),
-        ("\\G\r\n\\T\r\n\\L\r\n\\0\\", Some(14)),
-        ("\\G\r\n\\T\r\n\\L\r\nx\\0", Some(14)),
-        ("\\G\r\n\\T\r\n\\L\r\n\\i\\0", Some(15)),
-        ("\\G\r\n\\T\r\n\\L\r\n|\\0|\\0\r\n", None),
-        ("\\G\r\n\\T\r\n\\L\r\n\\r\\n\\i\\p\r\n", None),
-        ("\\G\r\n\\T\r\n\\L\r\n\\R", Some(13)),
-        ("\\G\r\n\\T\r\n\\L\r\n\\1", Some(13)),
-        ("\\G\\0\r\n", None),
-        ("\\Gx\\0\r\n", Some(4)),
-        ("\\G|\\0|\r\n\\T\\0\r\n\\L\\0|\\0\r\n", None),
-        ("\\G\\x\r\n", Some(3)),
-        ("\\G\t\r\n", Some(2)),
-        ("\\G\u{7f}\u{80}\r\n", None),
-        ("\\G\r\n\\T\r\n\\L\r\n\\0\rx", Some(15)),
-    ];
-    for (dossier, fault) in cases {
+    for (dossier, fault) in FORMS {
         let answer = Day::new(panel, 0, 0).message(dossier.as_bytes().to_vec(), 7, &[]);
         assert_eq!(answer[..2], fault.map_or([0, 0], |at| [3, at]), "{dossier:?}");
         let answer = Day::new(panel, 0, 0).open(dossier.as_bytes().to_vec(), b"\\G\r\n".to_vec());
@@ -340,8 +342,12 @@ pub fn joins(panel: &Panel) {
     {
         assert_eq!(open(&[Line::pass_time(), Line::pass_time().with(name, "2")], &[Line::validity()]), 0, "{name}");
     }
+}
+
+/// 7.2: the plan by key in book and table, whatever the order of the calendar.
+pub fn joined(panel: &Panel) {
     let mut day = Day::new(panel, 300, 300);
-    let days = [valid("w", "2016-03-02"), valid("w", "2016-02-29"), valid("w", "2016-03-01")];
+    let days = ["2016-03-02", "2016-02-29", "2016-03-01"].map(|day| Line::validity().with("OperationDate", day));
     assert_eq!(day.open(planning(&[Line::pass_time()]), calendar(&days)), [0, 0, 0, 0, 201, 3]);
     for (place, date) in [20_160_229_u32, 20_160_301, 20_160_302].into_iter().enumerate() {
         let mut body = plan_body();
