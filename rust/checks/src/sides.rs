@@ -68,7 +68,7 @@ pub struct Judge {
     pub every: u64,
 }
 
-const fn judge<S: Side>(every: u64) -> Judge {
+pub const fn judge<S: Side>(every: u64) -> Judge {
     Judge { name: S::NAME, perform: perform::<S>, agrees: agrees::<S>, every }
 }
 
