@@ -1,10 +1,11 @@
 -- The worked day of the cases: its dossiers line by line, its register, and the calls on it. Assumes nothing.
-use Prim.Native.Nat.{ℕ}
+use Prim.Native.Nat.{ℕ, _+_, _*_}
 use Prim.Native.String.{String}
 use mathlib.Core.List.{List, [], _∷_, _++_, map}
 use lib.ListN.{replicate}
 use Rattle.lists.specs.Text.{bytes}
-use Rattle.passage.specs.Layout.{orderOf, statusOf, showCancelledOf, flexibleOf, monitoredOf}
+use Rattle.passage.specs.Layout.{row-wide, orderOf, statusOf, showCancelledOf, flexibleOf, monitoredOf}
+use Rattle.book.specs.Entries.{plan-wide, entry-wide}
 use Rattle.board_show.specs.Ask.{asked}
 use Rattle.calls.specs.Leaves.{Day, countsOf}
 use Rattle.runs.specs.Runs.{Call, Reply, replyTo, opened, dayAfter}
@@ -50,7 +51,7 @@ register = 1 ∷ bytes "CXX" ++ replicate 7 0
 
 -- room for a plan entry and three updates, and for three rows
 abbrev pub day : Day
-day = opened planning calendar (replicate 300 0) (replicate 210 0) (countsOf 0 0)
+day = opened planning calendar (replicate (plan-wide + 3 * entry-wide) 0) (replicate (3 * row-wide) 0) (countsOf 0 0)
 
 -- a message of sender 1 with these lines
 abbrev pub sent : List (List ℕ) → Call
