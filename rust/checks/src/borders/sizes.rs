@@ -378,10 +378,14 @@ pub fn withdrawal_room(panel: &Panel) {
         }
         state.rows = rows as u64;
         state.table.resize(lent * 67, 0xbb);
+        let before = state.clone();
         let mut day = Day::of(panel, state);
         assert_eq!(day.withdraw(1, 7)[0], number, "{rows} rows of {lent} lent");
         if number == 0 {
             assert_eq!(day.state.rows, rows as u64 + 1);
         }
+        let mut held = before;
+        held.table[27] = 0;
+        assert_eq!(Day::of(panel, held).withdraw(1, 7)[5], rows as u64, "a passage that the table holds needs no room");
     }
 }
