@@ -1,17 +1,30 @@
 -- What the ways through a line come to. Assumes nothing.
 use mathlib.Core.Path.{_≡_, refl, sym, ap, subst, _∙_}
-use mathlib.Core.Bool.{true, false}
-use mathlib.Core.Logic.{inl, inr}
+use mathlib.Core.Bool.{Bool, true, false, not, _&&_}
 use mathlib.Core.List.{List, [], _∷_}
 use Prim.Native.Nat.{ℕ, _+_, _%_, _^_, _≤_, _<_}
+use native.Mathlib.Omega.{arith}
 use borrow.Author.Tests.{lt-ltb, le-ltb}
-use lib.Dec.{ltb}
-use Rattle.script_text.specs.Rules.{appended}
+use lib.ListN.{length, take}
+use Rattle.lists.specs.Logic.{on}
+use Rattle.script_text.specs.Rules.{wordAt, appended}
+use Rattle.table.specs.Rules.{tableSound}
+use Rattle.board_show.specs.Ask.{Question, asked, asksInRange}
+use Rattle.board.specs.declared.Listing.{Listing}
+use Rattle.board.specs.declared.Listing.the-variants as Listings
+use Rattle.board.specs.Rules.{boardOf, boardNumbers, boardGives}
+use Rattle.calls.specs.declared.Answer.{Answer}
+use Rattle.calls.specs.declared.Answer.the-variants as Answers
+use Rattle.calls.specs.declared.Four.{Four}
 use Rattle.calls.specs.declared.Outcome.{Outcome}
+use Rattle.calls.specs.Answers.{numbers, isAccepted}
+use Rattle.calls.specs.inner.Steps.{fourOf}
 use Rattle.calls.specs.Leaves.{Leaves as CallLeaves, leaves}
+use Rattle.boards_saved.specs.declared.Saved.{Saved}
+use Rattle.boards_saved.specs.Saved.{dayIn, registerFrom, bookFrom, tableFrom}
 use Rattle.boards.specs.declared.script.Held.{Held}
 use Rattle.boards_orders.specs.declared.Order.{Order}
-use Rattle.boards.specs.Leaves.{State, state, missed, nextLine, holding, pairHeld, enrolledHeld, enrolledRegister, left, LineLeaves}
+use Rattle.boards.specs.Leaves.{State, state, more, missed, declined, nextLine, holding, pairHeld, enrolledHeld, enrolledRegister, left, askedBy, loadedHeld, loadedFrom, LineLeaves}
 
 -- the same held and the same bytes are the same state
 pub state-is : (h h′ : Held) (r r′ b b′ t t′ : List ℕ) → h ≡ h′ → r ≡ r′ → b ≡ b′ → t ≡ t′ → state h r b t ≡ state h′ r′ b′ t′
@@ -22,27 +35,73 @@ pub held-is : (h h′ : Held) (r b t : List ℕ) → h ≡ h′ → state h r b 
 held-is h h′ r b t p = ap (λ (x : Held). state x r b t) p
 
 -- what a call leaves, with its counts held
-pub left-is : (o : Outcome) (b t : List ℕ) (l : CallLeaves) (h r : Held) (s : State) → s .held ≡ h → r ≡ holding (o .counts) h → leaves o b t ≡ l → state r (s .register) b t ≡ left l s
+pub left-is : (o : Outcome) (b t : List ℕ) (l : CallLeaves) (h r : Held) (s : State) → s .held ≡ h → r ≡ holding o h → leaves o b t ≡ l → state r (s .register) b t ≡ left l s
 left-is o b t l h r s e p q =
     state-is
     r
-    (holding (l .outcome .counts) (s .held))
+    (holding (l .outcome) (s .held))
     (s .register)
     (s .register)
     b
     (l .book)
     t
     (l .table)
-    (p ∙ ap (λ (x : CallLeaves). holding (x .outcome .counts) h) q ∙ ap (holding (l .outcome .counts)) (sym e))
+    (p ∙ ap (λ (x : CallLeaves). holding (x .outcome) h) q ∙ ap (holding (l .outcome)) (sym e))
     refl
     (ap (λ (x : CallLeaves). x .book) q)
     (ap (λ (x : CallLeaves). x .table) q)
 
-pub missed-is : (h : Held) (n : ℕ) → n ≡ (h .bad + 1) % 2 ^ 32 → record { counts = h .counts; register = h .register; line = h .line; bad = n } ≡ missed h
-missed-is h n e = ap (λ (b : ℕ). record { counts = h .counts; register = h .register; line = h .line; bad = b }) e
+-- ---- what is held
 
-pub next-is : (h : Held) (n : ℕ) → n ≡ (h .line + 1) % 2 ^ 32 → record { counts = h .counts; register = h .register; line = n; bad = h .bad } ≡ nextLine h
-next-is h n e = ap (λ (k : ℕ). record { counts = h .counts; register = h .register; line = k; bad = h .bad }) e
+pub missed-is : (h : Held) (n : ℕ) → n ≡ more (h .bad) → record { counts = h .counts; register = h .register; day = h .day; line = h .line; bad = n; refused = h .refused } ≡ missed h
+missed-is h n e = ap (λ (b : ℕ). record { counts = h .counts; register = h .register; day = h .day; line = h .line; bad = b; refused = h .refused }) e
+
+pub declined-is : (h : Held) (n : ℕ) → n ≡ more (h .refused) → record { counts = h .counts; register = h .register; day = h .day; line = h .line; bad = h .bad; refused = n } ≡ declined h
+declined-is h n e = ap (λ (b : ℕ). record { counts = h .counts; register = h .register; day = h .day; line = h .line; bad = h .bad; refused = b }) e
+
+pub next-is : (h : Held) (n : ℕ) → n ≡ more (h .line) → record { counts = h .counts; register = h .register; day = h .day; line = n; bad = h .bad; refused = h .refused } ≡ nextLine h
+next-is h n e = ap (λ (k : ℕ). record { counts = h .counts; register = h .register; day = h .day; line = k; bad = h .bad; refused = h .refused }) e
+
+-- an answer's number says whether it is an acceptance
+number-accepted : (a : Answer) → numbers a .0 ≡ 0 → isAccepted a ≡ true
+number-accepted (Answers.Accepted n) h = refl
+number-accepted Answers.Unsound h = absurd (omega (arith, h))
+number-accepted (Answers.TooLong w) h = absurd (omega (arith, h))
+number-accepted (Answers.Syntax i w) h = absurd (omega (arith, h))
+number-accepted (Answers.Form l w) h = absurd (omega (arith, h))
+number-accepted (Answers.Field l c w) h = absurd (omega (arith, h))
+number-accepted (Answers.Owner l) h = absurd (omega (arith, h))
+number-accepted Answers.BookShort h = absurd (omega (arith, h))
+number-accepted Answers.TableShort h = absurd (omega (arith, h))
+number-accepted Answers.KeyTwice h = absurd (omega (arith, h))
+number-accepted Answers.NoMessage h = absurd (omega (arith, h))
+number-accepted Answers.AlreadyWithdrawn h = absurd (omega (arith, h))
+number-accepted Answers.OtherSender h = absurd (omega (arith, h))
+
+number-refused : (a : Answer) → (numbers a .0 ≡ 0 → ⊥) → isAccepted a ≡ false
+number-refused (Answers.Accepted n) h = absurd (h refl)
+number-refused Answers.Unsound h = refl
+number-refused (Answers.TooLong w) h = refl
+number-refused (Answers.Syntax i w) h = refl
+number-refused (Answers.Form l w) h = refl
+number-refused (Answers.Field l c w) h = refl
+number-refused (Answers.Owner l) h = refl
+number-refused Answers.BookShort h = refl
+number-refused Answers.TableShort h = refl
+number-refused Answers.KeyTwice h = refl
+number-refused Answers.NoMessage h = refl
+number-refused Answers.AlreadyWithdrawn h = refl
+number-refused Answers.OtherSender h = refl
+
+pub told-accepted : (o : Outcome) (h : Held) (f : Four) → f ≡ fourOf (numbers (o .answer)) → f .number ≡ 0
+    → record { counts = o .counts; register = h .register; day = true; line = h .line; bad = h .bad; refused = h .refused } ≡ holding o h
+told-accepted o h f e z = rw (number-accepted (o .answer) (ap (λ (x : Four). x .number) (sym e) ∙ z))
+
+pub told-refused : (o : Outcome) (h d : Held) (f : Four) → f ≡ fourOf (numbers (o .answer)) → (f .number ≡ 0 → ⊥) → d ≡ declined h
+    → record { counts = o .counts; register = d .register; day = d .day; line = d .line; bad = d .bad; refused = d .refused } ≡ holding o h
+told-refused o h d f e z g =
+    ap (λ (x : Held). record { counts = o .counts; register = x .register; day = x .day; line = x .line; bad = x .bad; refused = x .refused }) g
+    ∙ rw (number-refused (o .answer) (λ q. z (ap (λ (x : Four). x .number) e ∙ q))) refl
 
 -- a pair more, or none
 pub full-held : (h : Held) → 693 < h .register → missed h ≡ enrolledHeld h
@@ -64,7 +123,52 @@ pub pair-register : (sender : ℕ) (owner w : List ℕ) (n : ℕ) (register firs
 unfolding enrolledRegister
 pair-register sender owner w n register first last e f g k = rw (le-ltb 693 n e, ← f, ← g) k
 
--- by what is asked
+-- ---- a board
+
+-- by a listing's number: what is listed is of a sound table and in range, and what is not is not
+boarded : (q : Question) (table : List ℕ) (n room : ℕ) (l : Listing) → boardNumbers l ≡ boardGives q table n room
+    → ((w s : ℕ) → l ≡ Listings.Listed w s → (tableSound n table && asksInRange q) ≡ true)
+    × (l ≡ Listings.Unsound → (tableSound n table && asksInRange q) ≡ false)
+    × (l ≡ Listings.OutOfRange → (tableSound n table && asksInRange q) ≡ false)
+unfolding boardGives
+boarded q table n room l e = go (tableSound n table) (asksInRange q) (ap (λ (x : ℕ × ℕ × ℕ). x .0) e)
+  where
+    z : ℕ
+    z = length (boardOf q table n)
+
+    y : ℕ
+    y = length (take room (boardOf q table n))
+
+    go : (t u : Bool) → boardNumbers l .0 ≡ on {A = ℕ × ℕ × ℕ} (not t) (1, 0, 0) (on {A = ℕ × ℕ × ℕ} (not u) (13, 0, 0) (0, y, z)) .0
+        → ((w s : ℕ) → l ≡ Listings.Listed w s → (t && u) ≡ true) × (l ≡ Listings.Unsound → (t && u) ≡ false) × (l ≡ Listings.OutOfRange → (t && u) ≡ false)
+    go true true f = (λ w s e. refl, λ e. absurd (omega (arith, f, ap (λ (x : Listing). boardNumbers x .0) e)), λ e. absurd (omega (arith, f, ap (λ (x : Listing). boardNumbers x .0) e)))
+    go true false f = (λ w s e. absurd (omega (arith, f, ap (λ (x : Listing). boardNumbers x .0) e)), λ e. refl, λ e. refl)
+    go false u f = (λ w s e. absurd (omega (arith, f, ap (λ (x : Listing). boardNumbers x .0) e)), λ e. refl, λ e. refl)
+
+-- the words of the line are what is asked
+module _ (line owner stop : List ℕ) (date second horizon : ℕ) (table : List ℕ) (room : ℕ) (h : Held) (l : Listing)
+    (e : owner ≡ wordAt 1 line) (f : stop ≡ wordAt 2 line)
+    (g : boardNumbers l ≡ boardGives (asked owner stop date second horizon) table (h .counts .rows) room) where
+  words-asked : boardNumbers l ≡ boardGives (asked (wordAt 1 line) (wordAt 2 line) date second horizon) table (h .counts .rows) room
+  words-asked = g ∙ ap (λ (x : List ℕ). boardGives (asked x stop date second horizon) table (h .counts .rows) room) e ∙ ap (λ (x : List ℕ). boardGives (asked (wordAt 1 line) x date second horizon) table (h .counts .rows) room) f
+
+  pub ask-listed : (w s : ℕ) → l ≡ Listings.Listed w s → (register book : List ℕ) → state h register book table ≡ askedBy line date second horizon (state h register book table)
+  ask-listed w s k register book = rw (boarded _ table (h .counts .rows) room l words-asked .0 w s k)
+
+  pub ask-unsound : (d : Held) → d ≡ declined h → l ≡ Listings.Unsound → (register book : List ℕ) → state d register book table ≡ askedBy line date second horizon (state h register book table)
+  ask-unsound d q k register book = rw (boarded _ table (h .counts .rows) room l words-asked .1 k) (held-is d (declined h) register book table q)
+
+  pub ask-outside : (d : Held) → d ≡ declined h → l ≡ Listings.OutOfRange → (register book : List ℕ) → state d register book table ≡ askedBy line date second horizon (state h register book table)
+  ask-outside d q k register book = rw (boarded _ table (h .counts .rows) room l words-asked .2 k) (held-is d (declined h) register book table q)
+
+-- ---- a file
+
+pub loaded-is : (file : List ℕ) (d : Saved) (h r : Held) (s s′ b b′ t t′ : List ℕ) → d ≡ dayIn file → s′ ≡ registerFrom file s → b′ ≡ bookFrom file b → t′ ≡ tableFrom file t → r ≡ loadedHeld d h
+    → state r s′ b′ t′ ≡ loadedFrom file (state h s b t)
+loaded-is file d h r s s′ b b′ t t′ e p q u v = state-is r _ s′ _ b′ _ t′ _ (v ∙ ap (λ (x : Saved). loadedHeld x h) e) p q u
+
+-- ---- by what is asked
+
 pub leaves-by : (o o′ : Order) (line : List ℕ) (s t : State) → o ≡ o′ → LineLeaves o′ line s t → LineLeaves o line s t
 leaves-by o o′ line s t e p = subst (λ (x : Order). LineLeaves x line s t) (sym e) p
 

@@ -1,49 +1,127 @@
-// The correction desk's program: does what a script says, a command a line, and prints each answer and each board.
+// The correction desk's program: does what scripts say, a command a line, and prints each answer and each board.
 mod files;
 mod script;
 
-use files::Loaded;
+use files::Line;
 use script::Held;
 
-// The script's lines, one after the other.
-fn lines(s: &[u8], register: &mut [u8], book: &mut [u8], table: &mut [u8]) -> Held {
-    let mut h = script::nothing();
-    let mut rest = s;
-    while 0 < rest.len() {
-        h = script::line(script_text::first_line(rest), register, book, table, h);
-        let next = script_text::rest_after_line(rest);
-        rest = next;
+// A byte order mark, which some editors put before a text, is no part of the first line.
+fn without_mark<'a>(line: &'a [u8]) -> &'a [u8] {
+    if line.len() < 3 {
+        return line;
+    }
+    if lists::same_bytes(&line[0..3], &[239, 187, 191]) {
+        return &line[3..];
+    }
+    line
+}
+
+// The line behind so many others.
+fn line_behind<'a>(line: &'a [u8], others: u32) -> &'a [u8] {
+    if others == 0 {
+        return without_mark(line);
+    }
+    line
+}
+
+// The lines of a script, each done as it is read.
+fn lines(
+    fd: i32,
+    paper: &mut [u8],
+    register: &mut [u8],
+    book: &mut [u8],
+    table: &mut [u8],
+    held: Held,
+) -> Held {
+    let mut h = held;
+    let mut left: u32 = 4294967295;
+    while 0 < left {
+        left -= 1;
+        match files::read_line(fd, paper) {
+            Line::Whole(n) => {
+                let text = line_behind(script_text::front(paper, n), h.line);
+                h = script::line(text, register, book, table, h);
+            }
+            Line::Long => {
+                h = script::long(h);
+            }
+            Line::End => return h,
+            Line::Failed => return script::unread(h),
+        }
     }
     h
 }
 
-// How many bytes of a script there are: of the file that the argument names, or of standard input.
-fn size(paper: &mut [u8]) -> usize {
-    let words = os::arg_count();
-    if words < 2 {
-        return io::read_full(libc::STDIN_FILENO, paper);
-    }
-    let mut path = io::buffer();
-    let n = os::arg(1, &mut path);
-    match files::load(&path[..n], paper) {
-        Loaded::Bytes(k) => k,
-        Loaded::Unreadable => {
-            boards_words::say(b"the script cannot be read\n");
-            0
-        }
-    }
+fn done(name: &[u8], held: Held) {
+    boards_words::tell(
+        b"DONE %x: lines %A, not done %B, refused %C\n",
+        name,
+        name,
+        b"",
+        b"",
+        &[held.line as usize, held.bad as usize, held.refused as usize],
+    );
 }
 
-fn report(bad: u32) {
-    if 0 < bad {
-        boards_words::tell(b"lines not done: %\n", bad as usize, 0);
+// The lines of the script that a name gives; - is standard input.
+fn lines_named(
+    name: &[u8],
+    paper: &mut [u8],
+    register: &mut [u8],
+    book: &mut [u8],
+    table: &mut [u8],
+    held: Held,
+) -> Held {
+    if lists::same_bytes(name, b"-") {
+        return lines(libc::STDIN_FILENO, paper, register, book, table, held);
     }
+    let fd = os::open_read(name);
+    let h = lines(fd, paper, register, book, table, held);
+    libc::close(fd);
+    h
 }
 
-// A byte more than a script may have; all rows of a table.
-const PAPER: usize = 65537;
+// A script, on the day that the one before left, and its closing line.
+fn script_named(
+    name: &[u8],
+    paper: &mut [u8],
+    register: &mut [u8],
+    book: &mut [u8],
+    table: &mut [u8],
+    held: Held,
+) -> Held {
+    let begun = script::begun(held);
+    let h = lines_named(name, paper, register, book, table, begun);
+    done(name, h);
+    h
+}
+
+// A byte more than a line may have; all rows of a table.
+const PAPER: usize = 2049;
 
 const TABLE: usize = table::MOST_ROWS * passage::ROW_WIDE;
+
+// The scripts that the arguments name, one after the other.
+fn scripts(words: usize, paper: &mut [u8], register: &mut [u8], book: &mut [u8], table: &mut [u8]) {
+    let mut h = script::nothing();
+    let mut i = 1;
+    while i < words {
+        let mut name = io::buffer();
+        let n = os::arg(i, &mut name);
+        h = script_named(&name[..n], paper, register, book, table, h);
+        i += 1;
+    }
+}
+
+// Whether the first argument asks how the program is called.
+fn asks_usage(words: usize) -> bool {
+    if words < 2 {
+        return false;
+    }
+    let mut name = io::buffer();
+    let n = os::arg(1, &mut name);
+    lists::same_bytes(&name[..n], b"--help")
+}
 
 // The buffers come as arrays of known size: so no proof has to count one through.
 fn run(
@@ -52,17 +130,16 @@ fn run(
     book: &mut [u8; book::MOST_BYTES],
     table: &mut [u8; TABLE],
 ) {
-    let n = size(paper);
-    if n == 0 {
+    let words = os::arg_count();
+    if asks_usage(words) {
         boards_words::usage();
         return;
     }
-    if 65536 < n {
-        boards_words::say(b"script over 65,536 bytes: nothing done\n");
+    if words < 2 {
+        script_named(b"-", paper, register, book, table, script::nothing());
         return;
     }
-    let h = lines(script_text::front(paper, n), register, book, table);
-    report(h.bad);
+    scripts(words, paper, register, book, table);
 }
 
 fn main() {

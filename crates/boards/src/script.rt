@@ -1,25 +1,27 @@
 // What a line of the script does. A line that is not done changes nothing, and is counted.
 use crate::files;
 use crate::files::Loaded;
+use board::Listing;
 use boards_orders::Order;
+use boards_saved::Saved;
 use calls::Counts;
-use calls::Four;
 use calls::Outcome;
-use field_types::Number;
-use field_types::Time;
 ghost use mathlib.Core.Path.{_≡_};
+ghost use mathlib.Core.Logic.{_⊎_};
 ghost use mathlib.Core.List.{List};
 ghost use Prim.Native.Nat.{ℕ};
 ghost use Rattle.script_text.specs.Rules.{wordAt};
 ghost use Rattle.boards_orders.specs.Orders.{orderIn};
-ghost use Rattle.boards.specs.Leaves.{state, missed, nextLine, holding, enrolledHeld, enrolledRegister, openedBy, sent, withdrawnBy, Opens, Sends, LineLeaves};
+ghost use Rattle.boards.specs.Leaves.{state, missed, declined, nextLine, holding, enrolledHeld, enrolledRegister, openedBy, sent, withdrawnBy, askedBy, loadedFrom, Opens, Sends, Loads, LineLeaves};
 
-// What is kept between two lines: the counts, how much of the register is used, the line's number, and how many lines were not done.
+// What is kept between two lines: the counts, how much of the register is used, whether a day is open; and of the script the line's number, how many lines were not done and how many were refused.
 pub struct Held {
     pub counts: Counts,
     pub register: usize,
+    pub day: bool,
     pub line: u32,
     pub bad: u32,
+    pub refused: u32,
 }
 
 pub fn nothing() -> Held {
@@ -27,54 +29,83 @@ pub fn nothing() -> Held {
     Held {
         counts,
         register: 0,
+        day: false,
         line: 0,
         bad: 0,
+        refused: 0,
     }
 }
 
-// A line's first three words, and what follows them.
-fn echo(line: &[u8], more: &[u8]) {
-    boards_words::echo(
-        script_text::word(line, 0),
-        script_text::word(line, 1),
-        script_text::word(line, 2),
-        more,
-    );
+// Another script on the same day.
+pub fn begun(held: Held) -> Held {
+    let mut n = held;
+    n.line = 0;
+    n.bad = 0;
+    n.refused = 0;
+    n
 }
 
-// A line that is not done: which of its words is wrong, and why.
-fn bad(line: &[u8], k: usize, why: usize, held: Held) -> Held
+// A line that is not done: the word that is wrong, and why.
+fn miss(word: &[u8], why: usize, held: Held) -> Held
     ensures { λ r. ⌜ r ≡ missed held ⌝ }
 {
-    boards_words::bad(held.line, script_text::word(line, k), why);
+    boards_words::miss(held.line, word, why);
     let mut n = held;
     n.bad = std::num::wrapping_add_u32(held.bad, 1);
     n
 }
 
-// An acceptance as number n, in the words given for 0 or for a message, or a refusal.
-fn answer(f: Four, zero: &[u8], c: Counts) {
-    if 0 < f.number {
-        boards_words::refusal(f.number as usize, f.value, f.second, f.dossier as usize);
-        return;
-    }
-    if f.value == 0 {
-        boards_words::say(zero);
-    } else {
-        boards_words::tell(b"accepted as message %", f.value, 0);
-    }
-    boards_words::tell(b"; book % bytes, table % rows\n", c.used, c.rows);
+fn bad(line: &[u8], k: usize, why: usize, held: Held) -> Held
+    ensures { λ r. ⌜ r ≡ missed held ⌝ }
+{
+    miss(script_text::word(line, k), why, held)
 }
 
-// What a call answered; the counts are held.
-fn told(line: &[u8], o: Outcome, zero: &[u8], held: Held) -> Held
-    ensures { λ r. ⌜ r ≡ holding (o .counts) held ⌝ }
+fn next(held: Held) -> Held
+    ensures { λ r. ⌜ r ≡ nextLine held ⌝ }
+{
+    let mut n = held;
+    n.line = std::num::wrapping_add_u32(held.line, 1);
+    n
+}
+
+// A line that is too long to be kept.
+pub fn long(held: Held) -> Held
+    ensures { λ r. ⌜ r ≡ missed (nextLine held) ⌝ }
+{
+    miss(b"..", boards_orders::LONG, next(held))
+}
+
+// A script that cannot be read, or not to its end.
+pub fn unread(held: Held) -> Held
+    ensures { λ r. ⌜ r ≡ missed held ⌝ }
+{
+    miss(b"script", boards_orders::UNREADABLE, held)
+}
+
+// A question, or a file, that is refused.
+fn decline(held: Held) -> Held
+    ensures { λ r. ⌜ r ≡ declined held ⌝ }
+{
+    let mut n = held;
+    n.refused = std::num::wrapping_add_u32(held.refused, 1);
+    n
+}
+
+// What a call answered: the counts are held, and an acceptance has a day open.
+fn told(o: Outcome, held: Held) -> Held
+    ensures { λ r. ⌜ r ≡ holding o held ⌝ }
 {
     let a = o.answer;
     let c = o.counts;
-    echo(line, b": ");
-    answer(calls::numbers(a), zero, c);
-    let mut n = held;
+    let f = calls::numbers(a);
+    if f.number == 0 {
+        let mut n = held;
+        n.counts = c;
+        n.day = true;
+        return n;
+    }
+    let mut n = decline(held);
     n.counts = c;
     n
 }
@@ -97,7 +128,8 @@ fn open_on(
 {
     let c = held.counts;
     let o = opening::open(planning, calendar, book, table, c);
-    told(line, o, b"accepted", held)
+    boards_answers::opened(held.line, line, planning, calendar, o);
+    told(o, held)
 }
 
 // A byte more than a dossier may have: so one that is too long reaches the call as one.
@@ -143,8 +175,14 @@ fn enrol(line: &[u8], sender: u8, register: &mut [u8], held: Held) -> Held
     }
     script_text::append(register, at, &[sender]);
     script_text::append(register, at + 1, script_text::word(line, 2));
-    echo(line, b": pair ");
-    boards_words::tell(b"% of 64\n", at / register::PAIR_WIDE + 1, 0);
+    boards_words::tell(
+        b"%0%1%2: pair %A of 64\n",
+        line,
+        b"",
+        b"",
+        b"",
+        &[at / register::PAIR_WIDE + 1],
+    );
     let mut n = held;
     n.register = at + register::PAIR_WIDE;
     n
@@ -165,7 +203,8 @@ fn send_on(
     let c = held.counts;
     let pairs = script_text::front(register, held.register);
     let o = messages::message(dossier, sender, pairs, book, table, c);
-    told(line, o, b"accepted, no rows", held)
+    boards_answers::sent(held.line, line, dossier, sender, c, o);
+    told(o, held)
 }
 
 fn send_from(
@@ -212,49 +251,232 @@ fn withdraw(
 {
     let c = held.counts;
     let o = withdrawals::withdraw(number, sender, book, table, c);
-    told(line, o, b"accepted", held)
+    boards_answers::withdrawn(held.line, line, c, o);
+    told(o, held)
 }
 
-// What is no date is out of range for a board, and so is what is no time.
-fn date(w: &[u8]) -> u32 {
-    match field_types::read_date(w) {
-        Number::Is(n) => n,
-        Number::Wrong => 0,
-    }
-}
+// ---- Questions, which change nothing.
 
-fn second(w: &[u8]) -> u32 {
-    match field_types::read_time(w) {
-        Time::Is(s) => s.0,
-        Time::Wrong => 86400,
-    }
-}
-
-fn show(line: &[u8], horizon: u32, most: usize, table: &[u8], rows: usize) {
+// The board that a line asks for, in the places lent; a refusal is told.
+fn ask(
+    line: &[u8],
+    date: u32,
+    second: u32,
+    horizon: u32,
+    most: usize,
+    table: &[u8],
+    places: &mut [u32],
+    held: Held,
+) -> Held
+    ensures { λ r. ⌜ ((register book : List ℕ) → state r register book (now (table .entry)) ≡ askedBy (now (line .entry)) date second horizon (state held register book (now (table .entry)))) ⌝ }
+{
+    let c = held.counts;
+    let n = script_text::at_most(most, places.len());
     let owner = script_text::word(line, 1);
     let stop = script_text::word(line, 2);
-    let day = script_text::word(line, 3);
-    let time = script_text::word(line, 4);
-    boards_words::heading(owner, stop, day, time, horizon as usize);
-    boards_words::print_board(
+    let l = board::board(
         owner,
         stop,
-        date(day),
-        second(time),
+        date,
+        second,
         horizon,
-        most,
         table,
-        rows,
+        c.rows,
+        &mut places[0..n],
     );
+    match l {
+        Listing::Listed(written, shown) => {
+            boards_listing::board(line, table, places, written, shown);
+            held
+        }
+        Listing::Unsound => {
+            boards_answers::unshown(held.line, line, 1, second, horizon);
+            decline(held)
+        }
+        Listing::OutOfRange => {
+            boards_answers::unshown(held.line, line, 13, second, horizon);
+            decline(held)
+        }
+    }
 }
 
-fn board(line: &[u8], horizon: u32, most: usize, table: &[u8], held: Held) -> Held
+fn board(
+    line: &[u8],
+    date: u32,
+    second: u32,
+    horizon: u32,
+    most: usize,
+    table: &[u8],
+    held: Held,
+) -> Held
+    ensures { λ r. ⌜ ((register book : List ℕ) → state r register book (now (table .entry)) ≡ askedBy (now (line .entry)) date second horizon (state held register book (now (table .entry)))) ⌝ }
+{
+    let mut places = [0u32; table::MOST_ROWS];
+    ask(line, date, second, horizon, most, table, &mut places, held)
+}
+
+fn list_messages(line: &[u8], book: &[u8], held: Held) -> Held
     ensures { λ r. ⌜ r ≡ held ⌝ }
 {
     let c = held.counts;
-    show(line, horizon, most, table, c.rows);
+    boards_listing::messages(line, script_text::front(book, c.used));
     held
 }
+
+fn list_pairs(line: &[u8], register: &[u8], held: Held) -> Held
+    ensures { λ r. ⌜ r ≡ held ⌝ }
+{
+    boards_listing::pairs(line, script_text::front(register, held.register));
+    held
+}
+
+// ---- A day kept in a file.
+
+// The day to the file that the line names, by way of one with .part behind its name.
+fn store(line: &[u8], heading: &[u8], register: &[u8], book: &[u8], table: &[u8]) -> bool {
+    let name = script_text::word(line, 1);
+    let mut path = io::buffer();
+    let n = script_text::append(&mut path, 0, name);
+    let end = script_text::append(&mut path, n, b".part");
+    files::store(
+        name,
+        script_text::front(&path, end),
+        heading,
+        register,
+        book,
+        table,
+    )
+}
+
+fn save(line: &[u8], register: &[u8], book: &[u8], table: &[u8], held: Held) -> Held
+    ensures { λ r. ⌜ (r ≡ held) ⊎ (r ≡ missed held) ⌝ }
+{
+    let c = held.counts;
+    let pairs = held.register;
+    let used = c.used;
+    let rows = script_text::at_most(c.rows, table::MOST_ROWS);
+    let mut heading = [0u8; boards_saved::HEADING_WIDE];
+    boards_saved::write_heading(
+        &mut heading,
+        script_text::low_word(pairs),
+        script_text::low_word(used),
+        script_text::low_word(rows),
+    );
+    let whole = store(
+        line,
+        &heading,
+        script_text::front(register, pairs),
+        script_text::front(book, used),
+        script_text::front(table, rows * passage::ROW_WIDE),
+    );
+    if whole {
+        tell_day(
+            line,
+            b"%0%1: saved; book %A bytes, table %B rows, pairs %C\n",
+            pairs,
+            used,
+            rows,
+        );
+        return held;
+    }
+    bad(line, 1, boards_orders::UNWRITABLE, held)
+}
+
+fn tell_day(line: &[u8], words: &[u8], pairs: usize, used: usize, rows: usize) {
+    boards_words::tell(
+        words,
+        line,
+        b"",
+        b"",
+        b"",
+        &[used, rows, pairs / register::PAIR_WIDE],
+    );
+}
+
+// A file that is no day.
+fn refuse_file(line: &[u8], held: Held) -> Held
+    ensures { λ r. ⌜ r ≡ declined held ⌝ }
+{
+    boards_words::refuse(
+        line,
+        b"no sound day in the file",
+        0,
+        b"",
+        b"",
+        b"",
+        &[held.line as usize, 1],
+    );
+    decline(held)
+}
+
+// The bytes that a file gave take the place of what is lent, if they are a day.
+fn take_day(
+    line: &[u8],
+    file: &[u8],
+    register: &mut [u8],
+    book: &mut [u8],
+    table: &mut [u8],
+    held: Held,
+) -> Held
+    ensures { λ r. ⌜ state r (now (register .exit)) (now (book .exit)) (now (table .exit)) ≡ loadedFrom (now (file .entry)) (state held (now (register .entry)) (now (book .entry)) (now (table .entry))) ⌝ }
+{
+    match boards_saved::load(file, register, book, table) {
+        Saved::Day(pairs, used, rows) => {
+            let counts = Counts {
+                used: used as usize,
+                rows: rows as usize,
+            };
+            tell_day(
+                line,
+                b"%0%1: loaded; book %A bytes, table %B rows, pairs %C\n",
+                pairs as usize,
+                used as usize,
+                rows as usize,
+            );
+            let mut n = held;
+            n.counts = counts;
+            n.register = pairs as usize;
+            n.day = true;
+            n
+        }
+        Saved::Other => refuse_file(line, held),
+    }
+}
+
+// A byte more than a day's file may have: so one that is too long is none.
+const FILE: usize = boards_saved::MOST_BYTES + 1;
+
+fn load_from(
+    line: &[u8],
+    file: &mut [u8; FILE],
+    register: &mut [u8],
+    book: &mut [u8],
+    table: &mut [u8],
+    held: Held,
+) -> Held
+    ensures { λ r. ⌜ Loads (state held (now (register .entry)) (now (book .entry)) (now (table .entry))) (state r (now (register .exit)) (now (book .exit)) (now (table .exit))) ⌝ }
+{
+    let Loaded::Bytes(n) = load(line, 1, file) else {
+        return bad(line, 1, boards_orders::UNREADABLE, held);
+    };
+    take_day(
+        line,
+        script_text::front(file, n),
+        register,
+        book,
+        table,
+        held,
+    )
+}
+
+fn load_day(line: &[u8], register: &mut [u8], book: &mut [u8], table: &mut [u8], held: Held) -> Held
+    ensures { λ r. ⌜ Loads (state held (now (register .entry)) (now (book .entry)) (now (table .entry))) (state r (now (register .exit)) (now (book .exit)) (now (table .exit))) ⌝ }
+{
+    let mut file = [0u8; FILE];
+    load_from(line, &mut file, register, book, table, held)
+}
+
+// ---- A line, by what it asks.
 
 fn perform(
     line: &[u8],
@@ -272,16 +494,21 @@ fn perform(
         Order::Register(sender) => enrol(line, sender, register, held),
         Order::Message(sender) => send(line, sender, register, book, table, held),
         Order::Withdraw(number, sender) => withdraw(line, number, sender, book, table, held),
-        Order::Board(horizon, most) => board(line, horizon, most, table, held),
+        Order::Board(date, second, horizon, most) => {
+            board(line, date, second, horizon, most, table, held)
+        }
+        Order::Messages => list_messages(line, book, held),
+        Order::Registered => list_pairs(line, register, held),
+        Order::Save => save(line, register, book, table, held),
+        Order::Load => load_day(line, register, book, table, held),
         Order::Bad(k, why) => bad(line, k, why, held),
     }
 }
 
 pub fn line(line: &[u8], register: &mut [u8], book: &mut [u8], table: &mut [u8], held: Held) -> Held
-    ensures { λ r. ⌜ LineLeaves (orderIn (now (line .entry))) (now (line .entry)) (state (nextLine held) (now (register .entry)) (now (book .entry)) (now (table .entry))) (state r (now (register .exit)) (now (book .exit)) (now (table .exit))) ⌝ }
+    ensures { λ r. ⌜ LineLeaves (orderIn (held .day) (now (line .entry))) (now (line .entry)) (state (nextLine held) (now (register .entry)) (now (book .entry)) (now (table .entry))) (state r (now (register .exit)) (now (book .exit)) (now (table .exit))) ⌝ }
 {
-    let mut n = held;
-    n.line = std::num::wrapping_add_u32(held.line, 1);
-    let o = boards_orders::read_order(line);
+    let n = next(held);
+    let o = boards_orders::read_order(line, held.day);
     perform(line, o, register, book, table, n)
 }

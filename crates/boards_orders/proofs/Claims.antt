@@ -1,7 +1,7 @@
 -- The proofs of this crate's claims. Assumes nothing.
-use mathlib.Core.Path.{_≡_, refl, sym, ap, _∙_}
+use mathlib.Core.Path.{_≡_, refl, ap}
 use mathlib.Core.Bool.{Bool, true, false}
-use mathlib.Core.List.{List, [], _∷_}
+use mathlib.Core.List.{List, _∷_}
 use Prim.Native.Nat.{ℕ, _≤_, _<_}
 use native.Mathlib.Omega.{arith}
 use borrow.Author.Tests.{ltb-false, eqb-false}
@@ -10,9 +10,9 @@ use lib.ListN.{length}
 use Rattle.lists.specs.Logic.{on}
 use Rattle.script_text.specs.Rules.{wordAt}
 use Rattle.boards_orders.specs.declared.Order.{Order}
-use Rattle.boards_orders.specs.declared.Order.the-variants.{Nothing, Open, Register, Message, Withdraw, Board, Bad}
-use Rattle.boards_orders.specs.Orders.{no-number, no-owner, noNumber, numberWord, placesAt, registerOrder, boardOrder}
-use Rattle.boards_orders.specs.Claims.{RegisterInRange, BoardInRange, All}
+use Rattle.boards_orders.specs.declared.Order.the-variants.{Nothing, Open, Register, Message, Withdraw, Board, Messages, Registered, Save, Load, Bad}
+use Rattle.boards_orders.specs.Orders.{not-to-register, no-owner, no-date, no-time, no-horizon, no-places, no-day, noNumber, numberWord, dateWord, timeWord, placesAt, wants, registerOrder, messageOrder, withdrawOrder, boardOrder, commandOf, isWhole, isOfDay, isSilent, orderBy, commanded, orderIn}
+use Rattle.boards_orders.specs.Claims.{RegisterInRange, BoardInRange, asksDay, NoDayNoneAsked, All}
 
 -- whether something is asked, and the last number of what is asked
 asks : Order → ℕ
@@ -21,7 +21,11 @@ asks Open = 1
 asks (Register n) = 1
 asks (Message n) = 1
 asks (Withdraw m n) = 1
-asks (Board h n) = 1
+asks (Board d t h n) = 1
+asks Messages = 1
+asks Registered = 1
+asks Save = 1
+asks Load = 1
 asks (Bad k why) = 0
 
 last : Order → ℕ
@@ -30,7 +34,11 @@ last Open = 0
 last (Register n) = n
 last (Message n) = n
 last (Withdraw m n) = n
-last (Board h n) = n
+last (Board d t h n) = n
+last Messages = 0
+last Registered = 0
+last Save = 0
+last Load = 0
 last (Bad k why) = 0
 
 register-in-range : RegisterInRange
@@ -44,7 +52,7 @@ register-in-range line n = go (eqb m 0) (ltb 255 m) (ltb 10 (length w)) refl ref
     w = wordAt 2 line
 
     go : (t u v : Bool) → eqb m 0 ≡ t → ltb 255 m ≡ u → ltb 10 (length w) ≡ v
-        → on t (Bad 1 no-number) (on u (Bad 1 no-number) (on v (Bad 2 no-owner) (Register m))) ≡ Register n
+        → on t (Bad 1 not-to-register) (on u (Bad 1 not-to-register) (on v (Bad 2 no-owner) (Register m))) ≡ Register n
         → (0 < n) × (n ≤ 255) × (length w ≤ 10)
     go true u v e f g q = absurd (omega (arith, ap asks q))
     go false true v e f g q = absurd (omega (arith, ap asks q))
@@ -58,18 +66,68 @@ register-in-range line n = go (eqb m 0) (ltb 255 m) (ltb 10 (length w)) refl ref
 
 board-in-range : BoardInRange
 unfolding boardOrder asks last
-board-in-range line horizon most = go (eqb (numberWord 5 line) noNumber) (ltb 2048 m) refl
+board-in-range line date second horizon most = go (eqb (dateWord line) noNumber) (eqb (timeWord line) noNumber) (eqb (numberWord 5 line) noNumber) (ltb 2048 m) refl
   where
     m : ℕ
     m = placesAt line
 
-    go : (t u : Bool) → ltb 2048 m ≡ u → on t (Bad 5 no-number) (on u (Bad 6 no-number) (Board (numberWord 5 line) m)) ≡ Board horizon most → most ≤ 2048
-    go true u f q = absurd (omega (arith, ap asks q))
-    go false true f q = absurd (omega (arith, ap asks q))
-    go false false f q =
+    go : (a b t u : Bool) → ltb 2048 m ≡ u
+        → on a (Bad 3 no-date) (on b (Bad 4 no-time) (on t (Bad 5 no-horizon) (on u (Bad 6 no-places) (Board (dateWord line) (timeWord line) (numberWord 5 line) m)))) ≡ Board date second horizon most
+        → most ≤ 2048
+    go true b t u f q = absurd (omega (arith, ap asks q))
+    go false true t u f q = absurd (omega (arith, ap asks q))
+    go false false true u f q = absurd (omega (arith, ap asks q))
+    go false false false true f q = absurd (omega (arith, ap asks q))
+    go false false false false f q =
         let z : m ≡ most = ap last q in
         let a = ltb-false 2048 m f in
         omega (arith, z, a)
 
+-- of a sender's pair nothing is asked of a day
+register-no-day : (line : List ℕ) → asksDay (registerOrder line) ≡ false
+unfolding registerOrder
+register-no-day line = go (eqb (numberWord 1 line) 0) (ltb 255 (numberWord 1 line)) (ltb 10 (length (wordAt 2 line)))
+  where
+    go : (t u v : Bool) → asksDay (on t (Bad 1 not-to-register) (on u (Bad 1 not-to-register) (on v (Bad 2 no-owner) (Register (numberWord 1 line))))) ≡ false
+    go true u v = refl
+    go false true v = refl
+    go false false true = refl
+    go false false false = refl
+
+flag : Bool → ℕ
+flag b = on b 1 0
+
+-- nor by any command that is not about one
+command-no-day : (c : ℕ) (line : List ℕ) → isOfDay c ≡ false → asksDay (orderBy c line) ≡ false
+unfolding isOfDay orderBy flag
+command-no-day c line = go (eqb c 0) (eqb c 1) (eqb c 2) (eqb c 3) (eqb c 4) (eqb c 5) (eqb c 6) (eqb c 7) (eqb c 8)
+  where
+    go : (t₀ t₁ t₂ t₃ t₄ t₅ t₆ t₇ t₈ : Bool)
+        → on t₂ true (on t₃ true (on t₄ true (on t₅ true (on t₇ true false)))) ≡ false
+        → asksDay (on t₀ Open (on t₁ (registerOrder line) (on t₂ (messageOrder line) (on t₃ (withdrawOrder line) (on t₄ (boardOrder line) (on t₅ Messages (on t₆ Registered (on t₇ Save (on t₈ Load (wants c)))))))))) ≡ false
+    go true t₁ t₂ t₃ t₄ t₅ t₆ t₇ t₈ e = refl
+    go false true t₂ t₃ t₄ t₅ t₆ t₇ t₈ e = register-no-day line
+    go false false true t₃ t₄ t₅ t₆ t₇ t₈ e = absurd (omega (arith, ap flag e))
+    go false false false true t₄ t₅ t₆ t₇ t₈ e = absurd (omega (arith, ap flag e))
+    go false false false false true t₅ t₆ t₇ t₈ e = absurd (omega (arith, ap flag e))
+    go false false false false false true t₆ t₇ t₈ e = absurd (omega (arith, ap flag e))
+    go false false false false false false true t₇ t₈ e = refl
+    go false false false false false false false true t₈ e = absurd (omega (arith, ap flag e))
+    go false false false false false false false false true e = refl
+    go false false false false false false false false false e = refl
+
+no-day-none-asked : NoDayNoneAsked
+unfolding orderIn commanded
+no-day-none-asked line = go (isSilent (wordAt 0 line)) (isWhole c line) (isOfDay c) refl
+  where
+    c : ℕ
+    c = commandOf (wordAt 0 line)
+
+    go : (t u v : Bool) → isOfDay c ≡ v → asksDay (on t Nothing (on u (on v (Bad 0 no-day) (orderBy c line)) (wants c))) ≡ false
+    go true u v e = refl
+    go false true true e = refl
+    go false true false e = command-no-day c line e
+    go false false v e = refl
+
 pub claims : All
-claims = (register-in-range, board-in-range)
+claims = (register-in-range, board-in-range, no-day-none-asked)

@@ -2,19 +2,20 @@
 use mathlib.Core.Path.{_≡_, refl, sym, ap, _∙_}
 use mathlib.Core.Bool.{Bool, true, false}
 use mathlib.Core.List.{List, [], _∷_}
-use Prim.Native.Nat.{ℕ, suc, _≤_, _<_}
+use Prim.Native.Nat.{ℕ, _≤_, _<_}
 use native.Mathlib.Omega.{arith}
 use borrow.Author.Tests.{eq-eqb, ne-eqb, lt-ltb, le-ltb}
-use lib.Dec.{eqb, ltb}
+use lib.Dec.{eqb}
 use lib.ListN.{length, getD}
-use Rattle.lists.specs.Logic.{on}
 use Rattle.field_types.specs.declared.Number.{Number}
 use Rattle.field_types.specs.declared.Number.the-variants.{Is, Wrong}
 use Rattle.field_types.specs.Digits.{numeral}
+use Rattle.field_types.specs.Times.{clock}
+use Rattle.field_types.specs.Dates.{date}
 use Rattle.script_text.specs.Rules.{wordAt}
 use Rattle.boards_orders.specs.declared.Order.{Order}
-use Rattle.boards_orders.specs.declared.Order.the-variants.{Nothing, Open, Register, Message, Withdraw, Board, Bad}
-use Rattle.boards_orders.specs.Orders.{commandOf, orNone, noNumber, no-number, no-owner, numberWord, registerOrder, messageOrder, withdrawOrder, placesAt, boardOrder, hasWords, isWhole, orderBy, isSilent, orderIn}
+use Rattle.boards_orders.specs.declared.Order.the-variants.{Nothing, Register, Message, Withdraw, Board, Bad}
+use Rattle.boards_orders.specs.Orders.{commandOf, orNone, noNumber, no-day, no-sender, not-to-register, no-number, no-owner, no-date, no-time, no-horizon, no-places, wants, numberWord, dateWord, timeWord, registerOrder, messageOrder, withdrawOrder, placesAt, boardOrder, hasWords, isWhole, isOfDay, orderBy, commanded, isSilent, orderIn}
 
 -- ---- numbers
 
@@ -26,14 +27,30 @@ pub number-none : (k : ℕ) (line w : List ℕ) (r : Number) → w ≡ wordAt k 
 unfolding numberWord
 number-none k line w r e f g = ap orNone (sym g ∙ f ∙ ap (numeral 9) e)
 
+pub date-is : (line w : List ℕ) (r : Number) (n : ℕ) → w ≡ wordAt 3 line → r ≡ date w → r ≡ Is n → n ≡ dateWord line
+unfolding dateWord
+date-is line w r n e f g = ap orNone (sym g ∙ f ∙ ap date e)
+
+pub date-none : (line w : List ℕ) (r : Number) → w ≡ wordAt 3 line → r ≡ date w → r ≡ Wrong → noNumber ≡ dateWord line
+unfolding dateWord
+date-none line w r e f g = ap orNone (sym g ∙ f ∙ ap date e)
+
+pub time-is : (line w : List ℕ) (r : Number) (n : ℕ) → w ≡ wordAt 4 line → r ≡ clock 31 w → r ≡ Is n → n ≡ timeWord line
+unfolding timeWord
+time-is line w r n e f g = ap orNone (sym g ∙ f ∙ ap (clock 31) e)
+
+pub time-none : (line w : List ℕ) (r : Number) → w ≡ wordAt 4 line → r ≡ clock 31 w → r ≡ Wrong → noNumber ≡ timeWord line
+unfolding timeWord
+time-none line w r e f g = ap orNone (sym g ∙ f ∙ ap (clock 31) e)
+
 -- ---- commands
 
 module _ (line : List ℕ) (n : ℕ) (e : n ≡ numberWord 1 line) where
-  pub register-zero : n ≡ 0 → Bad 1 no-number ≡ registerOrder line
+  pub register-zero : n ≡ 0 → Bad 1 not-to-register ≡ registerOrder line
   unfolding registerOrder
   register-zero h = rw (← e) (rw (eq-eqb n 0 h))
 
-  pub register-large : (n ≡ 0 → ⊥) → 255 < n → Bad 1 no-number ≡ registerOrder line
+  pub register-large : (n ≡ 0 → ⊥) → 255 < n → Bad 1 not-to-register ≡ registerOrder line
   unfolding registerOrder
   register-large h k = rw (← e) (rw (ne-eqb n 0 h, lt-ltb 255 n k))
 
@@ -45,7 +62,7 @@ module _ (line : List ℕ) (n : ℕ) (e : n ≡ numberWord 1 line) where
   unfolding registerOrder
   register-good w f h k l = rw (← e, ← f) (rw (ne-eqb n 0 h, le-ltb 255 n k, le-ltb 10 (length w) l))
 
-  pub message-large : 255 < n → Bad 1 no-number ≡ messageOrder line
+  pub message-large : 255 < n → Bad 1 no-sender ≡ messageOrder line
   unfolding messageOrder
   message-large h = rw (← e) (rw (lt-ltb 255 n h))
 
@@ -57,7 +74,7 @@ module _ (line : List ℕ) (n : ℕ) (e : n ≡ numberWord 1 line) where
   unfolding withdrawOrder
   withdraw-none h = rw (← e) (rw (eq-eqb n noNumber h))
 
-  pub withdraw-large : (m : ℕ) → m ≡ numberWord 2 line → (n ≡ noNumber → ⊥) → 255 < m → Bad 2 no-number ≡ withdrawOrder line
+  pub withdraw-large : (m : ℕ) → m ≡ numberWord 2 line → (n ≡ noNumber → ⊥) → 255 < m → Bad 2 no-sender ≡ withdrawOrder line
   unfolding withdrawOrder
   withdraw-large m f h k = rw (← e, ← f) (rw (ne-eqb n noNumber h, lt-ltb 255 m k))
 
@@ -74,18 +91,26 @@ module _ (line w : List ℕ) (e : w ≡ wordAt 6 line) where
   unfolding placesAt
   places-said n f h = rw (← e, ← f) (rw (ne-eqb (length w) 0 h))
 
-module _ (line : List ℕ) (n : ℕ) (e : n ≡ numberWord 5 line) where
-  pub board-none : n ≡ noNumber → Bad 5 no-number ≡ boardOrder line
+module _ (line : List ℕ) (d : ℕ) (e : d ≡ dateWord line) where
+  pub board-dateless : d ≡ noNumber → Bad 3 no-date ≡ boardOrder line
   unfolding boardOrder
-  board-none h = rw (← e) (rw (eq-eqb n noNumber h))
+  board-dateless h = rw (← e) (rw (eq-eqb d noNumber h))
 
-  pub board-large : (m : ℕ) → m ≡ placesAt line → (n ≡ noNumber → ⊥) → 2048 < m → Bad 6 no-number ≡ boardOrder line
+  pub board-timeless : (t : ℕ) → t ≡ timeWord line → (d ≡ noNumber → ⊥) → t ≡ noNumber → Bad 4 no-time ≡ boardOrder line
   unfolding boardOrder
-  board-large m f h k = rw (← e, ← f) (rw (ne-eqb n noNumber h, lt-ltb 2048 m k))
+  board-timeless t f h k = rw (← e, ← f) (rw (ne-eqb d noNumber h, eq-eqb t noNumber k))
 
-  pub board-good : (m : ℕ) → m ≡ placesAt line → (n ≡ noNumber → ⊥) → m ≤ 2048 → Board n m ≡ boardOrder line
+  pub board-none : (t n : ℕ) → t ≡ timeWord line → n ≡ numberWord 5 line → (d ≡ noNumber → ⊥) → (t ≡ noNumber → ⊥) → n ≡ noNumber → Bad 5 no-horizon ≡ boardOrder line
   unfolding boardOrder
-  board-good m f h k = rw (← e, ← f) (rw (ne-eqb n noNumber h, le-ltb 2048 m k))
+  board-none t n f g h k l = rw (← e, ← f, ← g) (rw (ne-eqb d noNumber h, ne-eqb t noNumber k, eq-eqb n noNumber l))
+
+  pub board-large : (t n m : ℕ) → t ≡ timeWord line → n ≡ numberWord 5 line → m ≡ placesAt line → (d ≡ noNumber → ⊥) → (t ≡ noNumber → ⊥) → (n ≡ noNumber → ⊥) → 2048 < m → Bad 6 no-places ≡ boardOrder line
+  unfolding boardOrder
+  board-large t n m f g q h k l r = rw (← e, ← f, ← g, ← q) (rw (ne-eqb d noNumber h, ne-eqb t noNumber k, ne-eqb n noNumber l, lt-ltb 2048 m r))
+
+  pub board-good : (t n m : ℕ) → t ≡ timeWord line → n ≡ numberWord 5 line → m ≡ placesAt line → (d ≡ noNumber → ⊥) → (t ≡ noNumber → ⊥) → (n ≡ noNumber → ⊥) → m ≤ 2048 → Board d t n m ≡ boardOrder line
+  unfolding boardOrder
+  board-good t n m f g q h k l r = rw (← e, ← f, ← g, ← q) (rw (ne-eqb d noNumber h, ne-eqb t noNumber k, ne-eqb n noNumber l, le-ltb 2048 m r))
 
 -- ---- how many words
 
@@ -98,15 +123,6 @@ module _ (k n : ℕ) (line w : List ℕ) (e : w ≡ wordAt k line) where
   unfolding hasWords
   words-by v f h = rw (← e, ← f) (rw (ne-eqb (length w) 0 h))
 
-module _ (c : ℕ) (line : List ℕ) (b : Bool) where
-  pub whole-board : c ≡ 4 → b ≡ hasWords 5 7 line → b ≡ isWhole c line
-  unfolding isWhole
-  whole-board h e = rw (eq-eqb c 4 h) e
-
-  pub whole-other : (c ≡ 4 → ⊥) → b ≡ hasWords 2 3 line → b ≡ isWhole c line
-  unfolding isWhole
-  whole-other h e = rw (ne-eqb c 4 h) e
-
 -- ---- lines
 
 pub silent-none : (w : List ℕ) → length w ≡ 0 → true ≡ isSilent w
@@ -118,14 +134,29 @@ silent-by [] h = absurd (h refl)
 silent-by (b ∷ w) h = refl
 
 module _ (line w : List ℕ) (e : w ≡ wordAt 0 line) where
-  pub order-silent : isSilent w ≡ true → Nothing ≡ orderIn line
+  pub order-silent : (day : Bool) → isSilent w ≡ true → Nothing ≡ orderIn day line
   unfolding orderIn
-  order-silent h = rw (← e) (rw h)
+  order-silent day h = rw (← e) (rw h)
 
-  pub order-by : (c : ℕ) (o : Order) → c ≡ commandOf w → isSilent w ≡ false → isWhole c line ≡ true → o ≡ orderBy c line → o ≡ orderIn line
+  pub order-by : (c : ℕ) (day : Bool) (o : Order) → c ≡ commandOf w → isSilent w ≡ false → o ≡ commanded day c line → o ≡ orderIn day line
   unfolding orderIn
-  order-by c o f h k g = rw (← e, h, ← f, k) g
+  order-by c day o f h g = rw (← e, h, ← f) g
 
-  pub order-words : (c : ℕ) → c ≡ commandOf w → isSilent w ≡ false → isWhole c line ≡ false → Bad 0 c ≡ orderIn line
-  unfolding orderIn
-  order-words c f h k = rw (← e, h, ← f, k)
+-- ---- commands, where a day is open or not
+
+module _ (c : ℕ) (line : List ℕ) where
+  pub command-words : (day : Bool) (o : Order) → isWhole c line ≡ false → o ≡ wants c → o ≡ commanded day c line
+  unfolding commanded
+  command-words day o h g = rw h g
+
+  pub command-open : (day : Bool) (o : Order) → isWhole c line ≡ true → day ≡ true → o ≡ orderBy c line → o ≡ commanded day c line
+  unfolding commanded
+  command-open day o h k g = rw (h, k) g
+
+  pub command-closed : (day : Bool) → isWhole c line ≡ true → day ≡ false → isOfDay c ≡ true → Bad 0 no-day ≡ commanded day c line
+  unfolding commanded
+  command-closed day h k l = rw (h, k, l)
+
+  pub command-other : (day : Bool) (o : Order) → isWhole c line ≡ true → day ≡ false → isOfDay c ≡ false → o ≡ orderBy c line → o ≡ commanded day c line
+  unfolding commanded
+  command-other day o h k l g = rw (h, k, l) g

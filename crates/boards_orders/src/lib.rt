@@ -1,7 +1,7 @@
 // What a line of the script asks, or what is wrong with it.
 use field_types::Number;
 ghost use mathlib.Core.Path.{_≡_};
-ghost use Rattle.boards_orders.specs.Orders.{commandOf, numberWord, hasWords, isWhole, isSilent, placesAt, registerOrder, messageOrder, withdrawOrder, boardOrder, orderBy, orderIn};
+ghost use Rattle.boards_orders.specs.Orders.{commandOf, numberWord, dateWord, timeWord, hasWords, isWhole, isOfDay, isSilent, placesAt, registerOrder, messageOrder, withdrawOrder, boardOrder, wants, orderBy, commanded, orderIn};
 
 // What a line asks, with the numbers in it; its words and files are read when it is done. `Bad` has the place of the word that is wrong, and why.
 pub enum Order {
@@ -10,20 +10,45 @@ pub enum Order {
     Register(u8),
     Message(u8),
     Withdraw(u32, u8),
-    Board(u32, usize),
+    Board(u32, u32, u32, usize),
+    Messages,
+    Registered,
+    Save,
+    Load,
     Bad(usize, usize),
 }
 
-// Why a line is not done. At 0 to 4 its command wants other words, at 5 it is no command.
-pub const UNREADABLE: usize = 6;
+// Why a line is not done.
+pub const UNREADABLE: usize = 0;
 
-pub const NO_NUMBER: usize = 7;
+pub const UNWRITABLE: usize = 1;
 
-pub const NO_OWNER: usize = 8;
+pub const FULL: usize = 2;
 
-pub const FULL: usize = 9;
+const NO_DAY: usize = 3;
 
-// The commands, by their places among the names in `command`; behind them stands no command.
+const NO_SENDER: usize = 4;
+
+const NOT_TO_REGISTER: usize = 5;
+
+const NO_NUMBER: usize = 6;
+
+const NO_OWNER: usize = 7;
+
+const NO_DATE: usize = 8;
+
+const NO_TIME: usize = 9;
+
+const NO_HORIZON: usize = 10;
+
+const NO_PLACES: usize = 11;
+
+pub const LONG: usize = 12;
+
+// From here on, by the command: it wants other words; the last is no command.
+const WORDS: usize = 13;
+
+// The commands, by their places among the names in `command`.
 const OPEN: usize = 0;
 
 const REGISTER: usize = 1;
@@ -34,11 +59,24 @@ const WITHDRAW: usize = 3;
 
 const BOARD: usize = 4;
 
+const MESSAGES: usize = 5;
+
+const REGISTERED: usize = 6;
+
+const SAVE: usize = 7;
+
+const LOAD: usize = 8;
+
+const NO_COMMAND: usize = 9;
+
 // Which command w is.
 fn command(w: &[u8]) -> usize
     ensures { λ r. ⌜ r ≡ commandOf (now (w .entry)) ⌝ }
 {
-    turbo_labels::column_of(b"OPEN|REGISTER|MESSAGE|WITHDRAW|BOARD", w)
+    turbo_labels::column_of(
+        b"OPEN|REGISTER|MESSAGE|WITHDRAW|BOARD|MESSAGES|REGISTERED|SAVE|LOAD",
+        w,
+    )
 }
 
 // What is no number is out of every range.
@@ -60,10 +98,10 @@ fn read_register(line: &[u8]) -> Order
 {
     let sender = number(line, 1);
     if sender == 0 {
-        return Order::Bad(1, NO_NUMBER);
+        return Order::Bad(1, NOT_TO_REGISTER);
     }
     if 255 < sender {
-        return Order::Bad(1, NO_NUMBER);
+        return Order::Bad(1, NOT_TO_REGISTER);
     }
     if passage::TEXT_WIDE < script_text::word(line, 2).len() {
         return Order::Bad(2, NO_OWNER);
@@ -77,7 +115,7 @@ fn read_message(line: &[u8]) -> Order
 {
     let sender = number(line, 1);
     if 255 < sender {
-        return Order::Bad(1, NO_NUMBER);
+        return Order::Bad(1, NO_SENDER);
     }
     Order::Message(sender as u8)
 }
@@ -92,7 +130,7 @@ fn read_withdraw(line: &[u8]) -> Order
     }
     let sender = number(line, 2);
     if 255 < sender {
-        return Order::Bad(2, NO_NUMBER);
+        return Order::Bad(2, NO_SENDER);
     }
     Order::Withdraw(n, sender as u8)
 }
@@ -107,19 +145,47 @@ fn places(line: &[u8]) -> u32
     number(line, 6)
 }
 
+// The fourth word as a date.
+fn date(line: &[u8]) -> u32
+    ensures { λ r. ⌜ r ≡ dateWord (now (line .entry)) ⌝ }
+{
+    match field_types::read_date(script_text::word(line, 3)) {
+        Number::Is(n) => n,
+        Number::Wrong => NONE,
+    }
+}
+
+// The fifth word as a time: its hours to 31, so that what is outside a board's range is the board's to refuse.
+fn second(line: &[u8]) -> u32
+    ensures { λ r. ⌜ r ≡ timeWord (now (line .entry)) ⌝ }
+{
+    match field_types::read_clock(script_text::word(line, 4), 31) {
+        Number::Is(n) => n,
+        Number::Wrong => NONE,
+    }
+}
+
 // BOARD owner stop date time horizon [places].
 fn read_board(line: &[u8]) -> Order
     ensures { λ r. ⌜ r ≡ boardOrder (now (line .entry)) ⌝ }
 {
+    let day = date(line);
+    if day == NONE {
+        return Order::Bad(3, NO_DATE);
+    }
+    let time = second(line);
+    if time == NONE {
+        return Order::Bad(4, NO_TIME);
+    }
     let horizon = number(line, 5);
     if horizon == NONE {
-        return Order::Bad(5, NO_NUMBER);
+        return Order::Bad(5, NO_HORIZON);
     }
     let most = places(line);
     if 2048 < most {
-        return Order::Bad(6, NO_NUMBER);
+        return Order::Bad(6, NO_PLACES);
     }
-    Order::Board(horizon, most as usize)
+    Order::Board(day, time, horizon, most as usize)
 }
 
 // Whether a line has a k-th word, and no n-th.
@@ -136,10 +202,35 @@ fn has_words(line: &[u8], k: usize, n: usize) -> bool
 fn is_whole(line: &[u8], c: usize) -> bool
     ensures { λ r. ⌜ r ≡ isWhole c (now (line .entry)) ⌝ }
 {
-    if c == BOARD {
-        return has_words(line, 5, 7);
+    match c {
+        BOARD => has_words(line, 5, 7),
+        MESSAGES => has_words(line, 0, 1),
+        REGISTERED => has_words(line, 0, 1),
+        SAVE => has_words(line, 1, 2),
+        LOAD => has_words(line, 1, 2),
+        _ => has_words(line, 2, 3),
     }
-    has_words(line, 2, 3)
+}
+
+// Whether a command is about the day that is open.
+fn is_of_day(c: usize) -> bool
+    ensures { λ r. ⌜ r ≡ isOfDay c ⌝ }
+{
+    match c {
+        MESSAGE => true,
+        WITHDRAW => true,
+        BOARD => true,
+        MESSAGES => true,
+        SAVE => true,
+        _ => false,
+    }
+}
+
+// Command c wants other words, or is none.
+fn wants(c: usize) -> Order
+    ensures { λ r. ⌜ r ≡ wants c ⌝ }
+{
+    Order::Bad(0, WORDS + script_text::at_most(c, NO_COMMAND))
 }
 
 // What a line with as many words as command c wants asks.
@@ -152,7 +243,11 @@ fn read_by(line: &[u8], c: usize) -> Order
         MESSAGE => read_message(line),
         WITHDRAW => read_withdraw(line),
         BOARD => read_board(line),
-        _ => Order::Bad(0, c),
+        MESSAGES => Order::Messages,
+        REGISTERED => Order::Registered,
+        SAVE => Order::Save,
+        LOAD => Order::Load,
+        _ => wants(c),
     }
 }
 
@@ -166,17 +261,30 @@ fn is_silent(w: &[u8]) -> bool
     w[0] == b'#'
 }
 
-// What a line asks, by its first word, which is a command, and the words behind it.
-pub fn read_order(line: &[u8]) -> Order
-    ensures { λ r. ⌜ r ≡ orderIn (now (line .entry)) ⌝ }
+// What a line asks by its command c, where a day is open or not.
+fn read_command(line: &[u8], c: usize, day: bool) -> Order
+    ensures { λ r. ⌜ r ≡ commanded day c (now (line .entry)) ⌝ }
+{
+    if is_whole(line, c) {
+        if day {
+            return read_by(line, c);
+        }
+        if is_of_day(c) {
+            return Order::Bad(0, NO_DAY);
+        }
+        return read_by(line, c);
+    }
+    wants(c)
+}
+
+// What a line asks, by its first word, which is a command, and the words behind it; and by whether a day is open.
+pub fn read_order(line: &[u8], day: bool) -> Order
+    ensures { λ r. ⌜ r ≡ orderIn day (now (line .entry)) ⌝ }
 {
     let w = script_text::word(line, 0);
     if is_silent(w) {
         return Order::Nothing;
     }
     let c = command(w);
-    if is_whole(line, c) {
-        return read_by(line, c);
-    }
-    Order::Bad(0, c)
+    read_command(line, c, day)
 }

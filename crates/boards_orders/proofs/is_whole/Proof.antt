@@ -1,5 +1,6 @@
 -- `is_whole` meets its contract. Assumes nothing.
-use Rattle.boards_orders.proofs.OrderLaws.{whole-board, whole-other}
+use borrow.Author.Tests.{ne-eqb}
+use Rattle.boards_orders.specs.Orders.{isWhole}
 use borrow.Author.Needs.{needs}
 use Rattle.boards_orders.proofs.is_whole.Statement.{statement}
 use Rattle.boards_orders.proofs.is_whole.Tie as tie
@@ -7,14 +8,58 @@ use Rattle.boards_orders.proofs.is_whole.Tie as tie
 has-words-requires : tie.Need-has-words-requires
 has-words-requires c κs = search needs
 
-returns : tie.Need-returns
-returns c = let a = c .before .before .before .args in whole-board (a .c) (a .line .now) (c .has-words .result) (c .before .if1 .taken) (c .has-words .ensures)
-
 has-words-requires-2 : tie.Need-has-words-requires-2
 has-words-requires-2 c κs = search needs
 
+has-words-requires-3 : tie.Need-has-words-requires-3
+has-words-requires-3 c κs = search needs
+
+has-words-requires-4 : tie.Need-has-words-requires-4
+has-words-requires-4 c κs = search needs
+
+has-words-requires-5 : tie.Need-has-words-requires-5
+has-words-requires-5 c κs = search needs
+
+has-words-requires-6 : tie.Need-has-words-requires-6
+has-words-requires-6 c κs = search needs
+
+returns : tie.Need-returns
+unfolding isWhole
+returns c = rw (c .before .match .keys1) (c .has-words .ensures)
+
 returns-2 : tie.Need-returns-2
-returns-2 c = let a = c .before .before .before .args in whole-other (a .c) (a .line .now) (c .has-words2 .result) (c .before .if1 .left) (c .has-words2 .ensures)
+unfolding isWhole
+returns-2 c = rw (c .before .match .keys2) (c .has-words2 .ensures)
+
+returns-3 : tie.Need-returns-3
+unfolding isWhole
+returns-3 c = rw (c .before .match .keys3) (c .has-words3 .ensures)
+
+returns-4 : tie.Need-returns-4
+unfolding isWhole
+returns-4 c = rw (c .before .match .keys4) (c .has-words4 .ensures)
+
+returns-5 : tie.Need-returns-5
+unfolding isWhole
+returns-5 c = rw (c .before .match .keys5) (c .has-words5 .ensures)
+
+returns-6 : tie.Need-returns-6
+unfolding isWhole
+returns-6 c = let r = c .before .match .rest in rw (ne-eqb _ 4 (r .0 .0 .0 .0 .1), ne-eqb _ 5 (r .0 .0 .0 .1), ne-eqb _ 6 (r .0 .0 .1), ne-eqb _ 7 (r .0 .1), ne-eqb _ 8 (r .1)) (c .has-words6 .ensures)
 
 pub is-whole-spec : {M : Type 1} → statement M
-is-whole-spec = tie.close (tie.spec has-words-requires returns has-words-requires-2 returns-2)
+is-whole-spec =
+    tie.close
+    (tie.spec
+    has-words-requires
+    has-words-requires-2
+    has-words-requires-3
+    has-words-requires-4
+    has-words-requires-5
+    has-words-requires-6
+    returns
+    returns-2
+    returns-3
+    returns-4
+    returns-5
+    returns-6)

@@ -17,6 +17,9 @@ read-withdraw-requires c κs = search needs
 read-board-requires : tie.Need-read-board-requires
 read-board-requires c κs = search needs
 
+wants-requires : tie.Need-wants-requires
+wants-requires c κs = search needs
+
 returns : tie.Need-returns
 unfolding orderBy
 returns c = rw (c .match .keys1)
@@ -39,7 +42,23 @@ returns-5 c = rw (c .before .match .keys5) (c .read-board .ensures)
 
 returns-6 : tie.Need-returns-6
 unfolding orderBy
-returns-6 c = let r = c .match .rest in rw (ne-eqb _ 0 (r .0 .0 .0 .0 .1), ne-eqb _ 1 (r .0 .0 .0 .1), ne-eqb _ 2 (r .0 .0 .1), ne-eqb _ 3 (r .0 .1), ne-eqb _ 4 (r .1))
+returns-6 c = rw (c .match .keys6)
+
+returns-7 : tie.Need-returns-7
+unfolding orderBy
+returns-7 c = rw (c .match .keys7)
+
+returns-8 : tie.Need-returns-8
+unfolding orderBy
+returns-8 c = rw (c .match .keys8)
+
+returns-9 : tie.Need-returns-9
+unfolding orderBy
+returns-9 c = rw (c .match .keys9)
+
+returns-10 : tie.Need-returns-10
+unfolding orderBy
+returns-10 c = let r = c .before .match .rest in rw (ne-eqb _ 0 (r .0 .0 .0 .0 .0 .0 .0 .0 .1), ne-eqb _ 1 (r .0 .0 .0 .0 .0 .0 .0 .1), ne-eqb _ 2 (r .0 .0 .0 .0 .0 .0 .1), ne-eqb _ 3 (r .0 .0 .0 .0 .0 .1), ne-eqb _ 4 (r .0 .0 .0 .0 .1), ne-eqb _ 5 (r .0 .0 .0 .1), ne-eqb _ 6 (r .0 .0 .1), ne-eqb _ 7 (r .0 .1), ne-eqb _ 8 (r .1)) (c .wants .ensures)
 
 pub read-by-spec : {M : Type 1} → statement M
 read-by-spec =
@@ -49,9 +68,14 @@ read-by-spec =
     read-message-requires
     read-withdraw-requires
     read-board-requires
+    wants-requires
     returns
     returns-2
     returns-3
     returns-4
     returns-5
-    returns-6)
+    returns-6
+    returns-7
+    returns-8
+    returns-9
+    returns-10)

@@ -27,17 +27,23 @@ word-requires c κs = search needs
 append-requires-2 : tie.Need-append-requires-2
 append-requires-2 c κs = search needs
 
-slice-aggregate-echo : tie.Need-slice-aggregate-echo
-slice-aggregate-echo c = search needs
-
-echo-requires : tie.Need-echo-requires
-echo-requires c κs = search needs
-
 slice-aggregate-tell : tie.Need-slice-aggregate-tell
 slice-aggregate-tell c = search needs
 
-add-tell : tie.Need-add-tell
-add-tell c = search needs
+slice-aggregate-tell-2 : tie.Need-slice-aggregate-tell-2
+slice-aggregate-tell-2 c = search needs
+
+slice-aggregate-tell-3 : tie.Need-slice-aggregate-tell-3
+slice-aggregate-tell-3 c = search needs
+
+slice-aggregate-tell-4 : tie.Need-slice-aggregate-tell-4
+slice-aggregate-tell-4 c = search needs
+
+add-t20 : tie.Need-add-t20
+add-t20 c = search needs
+
+slice-aggregate-tell-5 : tie.Need-slice-aggregate-tell-5
+slice-aggregate-tell-5 c = search needs
 
 tell-requires : tie.Need-tell-requires
 tell-requires c κs = search needs
@@ -49,7 +55,7 @@ same-length : tie.Need-same-length
 same-length c = search needs
 
 returns-2 : tie.Need-returns-2
-returns-2 c = let a = c .before .before .before .before .before .before .before .before .before .before .before .before .before .before .before .before .before .args in (pair-held (a .held) (c .before .before .before .before .before .before .before .before .before .before .before .before .before .before .if1 .left), pair-register (a .sender) (wordAt 2 (a .line .now)) _ (a .held .register) (a .register .now) _ _ (c .before .before .before .before .before .before .before .before .before .before .before .before .before .before .if1 .left) (c .before .before .before .before .before .before .before .word .ensures) (c .before .before .before .before .before .before .before .before .before .before .before .append .ensures .1) (c .before .before .before .before .before .before .append2 .ensures .1))
+returns-2 c = let a = c .before .before .before .before .before .before .before .before .before .before .before .before .before .before .before .before .before .before .before .args in (pair-held (a .held) (c .before .before .before .before .before .before .before .before .before .before .before .before .before .before .before .before .if1 .left), pair-register (a .sender) (wordAt 2 (a .line .now)) _ (a .held .register) (a .register .now) _ _ (c .before .before .before .before .before .before .before .before .before .before .before .before .before .before .before .before .if1 .left) (c .before .before .before .before .before .before .before .before .before .word .ensures) (c .before .before .before .before .before .before .before .before .before .before .before .before .before .append .ensures .1) (c .before .before .before .before .before .before .before .before .append2 .ensures .1))
 
 pub enrol-spec : {M : Type 1} → statement M
 enrol-spec =
@@ -62,10 +68,12 @@ enrol-spec =
     add-append
     word-requires
     append-requires-2
-    slice-aggregate-echo
-    echo-requires
     slice-aggregate-tell
-    add-tell
+    slice-aggregate-tell-2
+    slice-aggregate-tell-3
+    slice-aggregate-tell-4
+    add-t20
+    slice-aggregate-tell-5
     tell-requires
     add-n
     same-length

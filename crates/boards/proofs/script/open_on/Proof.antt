@@ -9,8 +9,8 @@ use Rattle.boards.proofs.script.open_on.Tie as tie
 open-requires : tie.Need-open-requires
 open-requires c κs = search needs
 
-slice-aggregate-told : tie.Need-slice-aggregate-told
-slice-aggregate-told c = search needs
+opened-requires : tie.Need-opened-requires
+opened-requires c κs = search needs
 
 told-requires : tie.Need-told-requires
 told-requires c κs = search needs
@@ -27,4 +27,10 @@ returns c = let a = c .before .before .before .before .before .before .before .b
 pub open-on-spec : {M : Type 1} → statement M
 open-on-spec =
     tie.close
-    (tie.spec open-requires slice-aggregate-told told-requires same-length same-length-2 returns)
+    (tie.spec
+    open-requires
+    opened-requires
+    told-requires
+    same-length
+    same-length-2
+    returns)

@@ -1,5 +1,6 @@
 -- `script::perform` meets its contract. Assumes nothing.
 use mathlib.Core.Path.{refl}
+use mathlib.Core.Logic.{inl, inr, ⊎-elim}
 use Rattle.boards.specs.Leaves.{state}
 use Rattle.boards.proofs.LeavesLaws.{state-is, held-is, leaves-by}
 use borrow.Author.Needs.{needs}
@@ -38,6 +39,30 @@ enum-known-order-4 c = search needs
 
 board-requires : tie.Need-board-requires
 board-requires c κs = search needs
+
+enum-told-3 : tie.Need-enum-told-3
+enum-told-3 c = search needs
+
+list-messages-requires : tie.Need-list-messages-requires
+list-messages-requires c κs = search needs
+
+enum-told-4 : tie.Need-enum-told-4
+enum-told-4 c = search needs
+
+list-pairs-requires : tie.Need-list-pairs-requires
+list-pairs-requires c κs = search needs
+
+enum-told-5 : tie.Need-enum-told-5
+enum-told-5 c = search needs
+
+save-requires : tie.Need-save-requires
+save-requires c κs = search needs
+
+enum-told-6 : tie.Need-enum-told-6
+enum-told-6 c = search needs
+
+load-day-requires : tie.Need-load-day-requires
+load-day-requires c κs = search needs
 
 enum-known-order-5 : tie.Need-enum-known-order-5
 enum-known-order-5 c = search needs
@@ -88,10 +113,46 @@ same-length-9 : tie.Need-same-length-9
 same-length-9 c = search needs
 
 returns-6 : tie.Need-returns-6
-returns-6 c = let a = c .before .before .before .before .before .before .before .before .before .args in leaves-by (a .order) _ (a .line .now) (state (a .held) (a .register .now) (a .book .now) (a .table .now)) _ (c .before .before .before .order4 .given .1) (held-is _ _ _ _ _ (c .board .ensures))
+returns-6 c = let a = c .before .before .before .before .before .before .before .before .before .args in leaves-by (a .order) _ (a .line .now) (state (a .held) (a .register .now) (a .book .now) (a .table .now)) _ (c .before .before .before .order4 .given .1) (c .board .ensures (a .register .now) (a .book .now))
+
+same-length-10 : tie.Need-same-length-10
+same-length-10 c = search needs
 
 returns-7 : tie.Need-returns-7
-returns-7 c = let a = c .before .before .before .before .before .before .before .before .args in leaves-by (a .order) _ (a .line .now) (state (a .held) (a .register .now) (a .book .now) (a .table .now)) _ (c .before .before .order5 .given .1) (held-is _ _ _ _ _ (c .bad .ensures))
+returns-7 c = let a = c .before .before .before .before .before .before .before .before .args in leaves-by (a .order) _ (a .line .now) (state (a .held) (a .register .now) (a .book .now) (a .table .now)) _ (c .before .before .enum-told3 .given .1) (held-is _ _ _ _ _ (c .list-messages .ensures))
+
+same-length-11 : tie.Need-same-length-11
+same-length-11 c = search needs
+
+returns-8 : tie.Need-returns-8
+returns-8 c = let a = c .before .before .before .before .before .before .before .before .args in leaves-by (a .order) _ (a .line .now) (state (a .held) (a .register .now) (a .book .now) (a .table .now)) _ (c .before .before .enum-told4 .given .1) (held-is _ _ _ _ _ (c .list-pairs .ensures))
+
+same-length-12 : tie.Need-same-length-12
+same-length-12 c = search needs
+
+same-length-13 : tie.Need-same-length-13
+same-length-13 c = search needs
+
+same-length-14 : tie.Need-same-length-14
+same-length-14 c = search needs
+
+returns-9 : tie.Need-returns-9
+returns-9 c = let a = c .before .before .before .before .before .before .before .before .before .before .args in leaves-by (a .order) _ (a .line .now) (state (a .held) (a .register .now) (a .book .now) (a .table .now)) _ (c .before .before .before .before .enum-told5 .given .1) (⊎-elim (λ e. inl (held-is _ _ _ _ _ e)) (λ e. inr (held-is _ _ _ _ _ e)) (c .save .ensures))
+
+same-length-15 : tie.Need-same-length-15
+same-length-15 c = search needs
+
+same-length-16 : tie.Need-same-length-16
+same-length-16 c = search needs
+
+same-length-17 : tie.Need-same-length-17
+same-length-17 c = search needs
+
+returns-10 : tie.Need-returns-10
+returns-10 c = let a = c .before .before .before .before .before .before .before .before .before .before .before .before .before .before .before .before .args in leaves-by (a .order) _ (a .line .now) (state (a .held) (a .register .now) (a .book .now) (a .table .now)) _ (c .before .before .before .before .before .before .before .before .before .before .enum-told6 .given .1) (c .before .before .before .before .before .before .load-day .ensures)
+
+returns-11 : tie.Need-returns-11
+returns-11 c = let a = c .before .before .before .before .before .before .before .before .args in leaves-by (a .order) _ (a .line .now) (state (a .held) (a .register .now) (a .book .now) (a .table .now)) _ (c .before .before .order5 .given .1) (held-is _ _ _ _ _ (c .bad .ensures))
 
 pub perform-spec : {M : Type 1} → statement M
 perform-spec =
@@ -108,6 +169,14 @@ perform-spec =
     withdraw-requires
     enum-known-order-4
     board-requires
+    enum-told-3
+    list-messages-requires
+    enum-told-4
+    list-pairs-requires
+    enum-told-5
+    save-requires
+    enum-told-6
+    load-day-requires
     enum-known-order-5
     bad-requires
     returns
@@ -125,4 +194,16 @@ perform-spec =
     returns-5
     same-length-9
     returns-6
-    returns-7)
+    same-length-10
+    returns-7
+    same-length-11
+    returns-8
+    same-length-12
+    same-length-13
+    same-length-14
+    returns-9
+    same-length-15
+    same-length-16
+    same-length-17
+    returns-10
+    returns-11)

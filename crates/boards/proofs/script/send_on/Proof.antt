@@ -15,8 +15,8 @@ front-requires c κs = search needs
 message-requires : tie.Need-message-requires
 message-requires c κs = search needs
 
-slice-aggregate-told : tie.Need-slice-aggregate-told
-slice-aggregate-told c = search needs
+sent-requires : tie.Need-sent-requires
+sent-requires c κs = search needs
 
 told-requires : tie.Need-told-requires
 told-requires c κs = search needs
@@ -36,7 +36,7 @@ send-on-spec =
     (tie.spec
     front-requires
     message-requires
-    slice-aggregate-told
+    sent-requires
     told-requires
     same-length
     same-length-2

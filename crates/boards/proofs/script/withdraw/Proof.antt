@@ -9,8 +9,8 @@ use Rattle.boards.proofs.script.withdraw.Tie as tie
 withdraw-requires : tie.Need-withdraw-requires
 withdraw-requires c κs = search needs
 
-slice-aggregate-told : tie.Need-slice-aggregate-told
-slice-aggregate-told c = search needs
+withdrawn-requires : tie.Need-withdrawn-requires
+withdrawn-requires c κs = search needs
 
 told-requires : tie.Need-told-requires
 told-requires c κs = search needs
@@ -29,7 +29,7 @@ withdraw-spec =
     tie.close
     (tie.spec
     withdraw-requires
-    slice-aggregate-told
+    withdrawn-requires
     told-requires
     same-length
     same-length-2

@@ -1,0 +1,17 @@
+-- `script::miss` meets its contract. Assumes nothing.
+use Rattle.boards.proofs.LeavesLaws.{missed-is}
+use borrow.Author.Needs.{needs}
+use Rattle.boards.proofs.script.miss.Statement.{statement}
+use Rattle.boards.proofs.script.miss.Tie as tie
+
+miss-requires : tie.Need-miss-requires
+miss-requires c κs = search needs
+
+wrapping-add-u32-requires : tie.Need-wrapping-add-u32-requires
+wrapping-add-u32-requires c κs = search needs
+
+returns : tie.Need-returns
+returns c = missed-is (c .before .before .before .args .held) (c .wrapping-add-u32 .result) (c .wrapping-add-u32 .ensures)
+
+pub miss-spec : {M : Type 1} → statement M
+miss-spec = tie.close (tie.spec miss-requires wrapping-add-u32-requires returns)
