@@ -1,4 +1,4 @@
-/* A stop's board, then with a cancellation, then with that withdrawn. `tools/run-c-example` builds and runs it. */
+/* A stop's board, then with a cancellation, then with that withdrawn, then with the same again, come in parts. `tools/run-c-example` builds and runs it. */
 #define _DEFAULT_SOURCE /* timegm */
 #include <stdio.h>
 #include <string.h>
@@ -78,6 +78,17 @@ static int refused(const char *call, uint32_t number)
     return 1;
 }
 
+/* a message as a line hands it over: a hundred bytes at a time, cut wherever that is */
+static uint32_t send_in_parts(const uint8_t *dossier, size_t length)
+{
+    static uint8_t staging[DESK_STAGING], line[DESK_LINE];
+    uint64_t feed[DESK_FEED];
+    desk_feed_begin(SENDER, feed);
+    for (size_t at = 0; at < length; at += 100)
+        desk_feed(dossier + at, length - at < 100 ? length - at : 100, (const uint8_t *)registered, sizeof registered, staging, sizeof staging, line, feed);
+    return desk_day_feed_end(&day, (const uint8_t *)registered, sizeof registered, staging, sizeof staging, feed);
+}
+
 int main(void)
 {
     if (refused("open", desk_day_open(&day, TEXT(planning), TEXT(calendar)))) return 1;
@@ -90,6 +101,10 @@ int main(void)
 
     if (refused("withdraw", desk_day_withdraw(&day, message, SENDER))) return 1;
     printf("\nmessage %u withdrawn:\n", (unsigned)message);
+    print_board();
+
+    if (refused("parts", send_in_parts(TEXT(cancellation)))) return 1;
+    printf("\nmessage %u, in parts:\n", (unsigned)day.answer[DESK_ANSWER_VALUE]);
     print_board();
     return 0;
 }

@@ -1,29 +1,30 @@
-/* Zhemdurak for C: open a day, take messages, withdraw them, ask for boards. docs/SCOPE.md has the rules, examples/board.c a use of it all.
+/* Zhemdurak for C: open a day, take messages whole or in parts, withdraw them, ask for boards. docs/SCOPE.md has the rules, examples/board.c a use of it all.
 
    Link the archive that `tools/native-archive desk` writes, or `tools/install PREFIX` puts with this header and a pkg-config file: `cc program.c
    $(pkg-config --cflags --libs desk)`. 64-bit machines only.
 
    MEMORY. All memory is lent for the time of one call, each piece as a pointer and a length; nothing is kept and nothing allocated. What a call may
-   write (book, table, places, answer) must overlap nothing else that is passed to it; what it only reads may overlap. `places` and `answer` are aligned
-   as their types are. Where a length is 0, the pointer may be NULL; `answer` may not.
+   write (book, table, places, staging, line, feed, answer) must overlap nothing else that is passed to it; what it only reads may overlap. `places`,
+   `feed` and `answer` are aligned as their types are. Where a length is 0, the pointer may be NULL; `line`, `feed` and `answer` may not.
 
    THREADS. There is no data but what is lent, and what stands on the stack: calls may run side by side, in as many threads as wanted, if what one
-   writes no other is lent. A call takes the same stack whatever it is passed: open 1 MB, message and withdraw less than 400 KB, board less than 10 KB
-   (on x86-64; `tools/stack` measures it). Threads with small stacks need more than their default.
+   writes no other is lent. A call takes the same stack whatever it is passed: open 1 MB, message, withdraw and the calls of a feed less than 400 KB, board
+   less than 10 KB (on x86-64; `tools/stack` measures it). Threads with small stacks need more than their default.
 
    ANY BYTES and any numbers may be passed: a call refuses what it cannot take, and a refused call changes nothing but `answer`.
 
    THE DAY is the book, the table and two counts. The counts of the last answer (used, rows) go to the next call; a refused call gives back the ones that
-   it was passed. `struct desk_day` with desk_day_open, desk_day_message, desk_day_withdraw and desk_day_board keeps them and passes them on by itself; the
-   plain calls leave that to you.
+   it was passed. `struct desk_day` with desk_day_open, desk_day_message, desk_day_feed_end, desk_day_withdraw and desk_day_board keeps them and passes them
+   on by itself; the plain calls leave that to you.
 
    THE ANSWER of a call on the day is six numbers, and each call returns the first of them too:
 
      [0] number   DESK_ACCEPTED, or why it was refused
-     [1] value    accepted: message: its number, 0 where it had no rows; else 0
-                  refused: DESK_SYNTAX: the fault's byte offset, from 0; DESK_FORM, DESK_FIELD, DESK_NOT_REGISTERED: the line, from 1; else 0
+     [1] value    accepted: message, whole or in parts: its number, 0 where it had no rows; else 0
+                  refused: DESK_SYNTAX: the fault's byte offset, from 0; DESK_LINE_LONG, DESK_FORM, DESK_FIELD, DESK_NOT_REGISTERED: the line, from 1;
+                  else 0
      [2] second   refused: DESK_FIELD: the column, from 1; else 0
-     [3] dossier  open refused with DESK_TOO_LONG to DESK_FIELD: 1 the planning, 2 the calendar; else 0
+     [3] dossier  open refused with DESK_TOO_LONG to DESK_FIELD or DESK_LINE_LONG: 1 the planning, 2 the calendar; else 0
      [4] used     bytes used of the book, for the next call; refused: as passed
      [5] rows     rows of the table, for the next call; refused: as passed
 
@@ -42,8 +43,8 @@
 extern "C" {
 #endif
 
-/* Of this face: one more where a call or an answer changes. 2: a board's answer has three numbers. */
-enum { DESK_VERSION = 2 };
+/* Of this face: one more where a call or an answer changes. 2: a board's answer has three numbers. 3: DESK_LINE_LONG, and messages in parts. */
+enum { DESK_VERSION = 3 };
 
 /* The places in an answer, and how many there are: of a call on the day, and of a board. */
 enum {
@@ -57,22 +58,25 @@ enum {
     DESK_BOARD_ANSWER = 3
 };
 
-/* An answer's number, and which calls give it. Where several hold, the first is given in the order 1 to 7, 9, 10, 12, 11, 8, 13. */
+/* An answer's number, and which calls give it; end is that of a feed. Where several hold, the first is given in the order 1, 2, 3, 15, 4 to 6, 14, 7, 9,
+   10, 12, 11, 8, 13. */
 enum {
     DESK_ACCEPTED = 0,
-    DESK_UNSOUND = 1,            /* message, withdraw, board: counts, book, table or register cannot be worked with */
-    DESK_TOO_LONG = 2,           /* open, message: a dossier over DESK_DOSSIER bytes */
-    DESK_SYNTAX = 3,             /* open, message: not the form of a dossier */
-    DESK_FORM = 4,               /* open, message: a wanted column twice, or missing, or a line with another number of fields than its label line */
-    DESK_FIELD = 5,              /* open, message: a wanted field outside its type */
-    DESK_NOT_REGISTERED = 6,     /* message: the sender is not registered for a row's owner */
-    DESK_BOOK_SHORT = 7,         /* open, message: no room in the book */
-    DESK_TABLE_SHORT = 8,        /* open, message, withdraw: no room in the table */
+    DESK_UNSOUND = 1,            /* message, feed, end, withdraw, board: counts, book, table, register, feed or staged rows cannot be worked with */
+    DESK_TOO_LONG = 2,           /* open, message, end: a dossier over DESK_DOSSIER bytes */
+    DESK_SYNTAX = 3,             /* open, message, end: not the form of a dossier */
+    DESK_FORM = 4,               /* open, message, end: a wanted column twice, or missing, or a line with another number of fields than its label line */
+    DESK_FIELD = 5,              /* open, message, end: a wanted field outside its type */
+    DESK_NOT_REGISTERED = 6,     /* message, end: the sender is not registered for a row's owner */
+    DESK_BOOK_SHORT = 7,         /* open, message, end: no room in the book */
+    DESK_TABLE_SHORT = 8,        /* open, message, end, withdraw: no room in the table */
     DESK_KEY_TWICE = 9,          /* open: one passage is planned twice */
     DESK_NO_MESSAGE = 10,        /* withdraw: no message has the number */
     DESK_ALREADY_WITHDRAWN = 11, /* withdraw */
     DESK_OTHER_SENDER = 12,      /* withdraw: the sender is neither the message's nor the desk */
-    DESK_OUT_OF_RANGE = 13       /* board: owner, stop, date, second or horizon */
+    DESK_OUT_OF_RANGE = 13,      /* board: owner, stop, date, second or horizon */
+    DESK_STAGING_SHORT = 14,     /* end: the staging area has no room for all rows, or had none while they were fed */
+    DESK_LINE_LONG = 15          /* open, message, end: a line over DESK_LINE bytes */
 };
 
 /* Sizes to lend where room is never to lack. Less may be lent; of more, no more than this is used. */
@@ -83,7 +87,10 @@ enum {
     DESK_TABLE = 2048 * 67,   /* bytes of a table */
     DESK_PAIR = 11,           /* bytes of a pair of the register: a sender, then its owner padded with zeros */
     DESK_REGISTER = 64 * 11,  /* bytes of a register at most. A longer one, or a part of a pair, is unsound; an empty one registers nobody */
-    DESK_DOSSIER = 65536      /* bytes of a dossier at most */
+    DESK_DOSSIER = 65536,     /* bytes of a dossier at most */
+    DESK_LINE = 4096,         /* bytes of a line of a dossier at most, its CR LF among them */
+    DESK_STAGING = 2427 * 66, /* bytes of a staging area: the rows of any dossier */
+    DESK_FEED = 48            /* numbers of a feed */
 };
 
 /* A sender is 1 to 255. 0 is the desk: it sends no rows, and withdraws anybody's message. */
@@ -167,6 +174,38 @@ uint32_t desk_message(const uint8_t *dossier, size_t dossier_len, uint8_t sender
                       uint8_t *table, size_t table_len,
                       uint64_t used, uint64_t rows, uint64_t answer[6]);
 
+/* A message dossier that arrives in parts, cut anywhere: begin, feed each part as it comes, then end. The same dossier in one call of desk_message gives
+   the same answer, book and table, whatever the cuts, while nobody else writes what is lent here and the register stays the same; but for
+   DESK_STAGING_SHORT. Before the end book and table are not lent, so they cannot change.
+
+   A feed is three pieces of memory that you lend to every call of it, and that nobody else writes in between:
+
+     feed     DESK_FEED numbers. desk_feed_begin writes all of them, whatever stood there: a feed that was begun begins anew
+     line     DESK_LINE bytes for a line that is cut: its bytes so far, and zeros behind them
+     staging  the rows read so far, DESK_BODY_WIDE bytes each. Lend it with one length throughout: what does not fit is counted, and answered with
+              DESK_STAGING_SHORT at the end. Room for DESK_STAGING bytes is enough for any dossier
+
+   Any bytes may stand there: what is no begun feed, as zeroed memory, is answered with DESK_UNSOUND and nothing is changed. */
+
+/* A feed begins, for a message from this sender. Returns 0. */
+uint32_t desk_feed_begin(uint8_t sender, uint64_t feed[48]);
+
+/* The next part, of any length. Returns 0, or DESK_UNSOUND where `feed` is no begun feed. What is wrong with the dossier is told at the end. The register
+   is asked for each row as it comes: all whole pairs of it are looked at, and its length is judged at the end. */
+uint32_t desk_feed(const uint8_t *part, size_t part_len,
+                   const uint8_t *registered, size_t registered_len,
+                   uint8_t *staging, size_t staging_len,
+                   uint8_t line[4096], uint64_t feed[48]);
+
+/* The end: what was fed is taken whole, as a message, or refused whole. Accepted, all numbers of the feed are zero: it cannot be ended twice. Refused, the
+   feed is as it was, and may be ended again, with more room say. Staged rows that were changed since they were read are taken as they are now; out of
+   their ranges they are answered with DESK_UNSOUND, and an owner that the register does not grant now with DESK_NOT_REGISTERED and line 0. */
+uint32_t desk_feed_end(const uint8_t *registered, size_t registered_len,
+                       const uint8_t *staging, size_t staging_len,
+                       uint8_t *book, size_t book_len,
+                       uint8_t *table, size_t table_len,
+                       uint64_t used, uint64_t rows, uint64_t feed[48], uint64_t answer[6]);
+
 /* The message with this number is withdrawn, as if it had never been, for its own sender or for the desk, DESK_SENDER. Its room in the book does not
    come back. */
 uint32_t desk_withdraw(uint32_t number, uint8_t sender,
@@ -213,6 +252,13 @@ static inline uint32_t desk_day_message(struct desk_day *day, const uint8_t *dos
 {
     return desk_day_keep(day, desk_message(dossier, dossier_len, sender, registered, registered_len, day->book, day->book_len, day->table,
                                            day->table_len, day->used, day->rows, day->answer));
+}
+
+static inline uint32_t desk_day_feed_end(struct desk_day *day, const uint8_t *registered, size_t registered_len,
+                                         const uint8_t *staging, size_t staging_len, uint64_t feed[48])
+{
+    return desk_day_keep(day, desk_feed_end(registered, registered_len, staging, staging_len, day->book, day->book_len, day->table, day->table_len,
+                                            day->used, day->rows, feed, day->answer));
 }
 
 static inline uint32_t desk_day_withdraw(struct desk_day *day, uint32_t number, uint8_t sender)

@@ -10,6 +10,9 @@ typedef struct {
 
 uint32_t open_inside(slice *, slice *, slice *, slice *, uint64_t, uint64_t, uint64_t *) __asm__("unproved_desk_open");
 uint32_t message_inside(slice *, uint8_t, slice *, slice *, slice *, uint64_t, uint64_t, uint64_t *) __asm__("unproved_desk_message");
+uint32_t feed_begin_inside(uint8_t, uint64_t *) __asm__("unproved_desk_feed_begin");
+uint32_t feed_inside(slice *, slice *, slice *, uint8_t *, uint64_t *) __asm__("unproved_desk_feed");
+uint32_t feed_end_inside(slice *, slice *, slice *, slice *, uint64_t, uint64_t, uint64_t *, uint64_t *) __asm__("unproved_desk_feed_end");
 uint32_t withdraw_inside(uint32_t, uint8_t, slice *, slice *, uint64_t, uint64_t, uint64_t *) __asm__("unproved_desk_withdraw");
 uint32_t board_inside(slice *, slice *, uint32_t, uint32_t, uint32_t, slice *, uint64_t, slice *, uint64_t *) __asm__("unproved_desk_board");
 
@@ -23,6 +26,21 @@ uint32_t desk_message(const uint8_t *dossier, size_t dossier_len, uint8_t sender
                       uint8_t *table, size_t table_len, uint64_t used, uint64_t rows, uint64_t *answer) {
     slice d = {dossier, dossier_len}, r = {registered, registered_len}, b = {book, book_len}, t = {table, table_len};
     return message_inside(&d, sender, &r, &b, &t, used, rows, answer);
+}
+
+uint32_t desk_feed_begin(uint8_t sender, uint64_t *feed) {
+    return feed_begin_inside(sender, feed);
+}
+
+uint32_t desk_feed(const uint8_t *part, size_t part_len, const uint8_t *registered, size_t registered_len, uint8_t *staging, size_t staging_len, uint8_t *line, uint64_t *feed) {
+    slice p = {part, part_len}, r = {registered, registered_len}, s = {staging, staging_len};
+    return feed_inside(&p, &r, &s, line, feed);
+}
+
+uint32_t desk_feed_end(const uint8_t *registered, size_t registered_len, const uint8_t *staging, size_t staging_len, uint8_t *book, size_t book_len, uint8_t *table,
+                       size_t table_len, uint64_t used, uint64_t rows, uint64_t *feed, uint64_t *answer) {
+    slice r = {registered, registered_len}, s = {staging, staging_len}, b = {book, book_len}, t = {table, table_len};
+    return feed_end_inside(&r, &s, &b, &t, used, rows, feed, answer);
 }
 
 uint32_t desk_withdraw(uint32_t number, uint8_t sender, uint8_t *book, size_t book_len, uint8_t *table, size_t table_len, uint64_t used, uint64_t rows, uint64_t *answer) {

@@ -36,6 +36,7 @@ first-of false a x r e = absurd (let z : _≡_ {A = ℕ} 0 1 = cc in omega arith
 pub read-on : (w : ℕ) (r : Reading) (next : Answer) → isAccepted (unlessRefused w r next) ≡ true → ((n : ℕ) × (r ≡ Readings.Rows n)) × (isAccepted next ≡ true)
 read-on w Readings.TooLong next e = absurd (let z : _≡_ {A = ℕ} 0 1 = cc in omega arith)
 read-on w (Readings.Syntax i) next e = absurd (let z : _≡_ {A = ℕ} 0 1 = cc in omega arith)
+read-on w (Readings.Long l) next e = absurd (let z : _≡_ {A = ℕ} 0 1 = cc in omega arith)
 read-on w (Readings.Form l) next e = absurd (let z : _≡_ {A = ℕ} 0 1 = cc in omega arith)
 read-on w (Readings.Field l c) next e = absurd (let z : _≡_ {A = ℕ} 0 1 = cc in omega arith)
 read-on w (Readings.Owner l) next e = absurd (let z : _≡_ {A = ℕ} 0 1 = cc in omega arith)
@@ -91,11 +92,11 @@ message-exactly d register book table sender c = (
       let p = passed d register book table sender c e in
       let s = sound-parts d register book table sender c (p .sound) in
       let r = accepted Tables.Message register sender d .0 (p .rows) in
-      (s .0, s .1, s .2, r .0, r .1, r .2, r .3, r .4, p .in-book, p .in-table),
+      (s .0, s .1, s .2, r .0, r .1, r .2, r .3, r .4, r .5, p .in-book, p .in-table),
   λ f.
       let s = parts-sound d register book table sender c (f .0) (f .1) (f .2) in
-      let r = accepted Tables.Message register sender d .1 (f .3, f .4, f .5, f .6, f .7) in
-      ap isAccepted (passes d register book table sender c (record { sound = s; rows = r; in-book = f .8; in-table = f .9 })),
+      let r = accepted Tables.Message register sender d .1 (f .3, f .4, f .5, f .6, f .7, f .8) in
+      ap isAccepted (passes d register book table sender c (record { sound = s; rows = r; in-book = f .9; in-table = f .10 })),
 )
 
 -- ---- withdraw

@@ -9,6 +9,7 @@ use Rattle.calls.proofs.AgainLaws.{marks-entries, works-again}
 use Rattle.calls.proofs.OpenedLaws.{leaves-plan, plan-exactly, reads-lengths}
 use Rattle.calls.proofs.ApartLaws.{open-exactly}
 use Rattle.calls.proofs.NumbersLaws.{numbers-are-tables}
+use Rattle.calls.proofs.EndLaws.{end-numbers, end-listed, end-gives-back}
 
 pub claims : All
 claims = (
@@ -30,4 +31,7 @@ claims = (
   withdraw-exactly,
   marks-entries,
   works-again,
+  end-gives-back,
+  end-listed,
+  end-numbers,
 )

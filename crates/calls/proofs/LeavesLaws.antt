@@ -7,7 +7,7 @@ use mathlib.Core.List.{List}
 use Rattle.reader.specs.declared.Reading.{Reading}
 use Rattle.reader.specs.declared.Reading.the-variants as Readings
 use Rattle.calls.specs.declared.Answer.{Answer}
-use Rattle.calls.specs.declared.Answer.the-variants.{Accepted, TooLong, Syntax, Form, Field, Owner}
+use Rattle.calls.specs.declared.Answer.the-variants.{Accepted, TooLong, Syntax, Long, Form, Field, Owner}
 use Rattle.calls.specs.declared.Counts.{Counts}
 use Rattle.calls.specs.declared.Outcome.{Outcome}
 use Rattle.calls.specs.declared.Next.the-variants.{On, Off}
@@ -29,6 +29,7 @@ leaves-accepted x n new given e r b t c told f g h = rw (e, told, f, g, h) refl
 pub passed-off : (w : ℕ) (x : Reading) (a : Answer) → passedOf w x ≡ Off a → (next : Answer) → (unlessRefused w x next ≡ a) × (isAccepted a ≡ false)
 passed-off w Readings.TooLong a e next = let h : TooLong w ≡ a = cc in (h, sym (ap isAccepted h))
 passed-off w (Readings.Syntax i) a e next = let h : Syntax i w ≡ a = cc in (h, sym (ap isAccepted h))
+passed-off w (Readings.Long l) a e next = let h : Long l w ≡ a = cc in (h, sym (ap isAccepted h))
 passed-off w (Readings.Form l) a e next = let h : Form l w ≡ a = cc in (h, sym (ap isAccepted h))
 passed-off w (Readings.Field l c) a e next = let h : Field l c w ≡ a = cc in (h, sym (ap isAccepted h))
 passed-off w (Readings.Owner l) a e next = let h : Owner l ≡ a = cc in (h, sym (ap isAccepted h))
@@ -38,6 +39,7 @@ passed-off w (Readings.Rows n) a e next = absurd (let z : _≡_ {A = ℕ} 0 1 = 
 pub passed-on : (w : ℕ) (x : Reading) (n : ℕ) → passedOf w x ≡ On n → x ≡ Readings.Rows n
 passed-on w Readings.TooLong n e = absurd (let z : _≡_ {A = ℕ} 0 1 = cc in omega arith)
 passed-on w (Readings.Syntax i) n e = absurd (let z : _≡_ {A = ℕ} 0 1 = cc in omega arith)
+passed-on w (Readings.Long l) n e = absurd (let z : _≡_ {A = ℕ} 0 1 = cc in omega arith)
 passed-on w (Readings.Form l) n e = absurd (let z : _≡_ {A = ℕ} 0 1 = cc in omega arith)
 passed-on w (Readings.Field l c) n e = absurd (let z : _≡_ {A = ℕ} 0 1 = cc in omega arith)
 passed-on w (Readings.Owner l) n e = absurd (let z : _≡_ {A = ℕ} 0 1 = cc in omega arith)

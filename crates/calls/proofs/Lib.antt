@@ -8,5 +8,6 @@ pub mod BytesLaws
 pub mod OpenedLaws
 pub mod ApartLaws
 pub mod NumbersLaws
+pub mod EndLaws
 pub mod Claims
 pub mod Determined

@@ -30,14 +30,14 @@ use Rattle.calls.specs.Numbers.{line, dossierLines, none, messageNumbers
 use Rattle.calls.specs.Claims.{NumbersAreTables}
 use Rattle.calls.proofs.RefusalLaws.{ownerFree, reading-free}
 
-abbrev Four : Type 0
+abbrev pub Four : Type 0
 Four = ℕ × ℕ × ℕ × ℕ
 
-abbrev Lines : Type 0
+abbrev pub Lines : Type 0
 Lines = List (Line Four)
 
 -- too many for the room
-too-many : (n room : ℕ) → ltb room n ≡ not (leb n room)
+pub too-many : (n room : ℕ) → ltb room n ≡ not (leb n room)
 too-many n room = go (leb n room) refl
   where
     go : (b : Bool) → leb n room ≡ b → ltb room n ≡ not b
@@ -45,14 +45,15 @@ too-many n room = go (leb n room) refl
     go false e = lt-ltb room n (leb-false n room e)
 
 -- a line before others
-sound-first : (s : Bool) (a : Answer) (ls : Lines) (z : Four) → numbers a ≡ firstHeld ls z → numbers (on s a Unsound) ≡ firstHeld (line 1 (not s) ∷ ls) z
+pub sound-first : (s : Bool) (a : Answer) (ls : Lines) (z : Four) → numbers a ≡ firstHeld ls z → numbers (on s a Unsound) ≡ firstHeld (line 1 (not s) ∷ ls) z
 sound-first true a ls z h = h
 sound-first false a ls z h = refl
 
 -- a message's dossier before others
-message-first : (r : Reading) (a : Answer) (ls : Lines) (z : Four) → numbers a ≡ firstHeld ls z → numbers (unlessRefused 0 r a) ≡ firstHeld (dossierLines 0 (readingNumbers r) ∷ ls) z
+pub message-first : (r : Reading) (a : Answer) (ls : Lines) (z : Four) → numbers a ≡ firstHeld ls z → numbers (unlessRefused 0 r a) ≡ firstHeld (dossierLines 0 (readingNumbers r) ∷ ls) z
 message-first Readings.TooLong a ls z h = refl
 message-first (Readings.Syntax i) a ls z h = refl
+message-first (Readings.Long l) a ls z h = refl
 message-first (Readings.Form l) a ls z h = refl
 message-first (Readings.Field l c) a ls z h = refl
 message-first (Readings.Owner l) a ls z h = refl
@@ -62,19 +63,20 @@ message-first (Readings.Rows n) a ls z h = h
 dossier-first : (w : ℕ) (r : Reading) (a : Answer) (ls : Lines) (z : Four) → ownerFree r ≡ true → numbers a ≡ firstHeld ls z → numbers (unlessRefused w r a) ≡ firstHeld (dossierLines w (readingNumbers r) ∷ ls) z
 dossier-first w Readings.TooLong a ls z f h = refl
 dossier-first w (Readings.Syntax i) a ls z f h = refl
+dossier-first w (Readings.Long l) a ls z f h = refl
 dossier-first w (Readings.Form l) a ls z f h = refl
 dossier-first w (Readings.Field l c) a ls z f h = refl
 dossier-first w (Readings.Owner l) a ls z f h = absurd (let z : _≡_ {A = ℕ} 0 1 = cc in omega arith)
 dossier-first w (Readings.Rows n) a ls z f h = h
 
 -- the dossier's numbers by their own table
-by-table : (w : ℕ) (r : Reading) (k : ℕ × ℕ × ℕ) (a : Answer) (ls : Lines) (z : Four) → readingNumbers r ≡ k
+pub by-table : (w : ℕ) (r : Reading) (k : ℕ × ℕ × ℕ) (a : Answer) (ls : Lines) (z : Four) → readingNumbers r ≡ k
     → numbers (unlessRefused w r a) ≡ firstHeld (dossierLines w (readingNumbers r) ∷ ls) z → numbers (unlessRefused w r a) ≡ firstHeld (dossierLines w k ∷ ls) z
 by-table w r k a ls z e h = subst (λ (x : ℕ × ℕ × ℕ). numbers (unlessRefused w r a) ≡ firstHeld (dossierLines w x ∷ ls) z) e h
 
 -- ---- message
 
-rooms : (p q : Bool) (n : ℕ) → numbers (on p (on q (Accepted n) TableShort) BookShort) ≡ firstHeld (line 7 (not p) ∷ line 8 (not q) ∷ []) (0, n, 0, 0)
+pub rooms : (p q : Bool) (n : ℕ) → numbers (on p (on q (Accepted n) TableShort) BookShort) ≡ firstHeld (line 7 (not p) ∷ line 8 (not q) ∷ []) (0, n, 0, 0)
 rooms true true n = refl
 rooms true false n = refl
 rooms false q n = refl

@@ -10,6 +10,7 @@ use Rattle.lists.specs.Logic.{on}
 use Rattle.syntax.specs.declared.Verdict.{Verdict}
 use Rattle.syntax.specs.declared.Verdict.the-variants as Verdicts
 use Rattle.syntax.specs.Machine.{fault}
+use Rattle.turbo_lines.specs.Lines.{lines, firstLong}
 use Rattle.columns.specs.declared.Table.{Table}
 use Rattle.columns.specs.declared.Table.the-variants as Tables
 use Rattle.columns.specs.Tables.{rowOf}
@@ -22,7 +23,7 @@ use Rattle.table.specs.Rules.{tableRoom}
 use Rattle.book.specs.Entries.{plan-wide, senderOf, kindOf, updatesIn}
 use Rattle.book.specs.Rules.{bookRoom, messageEntries}
 use Rattle.calls.specs.declared.Answer.{Answer}
-use Rattle.calls.specs.declared.Answer.the-variants.{Accepted, Unsound, TooLong, Syntax, Form, Field, Owner, BookShort, TableShort, KeyTwice, NoMessage, AlreadyWithdrawn, OtherSender}
+use Rattle.calls.specs.declared.Answer.the-variants.{Accepted, Unsound, TooLong, Syntax, Long, Form, Field, Owner, StagingShort, BookShort, TableShort, KeyTwice, NoMessage, AlreadyWithdrawn, OtherSender}
 use Rattle.calls.specs.declared.Counts.{Counts}
 use Rattle.calls.specs.Answers.{numbers, unlessRefused}
 use Rattle.calls.specs.Message.{messageSound, messageRows, numberFor, roomFor, messageAnswer, takenBy, messageLeaves}
@@ -36,9 +37,11 @@ acceptance-is-zero (Accepted n) = (λ e. refl, λ e. refl)
 acceptance-is-zero Unsound = (λ e. absurd (let z : _≡_ {A = ℕ} 0 1 = cc in omega arith), λ e. absurd (omega arith))
 acceptance-is-zero (TooLong w) = (λ e. absurd (let z : _≡_ {A = ℕ} 0 1 = cc in omega arith), λ e. absurd (omega arith))
 acceptance-is-zero (Syntax i w) = (λ e. absurd (let z : _≡_ {A = ℕ} 0 1 = cc in omega arith), λ e. absurd (omega arith))
+acceptance-is-zero (Long l w) = (λ e. absurd (let z : _≡_ {A = ℕ} 0 1 = cc in omega arith), λ e. absurd (omega arith))
 acceptance-is-zero (Form l w) = (λ e. absurd (let z : _≡_ {A = ℕ} 0 1 = cc in omega arith), λ e. absurd (omega arith))
 acceptance-is-zero (Field l c w) = (λ e. absurd (let z : _≡_ {A = ℕ} 0 1 = cc in omega arith), λ e. absurd (omega arith))
 acceptance-is-zero (Owner l) = (λ e. absurd (let z : _≡_ {A = ℕ} 0 1 = cc in omega arith), λ e. absurd (omega arith))
+acceptance-is-zero StagingShort = (λ e. absurd (let z : _≡_ {A = ℕ} 0 1 = cc in omega arith), λ e. absurd (omega arith))
 acceptance-is-zero BookShort = (λ e. absurd (let z : _≡_ {A = ℕ} 0 1 = cc in omega arith), λ e. absurd (omega arith))
 acceptance-is-zero TableShort = (λ e. absurd (let z : _≡_ {A = ℕ} 0 1 = cc in omega arith), λ e. absurd (omega arith))
 acceptance-is-zero KeyTwice = (λ e. absurd (let z : _≡_ {A = ℕ} 0 1 = cc in omega arith), λ e. absurd (omega arith))
@@ -58,14 +61,15 @@ abbrev Passes : List ℕ → Answer → Type 0
 Passes ns a = isOneOf ns (numbers a .0) ≡ true
 
 abbrev opens : List ℕ
-opens = 0 ∷ 2 ∷ 3 ∷ 4 ∷ 5 ∷ 7 ∷ 9 ∷ 8 ∷ []
+opens = 0 ∷ 2 ∷ 3 ∷ 15 ∷ 4 ∷ 5 ∷ 7 ∷ 9 ∷ 8 ∷ []
 
 abbrev sends : List ℕ
-sends = 0 ∷ 1 ∷ 2 ∷ 3 ∷ 4 ∷ 5 ∷ 6 ∷ 7 ∷ 8 ∷ []
+sends = 0 ∷ 1 ∷ 2 ∷ 3 ∷ 15 ∷ 4 ∷ 5 ∷ 6 ∷ 7 ∷ 8 ∷ []
 
 message-reading : (r : Reading) (next : Answer) → Passes sends next → Passes sends (unlessRefused 0 r next)
 message-reading Readings.TooLong next h = refl
 message-reading (Readings.Syntax i) next h = refl
+message-reading (Readings.Long l) next h = refl
 message-reading (Readings.Form l) next h = refl
 message-reading (Readings.Field l c) next h = refl
 message-reading (Readings.Owner l) next h = refl
@@ -92,6 +96,7 @@ message-numbers d register book table sender c =
 abbrev pub ownerFree : Reading → Bool
 ownerFree Readings.TooLong = true
 ownerFree (Readings.Syntax i) = true
+ownerFree (Readings.Long l) = true
 ownerFree (Readings.Form l) = true
 ownerFree (Readings.Field l c) = true
 ownerFree (Readings.Owner l) = false
@@ -116,6 +121,10 @@ module _ (t : Table) (free : (body : List ℕ) → maySend t [] 0 body ≡ true)
   by-syntax-free Verdicts.Fine a h = h
   by-syntax-free (Verdicts.FaultAt i) a h = refl
 
+  long-free : (b : Bool) (l : ℕ) (a : Reading) → ownerFree a ≡ true → ownerFree (on b (Readings.Long l) a) ≡ true
+  long-free true l a h = refl
+  long-free false l a h = h
+
   size-free : (b : Bool) (a : Reading) → ownerFree a ≡ true → ownerFree (on b Readings.TooLong a) ≡ true
   size-free true a h = refl
   size-free false a h = h
@@ -125,11 +134,13 @@ module _ (t : Table) (free : (body : List ℕ) → maySend t [] 0 body ≡ true)
   reading-free d =
       size-free (ltb largest (length d)) _
       (by-syntax-free (fault d) _
-      (rw (no-owner-line (itemsOf t d)) (settled-free (isLine (firstLine (formBad t) (itemsOf t d))) (isLine (firstLine (isWrong t) (itemsOf t d))) _ _ _ _)))
+      (long-free (isLine (firstLong 1 (lines d))) _ _
+      (rw (no-owner-line (itemsOf t d)) (settled-free (isLine (firstLine (formBad t) (itemsOf t d))) (isLine (firstLine (isWrong t) (itemsOf t d))) _ _ _ _))))
 
 open-reading : (w : ℕ) (r : Reading) (next : Answer) → ownerFree r ≡ true → Passes opens next → Passes opens (unlessRefused w r next)
 open-reading w Readings.TooLong next f h = refl
 open-reading w (Readings.Syntax i) next f h = refl
+open-reading w (Readings.Long l) next f h = refl
 open-reading w (Readings.Form l) next f h = refl
 open-reading w (Readings.Field l c) next f h = refl
 open-reading w (Readings.Owner l) next f h = absurd (let z : _≡_ {A = ℕ} 0 1 = cc in omega arith)

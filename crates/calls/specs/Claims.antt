@@ -15,6 +15,8 @@ use Rattle.lists.specs.Rows.{rowsOf, flat}
 use Rattle.passage.specs.Layout.{key-wide, row-wide, keyOf, ownerOf, dateOf, lineOf, journeyOf, fortifyOf, stopOf, orderOf}
 use Rattle.register.specs.Register.{registerSound}
 use Rattle.grammar.specs.Grammar.{WellFormed}
+use Rattle.turbo_lines.specs.Lines.{lines}
+use Rattle.turbo_lines.specs.Claims.{Short}
 use Rattle.columns.specs.declared.Table.the-variants as Tables
 use Rattle.reader.specs.Items.{Item}
 use Rattle.reader.specs.declared.Reading.the-variants.{Rows}
@@ -35,7 +37,8 @@ use Rattle.calls.specs.Leaves.{Leaves}
 use Rattle.calls.specs.Message.{messageRows, rowsTaken, messageAnswer, messageLeaves}
 use Rattle.calls.specs.Withdraw.{rowsWithout, withdrawAnswer, withdrawLeaves}
 use Rattle.calls.specs.Open.{planOf, openAnswer, openLeaves}
-use Rattle.calls.specs.Numbers.{openNumbers, messageNumbers, withdrawNumbers}
+use Rattle.calls.specs.End.{endAnswer, endLeaves}
+use Rattle.calls.specs.Numbers.{openNumbers, messageNumbers, withdrawNumbers, endNumbers}
 
 -- ---- demand 1
 
@@ -64,8 +67,8 @@ isOneOf (x ∷ xs) n = eqb n x || isOneOf xs n
 abbrev pub NumbersListed : Type 0
 NumbersListed =
     (planning calendar dossier register book table : List ℕ) (number sender : ℕ) (c : Counts)
-    → (isOneOf (0 ∷ 2 ∷ 3 ∷ 4 ∷ 5 ∷ 7 ∷ 9 ∷ 8 ∷ []) (numbers (openAnswer planning calendar book table) .0) ≡ true)
-    × (isOneOf (0 ∷ 1 ∷ 2 ∷ 3 ∷ 4 ∷ 5 ∷ 6 ∷ 7 ∷ 8 ∷ []) (numbers (messageAnswer dossier sender register book table c) .0) ≡ true)
+    → (isOneOf (0 ∷ 2 ∷ 3 ∷ 15 ∷ 4 ∷ 5 ∷ 7 ∷ 9 ∷ 8 ∷ []) (numbers (openAnswer planning calendar book table) .0) ≡ true)
+    × (isOneOf (0 ∷ 1 ∷ 2 ∷ 3 ∷ 15 ∷ 4 ∷ 5 ∷ 6 ∷ 7 ∷ 8 ∷ []) (numbers (messageAnswer dossier sender register book table c) .0) ≡ true)
     × (isOneOf (0 ∷ 1 ∷ 10 ∷ 12 ∷ 11 ∷ 8 ∷ []) (numbers (withdrawAnswer number sender book table c) .0) ≡ true)
 
 -- the four numbers are the first line of document 01's table that holds, for each call
@@ -76,9 +79,29 @@ NumbersAreTables =
     × (numbers (messageAnswer dossier sender register book table c) ≡ messageNumbers dossier sender register book table c)
     × (numbers (withdrawAnswer number sender book table c) ≡ withdrawNumbers number sender book table c)
 
+-- a refused end of a dossier in parts gives back the counts, the book, the table and the feed's numbers as they were
+abbrev pub EndGivesBack : Type 0
+EndGivesBack =
+    (register staging book table : List ℕ) (c : Counts) (kept : List ℕ)
+    → let left = endLeaves register staging book table c kept in
+    isAccepted (left .outcome .answer) ≡ false
+    → (left .outcome .counts ≡ c) × (left .book ≡ book) × (left .table ≡ table) × (left .kept ≡ kept)
+
+-- its number is one of this list
+abbrev pub EndNumbersListed : Type 0
+EndNumbersListed =
+    (register staging book table : List ℕ) (c : Counts) (kept : List ℕ)
+    → isOneOf (0 ∷ 1 ∷ 2 ∷ 3 ∷ 15 ∷ 4 ∷ 5 ∷ 6 ∷ 14 ∷ 7 ∷ 8 ∷ []) (numbers (endAnswer register staging book table c kept) .0) ≡ true
+
+-- and its four numbers are the first line of its table that holds
+abbrev pub EndNumbersAreTable : Type 0
+EndNumbersAreTable =
+    (register staging book table : List ℕ) (c : Counts) (kept : List ℕ)
+    → numbers (endAnswer register staging book table c kept) ≡ endNumbers register staging book table c kept
+
 -- ---- demand 2
 
--- a message is accepted exactly when register, book and table are sound, the dossier is within its size and well formed, every label line,
+-- a message is accepted exactly when register, book and table are sound, the dossier is within its size and well formed, no line is too long, every label line,
 -- field count and wanted field is right, each row's owner is registered for the sender, and there is room in the book and in the table
 abbrev pub MessageAcceptedExactly : Type 0
 MessageAcceptedExactly =
@@ -86,6 +109,7 @@ MessageAcceptedExactly =
     → (isAccepted (messageAnswer dossier sender register book table c) ≡ true)
     ↔ ((registerSound register ≡ true) × (bookSound (c .used) book ≡ true) × (tableSound (c .rows) table ≡ true)
     × (length dossier ≤ largest) × WellFormed dossier
+    × Each Short (lines dossier)
     × Each (λ (x : Item). formBad Tables.Message x ≡ false) (itemsOf Tables.Message dossier)
     × Each (λ (x : Item). wrongAt Tables.Message x ≡ 0) (itemsOf Tables.Message dossier)
     × Each (λ (x : Item). ownerBad Tables.Message register sender x ≡ false) (itemsOf Tables.Message dossier)
@@ -250,3 +274,6 @@ All =
     × WithdrawAcceptedExactly
     × WithdrawMarksEntries
     × WithdrawWorksOutAgain
+    × EndGivesBack
+    × EndNumbersListed
+    × EndNumbersAreTable

@@ -3,6 +3,7 @@ pub mod Leaves
 pub mod Message
 pub mod Withdraw
 pub mod Open
+pub mod End
 pub mod Numbers
 pub mod Claims
 pub mod inner

@@ -34,7 +34,7 @@ roomToOpen bodies book table =
     (on (eqb (length (putAll bodies [])) (length bodies)) (on (leb (length bodies) (tableRoom table)) (Accepted 0) TableShort) KeyTwice)
     BookShort
 
--- the planning goes through 2 to 5 before the calendar
+-- the planning goes through 2, 3, 15, 4, 5 before the calendar
 unfoldable pub openAnswer : List ℕ → List ℕ → List ℕ → List ℕ → Answer
 openAnswer planning calendar book table =
     unlessRefused 1 (readingOf Tables.Planning [] 0 planning)

@@ -12,9 +12,11 @@ pub enum Answer {
     Unsound,
     TooLong(u8),
     Syntax(usize, u8),
+    Long(usize, u8),
     Form(usize, u8),
     Field(usize, usize, u8),
     Owner(usize),
+    StagingShort,
     BookShort,
     TableShort,
     KeyTwice,
@@ -58,13 +60,14 @@ pub enum Next {
     Off(Answer),
 }
 
-// A dossier's refusal 2 to 6 as the call's own answer, or its rows.
+// A dossier's refusal 2 to 6 or 15 as the call's own answer, or its rows.
 pub fn passed(reading: Reading, dossier: u8) -> Next
     ensures { λ r. ⌜ r ≡ passedOf dossier reading ⌝ }
 {
     match reading {
         Reading::TooLong => Next::Off(Answer::TooLong(dossier)),
         Reading::Syntax(at) => Next::Off(Answer::Syntax(at, dossier)),
+        Reading::Long(line) => Next::Off(Answer::Long(line, dossier)),
         Reading::Form(line) => Next::Off(Answer::Form(line, dossier)),
         Reading::Field(line, column) => Next::Off(Answer::Field(line, column, dossier)),
         Reading::Owner(line) => Next::Off(Answer::Owner(line)),
@@ -101,9 +104,11 @@ pub fn numbers(answer: Answer) -> Four
         Answer::Unsound => with_numbers(1, 0, 0, 0),
         Answer::TooLong(w) => with_numbers(2, 0, 0, w),
         Answer::Syntax(i, w) => with_numbers(3, i, 0, w),
+        Answer::Long(l, w) => with_numbers(15, l, 0, w),
         Answer::Form(l, w) => with_numbers(4, l, 0, w),
         Answer::Field(l, c, w) => with_numbers(5, l, c, w),
         Answer::Owner(l) => with_numbers(6, l, 0, 0),
+        Answer::StagingShort => with_numbers(14, 0, 0, 0),
         Answer::BookShort => with_numbers(7, 0, 0, 0),
         Answer::TableShort => with_numbers(8, 0, 0, 0),
         Answer::KeyTwice => with_numbers(9, 0, 0, 0),

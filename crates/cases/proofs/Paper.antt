@@ -9,7 +9,7 @@ use Rattle.lists.proofs.RowLaws.{length-rowsOf}
 use Rattle.syntax.specs.Machine.{fieldStep, escapeStep, firstEscapeStep, nullStep, returnStep, startStep, markStep, step, accepting, run, fault}
 use Rattle.syntax.specs.Cases as Syntax
 use Rattle.turbo.specs.Split.{until, past}
-use Rattle.turbo_lines.specs.Lines.{linesFrom, markOf, afterMark}
+use Rattle.turbo_lines.specs.Lines.{linesFrom, firstLong, markOf, afterMark}
 use Rattle.turbo.specs.Cases as Turbo
 use Rattle.field_types.specs.Cases as Fields
 use Rattle.passage.specs.Layout.{row-wide}
@@ -48,11 +48,11 @@ abbrev group : List ℕ
 group = bytes "\\G" ++ 13 ∷ 10 ∷ []
 
 group-read : (register : List ℕ) (sender : ℕ) → readingOf Tables.Message register sender group ≡ Rows 0
-unfolding readingOf fault run accepting step markStep startStep returnStep nullStep firstEscapeStep escapeStep fieldStep answerTo firstLine firstColumn dataRows items linesFrom markOf afterMark until past
+unfolding readingOf fault run accepting step markStep startStep returnStep nullStep firstEscapeStep escapeStep fieldStep answerTo firstLine firstColumn dataRows items linesFrom firstLong markOf afterMark until past
 group-read register sender = refl
 
 group-rows : messageRows group ≡ []
-unfolding messageRows dataRows items linesFrom markOf afterMark until past
+unfolding messageRows dataRows items linesFrom firstLong markOf afterMark until past
 group-rows = refl
 
 none-taken : (t : List ℕ) (n : ℕ) → n ≤ tableRoom t → length (rowsTaken [] t n) ≤ tableRoom t

@@ -22,7 +22,8 @@ use Rattle.columns.specs.Cell.{width}
 use Rattle.columns.specs.Tables.{Column, must, messageColumns, planningColumns, calendarColumns, columnsIn, isOptional, widthOf, rowWidth, names}
 use Rattle.columns.specs.Layout.{wanted, columnAt, kindAt, optionalAt, widthIn, widths, total, offset}
 use Rattle.columns.specs.inner.Digit.{kindNamed}
-use Rattle.columns.specs.inner.Blank.{widest-row, blankCell, blankRow}
+use Rattle.columns.specs.Layout.{widest-row}
+use Rattle.columns.specs.inner.Blank.{blankCell, blankRow}
 use Rattle.columns.proofs.PartLaws.{begins, begins-next, begins-within, begins-apart, parts-flat, Fit, length-flat, flat-part}
 
 -- ---- the rules as lists

@@ -27,6 +27,10 @@ optionalAt t j = isOptional (columnAt t j)
 
 -- ---- places
 
+-- the bytes that have room for any table's row
+abbrev pub widest-row : ℕ
+widest-row = 80
+
 abbrev pub widthIn : Column → ℕ
 widthIn c = width (c .kind)
 

@@ -7,10 +7,11 @@ use Rattle.calls.specs.declared.Four.{Four}
 use Rattle.calls.specs.declared.Outcome.{Outcome}
 use Rattle.calls.specs.Answers.{numbers}
 use Rattle.calls.specs.Leaves.{Leaves, leaves}
+use Rattle.calls.specs.End.{EndLeaves, endWith}
 use Rattle.calls.specs.inner.Steps.{fourOf}
 use Rattle.board.specs.declared.Listing.{Listing}
 use Rattle.board.specs.Rules.{Board, boardWith, boardNumbers}
-use Rattle.desk.specs.Answered.{outcomeNumber, answered, four, told, toldOf, boardNumber, boardAnswered}
+use Rattle.desk.specs.Answered.{outcomeNumber, answered, four, told, toldOf, endTold, endToldOf, boardNumber, boardAnswered}
 
 -- ---- an answer's numbers as they are written
 
@@ -37,6 +38,12 @@ pub of-call : (left : Leaves) (table : ℕ × ℕ × ℕ × ℕ) (o : Outcome) (
     → (told r l b t ≡ toldOf left) × (take 4 l ≡ four table)
 of-call left table o r l b t said called =
     ((λ i. told (said .0 i) (said .1 i) b t) ∙ ap toldOf (called .0), ap (take 4) (said .1) ∙ first-four o ∙ ap four (called .1))
+
+pub of-end : (left : EndLeaves) (table : ℕ × ℕ × ℕ × ℕ) (o : Outcome) (r : ℕ) (l b t k : List ℕ)
+    → (r ≡ outcomeNumber o) × (l ≡ answered o) → (endWith o b t k ≡ left) × (numbers (o .answer) ≡ table)
+    → (endTold r l b t k ≡ endToldOf left) × (take 4 l ≡ four table)
+of-end left table o r l b t k said called =
+    ((λ i. endTold (said .0 i) (said .1 i) b t k) ∙ ap endToldOf (called .0), ap (take 4) (said .1) ∙ first-four o ∙ ap four (called .1))
 
 -- P is what the board promised besides
 pub of-board : {P : Type 0} (a : Listing) (b : Board) (r : ℕ) (l places : List ℕ)

@@ -1,24 +1,33 @@
 -- All that is claimed of an answer's numbers holds: it is what the calls and the board claim. Assumes nothing.
 use Prim.Native.Nat.{ℕ}
 use mathlib.Core.Path.{_≡_, refl}
-use mathlib.Core.Bool.{Bool, true, false}
+use mathlib.Core.Bool.{Bool, true, false, _&&_}
 use mathlib.Core.List.{List, [], _∷_}
 use Rattle.calls.specs.declared.Answer.{Answer}
 use Rattle.calls.specs.Answers.{numbers, isAccepted}
-use Rattle.calls.specs.Claims.{GivesBack as CallGivesBack}
+use Rattle.calls.specs.declared.Answer.the-variants.{Unsound as Refused}
+use Rattle.calls.specs.declared.Counts.{Counts}
+use Rattle.calls.specs.Claims.{GivesBack as CallGivesBack, isOneOf}
 use Rattle.calls.specs.Leaves.{Leaves, countsOf}
 use Rattle.calls.specs.Message.{takenBy, messageLeaves}
 use Rattle.calls.specs.Withdraw.{withoutBy, withdrawLeaves}
 use Rattle.calls.specs.Open.{openedBy, openLeaves}
+use Rattle.calls.specs.End.{endSound, endAnswer, cleared, endLeaves}
 use Rattle.calls.proofs.RefusalLaws.{acceptance-is-zero, refusals-give-back, numbers-listed}
+use Rattle.calls.proofs.EndLaws.{end-gives-back, end-listed}
+use Rattle.feeds.specs.Kept.{isBegun}
+use Rattle.feeds.specs.Feed.{Fed, fed}
+use Rattle.feeds.specs.Feeding.{Feeding, fedIn, feeding, fedOut, feedLeaves}
+use Rattle.calls.specs.Message.{messageSound}
+use Rattle.lists.proofs.LogicLaws.{and-false}
 use Rattle.board.specs.declared.Listing.{Listing as Board}
 use Rattle.board.specs.declared.Listing.the-variants.{Listed, Unsound, OutOfRange}
 use Rattle.board_show.specs.Ask.{asksInRange}
 use Rattle.board.specs.Rules.{boardOf, boardWith, fitted, boardLeaves, boardNumbers}
 use Rattle.lists.specs.Logic.{on}
 use Rattle.table.specs.Rules.{tableSound}
-use Rattle.desk.specs.Answered.{outcomeNumber, answered, toldOf, boardNumber, boardAnswered}
-use Rattle.desk.specs.Claims.{NumbersOfAnswer, FaceGivesBack, OpenGivesBack, MessageGivesBack, WithdrawGivesBack, BoardGivesBack, FaceNumbersListed, BoardNumbersListed, All}
+use Rattle.desk.specs.Answered.{outcomeNumber, answered, toldOf, endToldOf, boardNumber, boardAnswered}
+use Rattle.desk.specs.Claims.{NumbersOfAnswer, FaceGivesBack, OpenGivesBack, MessageGivesBack, WithdrawGivesBack, EndGivesBack, FeedGivesBack, EndedOnce, BoardGivesBack, FaceNumbersListed, FeedNumbersListed, BoardNumbersListed, All}
 use Rattle.desk.proofs.DossierLaws.{dossier-named}
 
 numbers-of-answer : NumbersOfAnswer
@@ -54,6 +63,46 @@ withdraw-gives-back : WithdrawGivesBack
 withdraw-gives-back book table number sender used rows =
     gives-back _ used rows book table (refusals-give-back book book book book book table number sender (countsOf used rows) .2)
 
+end-back : EndGivesBack
+unfolding outcomeNumber answered
+end-back register staging book table used rows feed h =
+    let left = endLeaves register staging book table (countsOf used rows) feed in
+    let g = end-gives-back register staging book table (countsOf used rows) feed (refused-by (left .outcome .answer) h) in
+    (rw (g .0) refl, rw (g .0) refl, g .1, g .2, g .3)
+
+-- of a part, by whether the numbers are those of a begun feed
+feed-by : (b : Bool) (x : Feeding) (line staging kept : List ℕ) → x .answer ≡ 0
+    → let t = on b x (feeding 1 kept line staging) in
+    ((t .answer ≡ 0 → ⊥) → (t .kept ≡ kept) × (t .line ≡ line) × (t .staging ≡ staging)) × (isOneOf (0 ∷ 1 ∷ []) (t .answer) ≡ true)
+feed-by true x line staging kept e = (λ h. absurd (h e), rw e)
+feed-by false x line staging kept e = (λ h. (refl, refl, refl), refl)
+
+feed-gives-back : FeedGivesBack
+unfolding feedLeaves
+feed-gives-back part register staging line feed h = feed-by (isBegun feed) (fedOut (fed register (fedIn feed line staging) part)) line staging feed refl .0 h
+
+-- zeros are the numbers of no begun feed
+cleared-none : isBegun cleared ≡ false
+unfolding isBegun
+cleared-none = refl
+
+cleared-refused : (register staging book table : List ℕ) (c : Counts) → endAnswer register staging book table c cleared ≡ Refused
+unfolding endAnswer endSound
+cleared-refused register staging book table c = rw (cleared-none, and-false (messageSound register book table c))
+
+cleared-fed : (part register staging line : List ℕ) → feedLeaves part register staging line cleared .answer ≡ 1
+unfolding feedLeaves
+cleared-fed part register staging line = rw cleared-none
+
+ended-once : EndedOnce
+unfolding outcomeNumber endLeaves takenBy
+ended-once register staging book table used rows feed =
+    let c = countsOf used rows in (
+      λ e. rw (acceptance-is-zero (endAnswer register staging book table c feed) .1 e),
+      rw (cleared-refused register staging book table c),
+      λ part line. cleared-fed part register staging line,
+    )
+
 board-gives-back : BoardGivesBack
 unfolding boardLeaves boardNumber boardAnswered
 board-gives-back q table rows places = go (tableSound rows table) (asksInRange q) (boardOf q table rows)
@@ -74,6 +123,11 @@ listed : FaceNumbersListed
 unfolding outcomeNumber openLeaves openedBy messageLeaves takenBy withdrawLeaves withoutBy
 listed planning calendar dossier register book table number sender used rows = numbers-listed planning calendar dossier register book table number sender (countsOf used rows)
 
+feed-listed : FeedNumbersListed
+unfolding outcomeNumber endLeaves takenBy feedLeaves
+feed-listed part register staging line book table used rows feed =
+    (feed-by (isBegun feed) (fedOut (fed register (fedIn feed line staging) part)) line staging feed refl .1, end-listed register staging book table (countsOf used rows) feed)
+
 board-listed : BoardNumbersListed
 unfolding boardNumber
 board-listed (Listed w s) = refl
@@ -81,4 +135,17 @@ board-listed Unsound = refl
 board-listed OutOfRange = refl
 
 pub claims : All
-claims = (numbers-of-answer, open-gives-back, message-gives-back, withdraw-gives-back, board-gives-back, listed, board-listed, dossier-named)
+claims = (
+  numbers-of-answer,
+  open-gives-back,
+  message-gives-back,
+  withdraw-gives-back,
+  end-back,
+  feed-gives-back,
+  ended-once,
+  board-gives-back,
+  listed,
+  feed-listed,
+  board-listed,
+  dossier-named,
+)

@@ -26,15 +26,16 @@ use Rattle.calls.specs.Withdraw.{withdrawSound, unlessBarred, roomWithout, with
 use Rattle.desk.specs.Answered.{outcomeNumber, answered}
 use Rattle.desk.specs.Claims.{DossierNamed}
 
--- ---- open: 1 or 2, exactly with 2 to 5
+-- ---- open: 1 or 2, exactly with 2 to 5 or 15
 
 abbrev Named : Answer → Type 0
-Named a = (isOneOf (1 ∷ 2 ∷ []) (numbers a .3) ≡ within 2 5 (numbers a .0)) × (isOneOf (0 ∷ 1 ∷ 2 ∷ []) (numbers a .3) ≡ true)
+Named a = (isOneOf (1 ∷ 2 ∷ []) (numbers a .3) ≡ (within 2 5 (numbers a .0) || eqb (numbers a .0) 15)) × (isOneOf (0 ∷ 1 ∷ 2 ∷ []) (numbers a .3) ≡ true)
 
 -- w is a dossier's number
 reading-named : (w : ℕ) → (isOneOf (1 ∷ 2 ∷ []) w ≡ true) × (isOneOf (0 ∷ 1 ∷ 2 ∷ []) w ≡ true) → (r : Reading) (next : Answer) → Named next → Named (unlessRefused w r next)
 reading-named w p Readings.TooLong next h = p
 reading-named w p (Readings.Syntax i) next h = p
+reading-named w p (Readings.Long l) next h = p
 reading-named w p (Readings.Form l) next h = p
 reading-named w p (Readings.Field l c) next h = p
 reading-named w p (Readings.Owner l) next h = (refl, refl)
@@ -66,6 +67,7 @@ sound-none false a h = refl
 reading-none : (r : Reading) (next : Answer) → None next → None (unlessRefused 0 r next)
 reading-none Readings.TooLong next h = refl
 reading-none (Readings.Syntax i) next h = refl
+reading-none (Readings.Long l) next h = refl
 reading-none (Readings.Form l) next h = refl
 reading-none (Readings.Field l c) next h = refl
 reading-none (Readings.Owner l) next h = refl

@@ -4,6 +4,7 @@ use mathlib.Core.List.{List, [], _∷_, _++_}
 use Rattle.calls.specs.declared.Outcome.{Outcome}
 use Rattle.calls.specs.Answers.{numbers}
 use Rattle.calls.specs.Leaves.{Leaves}
+use Rattle.calls.specs.End.{EndLeaves}
 use Rattle.board.specs.declared.Listing.{Listing as Board}
 use Rattle.board.specs.Rules.{boardNumbers}
 
@@ -32,6 +33,20 @@ told number answer book table = record { number = number; answer = answer; book 
 -- of what the call leaves
 abbrev pub toldOf : Leaves → Told
 toldOf left = told (outcomeNumber (left .outcome)) (answered (left .outcome)) (left .book) (left .table)
+
+-- all that it gives back of the end of a dossier in parts: the feed's numbers too
+pub record EndTold : Type 0 where
+  pub number : ℕ
+  pub answer : List ℕ
+  pub book : List ℕ
+  pub table : List ℕ
+  pub feed : List ℕ
+
+abbrev pub endTold : ℕ → List ℕ → List ℕ → List ℕ → List ℕ → EndTold
+endTold number answer book table feed = record { number = number; answer = answer; book = book; table = table; feed = feed }
+
+abbrev pub endToldOf : EndLeaves → EndTold
+endToldOf left = endTold (outcomeNumber (left .outcome)) (answered (left .outcome)) (left .book) (left .table) (left .kept)
 
 -- document 01's number of a board
 unfoldable pub boardNumber : Board → ℕ

@@ -1,4 +1,4 @@
-// The C face: the four calls over plain numbers and lent memory. An answer is six numbers, a board's three; include/desk.h says which.
+// The C face: the calls over plain numbers and lent memory. An answer is six numbers, a board's three; include/desk.h says which.
 use calls::Counts;
 use calls::Outcome;
 ghost use mathlib.Core.Path.{_≡_};
@@ -8,10 +8,13 @@ ghost use Rattle.calls.specs.Leaves.{countsOf};
 ghost use Rattle.calls.specs.Open.{openLeaves};
 ghost use Rattle.calls.specs.Message.{messageLeaves};
 ghost use Rattle.calls.specs.Withdraw.{withdrawLeaves};
-ghost use Rattle.calls.specs.Numbers.{openNumbers, messageNumbers, withdrawNumbers};
+ghost use Rattle.calls.specs.End.{endLeaves};
+ghost use Rattle.calls.specs.Numbers.{openNumbers, messageNumbers, withdrawNumbers, endNumbers};
+ghost use Rattle.feeds.specs.Kept.{begunBy};
+ghost use Rattle.feeds.specs.Feeding.{feeding, feedLeaves};
 ghost use Rattle.board_show.specs.Ask.{asked};
 ghost use Rattle.board.specs.Rules.{boardLeaves};
-ghost use Rattle.desk.specs.Answered.{outcomeNumber, answered, four, told, toldOf, boardNumber, boardAnswered};
+ghost use Rattle.desk.specs.Answered.{outcomeNumber, answered, four, told, toldOf, endTold, endToldOf, boardNumber, boardAnswered};
 
 // A planning and a calendar become the plan. The counts are only given back on a refusal.
 #[no_mangle]
@@ -59,6 +62,56 @@ pub extern "C" fn desk_message(
         rows: rows as usize,
     };
     let outcome = messages::message(dossier, sender, register, book, table, counts);
+    set_answer(answer, outcome)
+}
+
+// A message that comes in parts begins. Its sender is kept with the feed's numbers.
+#[no_mangle]
+pub extern "C" fn desk_feed_begin(sender: u8, feed: &mut [u64; 48]) -> u32
+    ensures number { λ r. ⌜ r ≡ 0 ⌝ }
+    ensures feed { λ _. ⌜ now (feed .exit) ≡ begunBy sender ⌝ }
+{
+    feeds::begin(feed, sender);
+    0
+}
+
+// The next part of it, of any length.
+#[no_mangle]
+pub extern "C" fn desk_feed(
+    part: &[u8],
+    register: &[u8],
+    staging: &mut [u8],
+    line: &mut [u8; 4096],
+    feed: &mut [u64; 48],
+) -> u32
+    ensures { λ r. ⌜ feeding r (now (feed .exit)) (now (line .exit)) (now (staging .exit))
+        ≡ feedLeaves (now (part .entry)) (now (register .entry)) (now (staging .entry)) (now (line .entry)) (now (feed .entry)) ⌝ }
+{
+    feeds_part::feed(part, register, staging, line, feed)
+}
+
+// Its end: what was staged is taken whole or refused whole.
+#[no_mangle]
+pub extern "C" fn desk_feed_end(
+    register: &[u8],
+    staging: &[u8],
+    book: &mut [u8],
+    table: &mut [u8],
+    used: u64,
+    rows: u64,
+    feed: &mut [u64; 48],
+    answer: &mut [u64; 6],
+) -> u32
+    ensures told { λ r. ⌜ endTold r (now (answer .exit)) (now (book .exit)) (now (table .exit)) (now (feed .exit))
+        ≡ endToldOf (endLeaves (now (register .entry)) (now (staging .entry)) (now (book .entry)) (now (table .entry)) (countsOf used rows) (now (feed .entry))) ⌝ }
+    ensures numbers { λ _. ⌜ take 4 (now (answer .exit))
+        ≡ four (endNumbers (now (register .entry)) (now (staging .entry)) (now (book .entry)) (now (table .entry)) (countsOf used rows) (now (feed .entry))) ⌝ }
+{
+    let counts = Counts {
+        used: used as usize,
+        rows: rows as usize,
+    };
+    let outcome = feeds_end::end(register, staging, book, table, counts, feed);
     set_answer(answer, outcome)
 }
 

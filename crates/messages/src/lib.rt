@@ -31,8 +31,8 @@ const FEW_UPDATES: usize = 303;
 // Room for the rows of a short dossier.
 const SHORT_STAGED: usize = FEW_UPDATES * passage::BODY_WIDE;
 
-// Whether register, book and table are sound.
-fn is_sound(register: &[u8], book: &[u8], table: &[u8], counts: Counts) -> bool
+// Whether what a message is lent is sound: register, book and table.
+pub fn is_sound(register: &[u8], book: &[u8], table: &[u8], counts: Counts) -> bool
     ensures { λ r. ⌜ r ≡ messageSound (now (register .entry)) (now (book .entry)) (now (table .entry)) counts ⌝ }
 {
     let used = counts.used;
@@ -89,7 +89,7 @@ fn take_sound(
     read_and_take(dossier, sender, register, &mut staging, book, table, counts)
 }
 
-// A message: refusals 1 to 8 in document 01's order, or its number and the new counts.
+// A message: refusals 1, 2, 3, 15 and 4 to 8, or its number and the new counts.
 pub fn message(
     dossier: &[u8],
     sender: u8,

@@ -84,7 +84,7 @@ fn open_by(
     }
 }
 
-// Open: refusals 2 to 5 of the planning, then of the calendar, 7, 9 and 8 in document 01's order, or the new counts.
+// Open: refusals 2, 3, 15, 4 and 5 of the planning, then of the calendar, 7, 9 and 8, or the new counts.
 // Everything is read, joined and sorted in local areas first: nothing lent is written before it is certain that all is taken. Small dossiers get small
 // areas, which hold the rows of any planning and calendar of that length.
 pub fn open(

@@ -16,17 +16,19 @@ use Rattle.syntax.specs.declared.Verdict.the-variants as Verdicts
 use Rattle.syntax.specs.Machine.{fault}
 use Rattle.grammar.specs.Grammar.{WellFormed}
 use Rattle.syntax.proofs.GrammarLaws.{fine, formed}
-use Rattle.turbo_lines.specs.Lines.{lines}
+use Rattle.turbo_lines.specs.Lines.{lines, firstLong}
+use Rattle.turbo_lines.specs.Claims.{Short}
+use Rattle.turbo_lines.proofs.LongLaws.{none-long, all-short}
 use Rattle.columns.specs.declared.Table.{Table}
 use Rattle.columns.specs.declared.Table.the-variants.{Message, Planning, Calendar}
 use Rattle.columns.specs.Tables.{rowOf}
 use Rattle.register.specs.Register.{grants}
 use Rattle.register.proofs.RegisterLaws.{grants-desk}
 use Rattle.reader.proofs.BoundLaws.{message-bounded, planning-bounded, calendar-bounded}
-use Rattle.reader.specs.declared.Reading.the-variants.{TooLong, Syntax, Form, Field, Owner, Rows}
+use Rattle.reader.specs.declared.Reading.the-variants.{TooLong, Syntax, Long, Form, Field, Owner, Rows}
 use Rattle.reader.specs.Items.{Item, head, row, outside}
 use Rattle.reader.specs.Rules.{largest, formBad, isWrong, wrongAt, ownerBad, dataRows, answerTo, itemsOf, faults, faultPlace, readingOf}
-use Rattle.reader.specs.Staging.{rowsUpTo, laid, stagedBy}
+use Rattle.reader.specs.Staging.{rowsUpTo, laid, shortItems, stagedBy}
 use Rattle.reader.specs.inner.Settled.{answeredBy}
 use Rattle.reader.proofs.AllRowsLaws.{items-numbered, none-first, first-none, not-wrong, right-not, all-rows}
 
@@ -49,6 +51,7 @@ module _ (t : Table) (register : List ℕ) (sender : ℕ) (d : List ℕ) where
   abbrev Right : Type 0
   Right =
       (length d ≤ largest) × WellFormed d
+      × Each Short (lines d)
       × Each (λ (x : Item). formBad t x ≡ false) its
       × Each (λ (x : Item). wrongAt t x ≡ 0) its
       × Each (λ (x : Item). ownerBad t register sender x ≡ false) its
@@ -60,36 +63,42 @@ module _ (t : Table) (register : List ℕ) (sender : ℕ) (d : List ℕ) where
       let m = items-numbered t outside 1 (lines d) (omega arith) in
       (none-first (formBad t) its m (k .0), not-wrong t its (none-first (isWrong t) its m (k .1)), none-first (ownerBad t register sender) its m (k .2), k .3)
 
-  pub reading-looked : (n : ℕ) → readingOf t register sender d ≡ Rows n → (length d ≤ largest) × (fault d ≡ Verdicts.Fine) × (answerTo t register sender its ≡ Rows n)
-  unfolding readingOf
-  reading-looked n = go (ltb largest (length d)) (fault d) refl refl
-    where
-      go : (b : Bool) (v : Verdict) → ltb largest (length d) ≡ b → fault d ≡ v → on b TooLong (on (faults v) (Syntax (faultPlace v)) (answerTo t register sender its)) ≡ Rows n → (length d ≤ largest) × (fault d ≡ Verdicts.Fine) × (answerTo t register sender its ≡ Rows n)
-      go true v p q e = absurd (let z : _≡_ {A = ℕ} 0 1 = cc in omega arith)
-      go false Verdicts.Fine p q e = (ltb-false _ _ p, q, e)
-      go false (Verdicts.FaultAt i) p q e = absurd (let z : _≡_ {A = ℕ} 0 1 = cc in omega arith)
+  -- what is looked at before the items
+  abbrev Looked : ℕ → Type 0
+  Looked n = (length d ≤ largest) × (fault d ≡ Verdicts.Fine) × Each Short (lines d) × (answerTo t register sender its ≡ Rows n)
 
-  accepted-back : length d ≤ largest → WellFormed d → Each (λ (x : Item). formBad t x ≡ false) its → Each (λ (x : Item). wrongAt t x ≡ 0) its → Each (λ (x : Item). ownerBad t register sender x ≡ false) its
+  pub reading-looked : (n : ℕ) → readingOf t register sender d ≡ Rows n → Looked n
+  unfolding readingOf
+  reading-looked n = go (ltb largest (length d)) (fault d) (eqb (firstLong 1 (lines d)) 0) refl refl refl
+    where
+      go : (b : Bool) (v : Verdict) (x : Bool) → ltb largest (length d) ≡ b → fault d ≡ v → eqb (firstLong 1 (lines d)) 0 ≡ x
+          → on b TooLong (on (faults v) (Syntax (faultPlace v)) (on (not x) (Long (firstLong 1 (lines d))) (answerTo t register sender its))) ≡ Rows n → Looked n
+      go true v x p q r e = absurd (let z : _≡_ {A = ℕ} 0 1 = cc in omega arith)
+      go false Verdicts.Fine true p q r e = (ltb-false _ _ p, q, none-long 1 (lines d) (omega arith) (eqb-true _ _ r), e)
+      go false Verdicts.Fine false p q r e = absurd (let z : _≡_ {A = ℕ} 0 1 = cc in omega arith)
+      go false (Verdicts.FaultAt i) x p q r e = absurd (let z : _≡_ {A = ℕ} 0 1 = cc in omega arith)
+
+  accepted-back : length d ≤ largest → WellFormed d → Each Short (lines d) → Each (λ (x : Item). formBad t x ≡ false) its → Each (λ (x : Item). wrongAt t x ≡ 0) its → Each (λ (x : Item). ownerBad t register sender x ≡ false) its
       → readingOf t register sender d ≡ Rows (length (dataRows t its))
   unfolding readingOf answerTo
-  accepted-back small w f r o =
-      rw (le-ltb largest (length d) small, fine w, first-none (formBad t) its f, first-none (isWrong t) its (right-not t its r), first-none (ownerBad t register sender) its o)
+  accepted-back small w h f r o =
+      rw (le-ltb largest (length d) small, fine w, all-short 1 (lines d) h, first-none (formBad t) its f, first-none (isWrong t) its (right-not t its r), first-none (ownerBad t register sender) its o)
 
   pub accepted : ((n : ℕ) × (readingOf t register sender d ≡ Rows n)) ↔ Right
   accepted = (to, back)
     where
       to : ((n : ℕ) × (readingOf t register sender d ≡ Rows n)) → Right
-      to (n, e) = let k = reading-looked n e in let a = answer-right n (k .2) in (k .0, formed d (k .1), a .0, a .1, a .2)
+      to (n, e) = let k = reading-looked n e in let a = answer-right n (k .3) in (k .0, formed d (k .1), k .2, a .0, a .1, a .2)
 
       back : Right → (n : ℕ) × (readingOf t register sender d ≡ Rows n)
-      back (small, w, f, r, o) = (length (dataRows t its), accepted-back small w f r o)
+      back (small, w, h, f, r, o) = (length (dataRows t its), accepted-back small w h f r o)
 
   pub rows-counted : (n : ℕ) → readingOf t register sender d ≡ Rows n → n ≡ length (dataRows t its)
-  rows-counted n e = let k = reading-looked n e in sym (answer-right n (k .2) .3)
+  rows-counted n e = let k = reading-looked n e in sym (answer-right n (k .3) .3)
 
   -- the rows before the first line at fault are all rows
   pub accepted-rows : (n : ℕ) → readingOf t register sender d ≡ Rows n → rowsUpTo t register sender its ≡ dataRows t its
-  accepted-rows n e = let a = answer-right n (reading-looked n e .2) in all-rows t register sender its (a .0) (a .1) (a .2)
+  accepted-rows n e = let a = answer-right n (reading-looked n e .3) in all-rows t register sender its (a .0) (a .1) (a .2)
 
   -- so what holds of each of them holds of each row
   pub accepted-each : (P : List ℕ → Type 0) → Each P (rowsUpTo t register sender its) → (n : ℕ) → readingOf t register sender d ≡ Rows n → Each P (dataRows t its)
@@ -110,14 +119,14 @@ desk-rows register (row n ls l ∷ xs) e = desk-never register (part 0 10 (rowOf
 pub desk-nothing : (register d : List ℕ) (n : ℕ) → readingOf Message register 0 d ≡ Rows n → n ≡ 0
 desk-nothing register d n e =
     let k = reading-looked Message register 0 d n e in
-    let a = answer-right Message register 0 d n (k .2) in
+    let a = answer-right Message register 0 d n (k .3) in
     sym (a .3) ∙ ap length (desk-rows register (itemsOf Message d) (a .2))
 
 pub area-length : (t : Table) (register : List ℕ) (sender : ℕ) (d staging : List ℕ) → length (stagedBy t register sender d staging) ≡ length staging
 unfolding stagedBy
 area-length t register sender d staging = go (ltb largest (length d) || faults (fault d))
   where
-    go : (b : Bool) → length (on b staging (laid t (rowsUpTo t register sender (itemsOf t d)) staging)) ≡ length staging
+    go : (b : Bool) → length (on b staging (laid t (rowsUpTo t register sender (shortItems t d)) staging)) ≡ length staging
     go true = refl
     go false = length-over 0 _ staging
 

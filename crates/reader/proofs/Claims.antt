@@ -7,12 +7,13 @@ use Rattle.columns.specs.declared.Table.the-variants.{Message, Planning, Calend
 use Rattle.reader.specs.Claims.{All}
 use Rattle.passage.specs.Ranges.{updateInRange}
 use Rattle.reader.specs.Rules.{itemsOf}
+use Rattle.reader.specs.Staging.{shortItems}
 use Rattle.reader.specs.Staged.{PassFacts, ValidityFacts}
 use Rattle.reader.proofs.RangeLaws.{rows-in-range}
 use Rattle.reader.proofs.PlanRangeLaws.{passes-in-range, validities-in-range}
 use Rattle.reader.proofs.LookLaws.{numbers-by-table}
 use Rattle.reader.proofs.AnswerLaws.{accepted, rows-counted, accepted-each, desk-nothing, rows-few, planning-few, calendar-few, area-length}
-use Rattle.reader.proofs.RefusalLaws.{too-long-exactly, syntax-exactly, form-exactly, field-exactly, owner-exactly}
+use Rattle.reader.proofs.RefusalLaws.{too-long-exactly, syntax-exactly, long-exactly, form-exactly, field-exactly, owner-exactly}
 use Rattle.reader.proofs.ItemLaws.{items-exactly, items-in-order}
 use Rattle.reader.proofs.SaidLaws.{rows-say-lines}
 use Rattle.reader.proofs.StagedLaws.{staged-rows}
@@ -25,6 +26,7 @@ claims = (
   accepted,
   too-long-exactly,
   syntax-exactly,
+  long-exactly,
   form-exactly,
   field-exactly,
   owner-exactly,
@@ -38,7 +40,7 @@ claims = (
   λ d. accepted-each Planning [] 0 d PassFacts (passes-in-range [] 0 (itemsOf Planning d)),
   λ d. accepted-each Calendar [] 0 d ValidityFacts (validities-in-range [] 0 (itemsOf Calendar d)),
   λ register sender d.
-      (rows-in-range register sender (itemsOf Message d), passes-in-range register sender (itemsOf Planning d), validities-in-range register sender (itemsOf Calendar d)),
+      (rows-in-range register sender (shortItems Message d), passes-in-range register sender (shortItems Planning d), validities-in-range register sender (shortItems Calendar d)),
   area-length,
   staged-rows,
 )

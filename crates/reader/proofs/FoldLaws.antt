@@ -16,9 +16,9 @@ use Rattle.turbo_lines.specs.Lines.{markOf, afterMark}
 use Rattle.columns.specs.declared.Table.{Table}
 use Rattle.columns.specs.Tables.{tableName, rowOf, wrongColumn, labelFault}
 use Rattle.rows.specs.declared.Shape.{Shape}
-use Rattle.rows.specs.inner.Shape.{shapeOf}
-use Rattle.rows.specs.inner.Reading.{readBy, readGiven}
-use Rattle.columns.specs.inner.Blank.{widest-row}
+use Rattle.rows.specs.Shape.{shapeOf}
+use Rattle.rows.specs.Reading.{readBy, readGiven}
+use Rattle.columns.specs.Layout.{widest-row}
 use Rattle.reader_step.specs.declared.State.{State}
 use Rattle.reader.specs.declared.Reading.{Reading}
 use Rattle.reader.specs.declared.Reading.the-variants.{Form}
@@ -26,7 +26,7 @@ use Rattle.reader.specs.Items.{Item, head, row, Place, outside, awaiting
 use Rattle.reader.specs.Rules.{formBad, isWrong, ownerBad, firstLine, firstColumn}
 use Rattle.reader.specs.Staging.{rowsUpTo}
 use Rattle.reader.specs.inner.Settled.{answeredBy}
-use Rattle.reader_step.specs.inner.Step.{moved, misformed, labelled, mistyped, disowned, oneRowMore, rowStep, dataStep, labelStep, stepAt, stepBy}
+use Rattle.reader_step.specs.Step.{moved, misformed, labelled, mistyped, disowned, oneRowMore, rowStep, dataStep, labelStep, stepAt, stepBy}
 use Rattle.register.specs.Register.{maySend}
 
 -- The answer by lines: what a line changes in the state is what its item changes in the answer. Assumes nothing.

@@ -3,6 +3,7 @@ pub mod StageLaws
 pub mod ReadLaws
 pub mod AllRowsLaws
 pub mod LinesLaws
+pub mod ShortLaws
 pub mod LookLaws
 pub mod EachRowLaws
 pub mod HeldLaws

@@ -24,12 +24,12 @@ use Rattle.reader.specs.declared.Reading.the-variants.{Form, Field, Owne
 use Rattle.reader.specs.Items.{Item, Place, outside, placeAfter, seen, inFront, items}
 use Rattle.rows.specs.declared.Shape.{Shape}
 use Rattle.rows.specs.declared.Read.{Read}
-use Rattle.rows.specs.inner.Shape.{shapeOf}
-use Rattle.rows.specs.inner.Reading.{readBy}
+use Rattle.rows.specs.Shape.{shapeOf}
+use Rattle.rows.specs.Reading.{readBy}
 use Rattle.reader.specs.Rules.{firstLine, firstColumn, answerTo}
 use Rattle.reader.specs.Staging.{rowsUpTo, laid}
 use Rattle.reader.specs.inner.Settled.{answeredBy}
-use Rattle.reader_step.specs.inner.Step.{moved, misformed, labelled, mistyped, disowned, oneRowMore, rowStep, dataStep, labelStep, stepAt, stepBy, stageBy, lineStep, lineStaged, Fresh}
+use Rattle.reader_step.specs.Step.{moved, misformed, labelled, mistyped, disowned, oneRowMore, rowStep, dataStep, labelStep, stepAt, stepBy, stageBy, lineStep, lineStaged, Fresh}
 use Rattle.reader_step.proofs.StepLaws.{line-goes}
 use Rattle.reader_step.proofs.WidthLaws.{width-some}
 use Rattle.reader.proofs.AllRowsLaws.{items-numbered, answer-counted}
@@ -177,6 +177,10 @@ module _ (t : Table) (register : List ℕ) (sender : ℕ) (all-lines : List (Lis
         (subst (λ (x : List ℕ). Stages t register sender s (stepBy t register sender s l) (seen (markOf l) (s .line) l (now .place)) (comes t (now .place) (s .line) l ls) (now .done) st₀ x)
         (sym (staged ∙ ap (stageBy t register sender s l) (now .area)))
         (line-stages t register sender s (now .form) (λ e. let f = now .from in omega arith) (width-some t) (now .done) st₀ (now .all) (now .count) l reads fronts (comes t (now .place) (s .line) l ls) (now .place) (now .agrees)))
+
+    -- the next line has the next number
+    pub reading-counts : n .line ≡ suc (s .line)
+    reading-counts = goes .2 ∙ add-one (s .line)
 
     -- a fault of form ends the reading
     pub reading-ends : (n .form ≡ 0 → ⊥) → (Form (n .form) ≡ answerTo t register sender (items t outside 1 all-lines)) × (st′ ≡ laid t (rowsUpTo t register sender (items t outside 1 all-lines)) st₀)

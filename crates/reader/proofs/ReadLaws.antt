@@ -9,9 +9,9 @@ use Rattle.lists.proofs.ReadLaws.{part-written}
 use Rattle.columns.specs.declared.Table.{Table}
 use Rattle.columns.specs.declared.Table.the-variants.{Message, Planning, Calendar}
 use Rattle.columns.specs.Tables.{rowOf, rowWidth}
-use Rattle.columns.specs.inner.Blank.{widest-row}
+use Rattle.columns.specs.Layout.{widest-row}
 use Rattle.register.specs.Register.{grants, maySend}
-use Rattle.rows.specs.inner.Shape.{IsShape}
+use Rattle.rows.specs.Shape.{IsShape}
 use Rattle.rows.proofs.RowLaws.{shape-reads, shape-sound, row-length}
 use Rattle.reader_step.specs.declared.State.{State}
 use Rattle.reader.specs.Items.{Place, outside, awaiting, under}

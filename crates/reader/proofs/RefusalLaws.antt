@@ -19,7 +19,9 @@ use Rattle.syntax.proofs.GrammarLaws.{fine, formed}
 use Rattle.turbo.specs.Split.{fields, until}
 use Rattle.turbo_lines.specs.declared.Mark.{Mark}
 use Rattle.turbo_lines.specs.declared.Mark.the-variants as Marks
-use Rattle.turbo_lines.specs.Lines.{lines, markOf, afterMark}
+use Rattle.turbo_lines.specs.Lines.{lines, firstLong, markOf, afterMark}
+use Rattle.turbo_lines.specs.Claims.{Short, LongAt}
+use Rattle.turbo_lines.proofs.LongLaws.{none-long, all-short, long-found}
 use Rattle.columns.specs.declared.Table.{Table}
 use Rattle.columns.specs.Tables.{tableName, rowOf, wrongColumn, labelFault}
 use Rattle.register.specs.Register.{maySend}
@@ -27,10 +29,10 @@ use Rattle.rows.specs.Claims.{OutsideType}
 use Rattle.rows.proofs.LabelLaws.{faultless, once, there}
 use Rattle.rows.proofs.UnderLaws.{right-none, none-right, first-outside, outside-first}
 use Rattle.reader.specs.declared.Reading.{Reading}
-use Rattle.reader.specs.declared.Reading.the-variants.{TooLong, Syntax, Form, Field, Owner, Rows}
+use Rattle.reader.specs.declared.Reading.the-variants.{TooLong, Syntax, Long, Form, Field, Owner, Rows}
 use Rattle.reader.specs.Items.{Item, head, row, Place, outside, awaiting, under, placeAfter, seen, inFront, items}
 use Rattle.reader.specs.Rules.{largest, lineNumber, formBad, isWrong, wrongAt, ownerBad, firstLine, firstColumn, dataRows, itemsOf, faults, faultPlace, answerTo, readingOf}
-use Rattle.reader.specs.Claims.{FirstNot, FormRight, FieldsRight, OwnerRight, TooLongExactly, SyntaxExactly, FormExactly, FieldExactly, OwnerExactly}
+use Rattle.reader.specs.Claims.{FirstNot, FormRight, FieldsRight, OwnerRight, TooLongExactly, SyntaxExactly, LongExactly, FormExactly, FieldExactly, OwnerExactly}
 use Rattle.reader.proofs.AllRowsLaws.{items-numbered, none-first, first-none}
 use Rattle.reader.proofs.LookLaws.{look-long, look-syntax}
 
@@ -170,13 +172,17 @@ module _ (t : Table) (register : List ℕ) (sender : ℕ) (d : List ℕ) where
   abbrev Small : Type 0
   Small = length d ≤ largest
 
+  abbrev long : ℕ
+  long = firstLong 1 (lines d)
+
   -- what each answer tells of the first lines
   abbrev Tells : Reading → Type 0
   Tells TooLong = largest < length d
   Tells (Syntax i) = Small × (fault d ≡ FaultAt i)
-  Tells (Form l) = Small × (fault d ≡ Fine) × (form ≡ l) × (1 ≤ l)
-  Tells (Field l c) = Small × (fault d ≡ Fine) × (form ≡ 0) × (wrong ≡ l) × (1 ≤ l) × (firstColumn t its ≡ c)
-  Tells (Owner l) = Small × (fault d ≡ Fine) × (form ≡ 0) × (wrong ≡ 0) × (owner ≡ l) × (1 ≤ l)
+  Tells (Long l) = Small × (fault d ≡ Fine) × (long ≡ l) × (1 ≤ l)
+  Tells (Form l) = Small × (fault d ≡ Fine) × (long ≡ 0) × (form ≡ l) × (1 ≤ l)
+  Tells (Field l c) = Small × (fault d ≡ Fine) × (long ≡ 0) × (form ≡ 0) × (wrong ≡ l) × (1 ≤ l) × (firstColumn t its ≡ c)
+  Tells (Owner l) = Small × (fault d ≡ Fine) × (long ≡ 0) × (form ≡ 0) × (wrong ≡ 0) × (owner ≡ l) × (1 ≤ l)
   Tells (Rows n) = Unit {0}
 
   line-there : (n : ℕ) → eqb n 0 ≡ false → 1 ≤ n
@@ -184,32 +190,41 @@ module _ (t : Table) (register : List ℕ) (sender : ℕ) (d : List ℕ) where
 
   tells : Tells (readingOf t register sender d)
   unfolding readingOf answerTo
-  tells = go (ltb largest (length d)) (fault d) (eqb form 0) (eqb wrong 0) (eqb owner 0) refl refl refl refl refl
+  tells = go (ltb largest (length d)) (fault d) (eqb long 0) (eqb form 0) (eqb wrong 0) (eqb owner 0) refl refl refl refl refl refl
     where
-      go : (b : Bool) (v : Verdict) (x y z : Bool) → ltb largest (length d) ≡ b → fault d ≡ v → eqb form 0 ≡ x → eqb wrong 0 ≡ y → eqb owner 0 ≡ z
-          → Tells (on b TooLong (on (faults v) (Syntax (faultPlace v)) (on (not x) (Form form) (on (not y) (Field wrong (firstColumn t its)) (on (not z) (Owner owner) (Rows (length (dataRows t its))))))))
-      go true v x y z p q a b c = ltb-true _ _ p
-      go false (FaultAt i) x y z p q a b c = (ltb-false _ _ p, q)
-      go false Fine false y z p q a b c = (ltb-false _ _ p, q, refl, line-there _ a)
-      go false Fine true false z p q a b c = (ltb-false _ _ p, q, eqb-true _ _ a, refl, line-there _ b, refl)
-      go false Fine true true false p q a b c = (ltb-false _ _ p, q, eqb-true _ _ a, eqb-true _ _ b, refl, line-there _ c)
-      go false Fine true true true p q a b c = tt
+      go : (b : Bool) (v : Verdict) (u x y z : Bool) → ltb largest (length d) ≡ b → fault d ≡ v → eqb long 0 ≡ u → eqb form 0 ≡ x → eqb wrong 0 ≡ y → eqb owner 0 ≡ z
+          → Tells (on b TooLong (on (faults v) (Syntax (faultPlace v)) (on (not u) (Long long) (on (not x) (Form form) (on (not y) (Field wrong (firstColumn t its)) (on (not z) (Owner owner) (Rows (length (dataRows t its)))))))))
+      go true v u x y z p q k a b c = ltb-true _ _ p
+      go false (FaultAt i) u x y z p q k a b c = (ltb-false _ _ p, q)
+      go false Fine false x y z p q k a b c = (ltb-false _ _ p, q, refl, line-there _ k)
+      go false Fine true false y z p q k a b c = (ltb-false _ _ p, q, eqb-true _ _ k, refl, line-there _ a)
+      go false Fine true true false z p q k a b c = (ltb-false _ _ p, q, eqb-true _ _ k, eqb-true _ _ a, refl, line-there _ b, refl)
+      go false Fine true true true false p q k a b c = (ltb-false _ _ p, q, eqb-true _ _ k, eqb-true _ _ a, eqb-true _ _ b, refl, line-there _ c)
+      go false Fine true true true true p q k a b c = tt
 
   told : (r : Reading) → readingOf t register sender d ≡ r → Tells r
   told r e = subst Tells e tells
 
+  long-none : long ≡ 0 → Each Short (lines d)
+  long-none e = none-long 1 (lines d) (omega arith) e
+
   module _ (small : Small) (w : WellFormed d) where
-    form-back : (l : ℕ) → form ≡ l → 1 ≤ l → readingOf t register sender d ≡ Form l
-    unfolding readingOf answerTo
-    form-back l e h = rw (le-ltb largest (length d) small, fine w, e, ne-eqb l 0 (λ q. omega arith))
+    long-back : (l : ℕ) → long ≡ l → 1 ≤ l → readingOf t register sender d ≡ Long l
+    unfolding readingOf
+    long-back l e h = rw (le-ltb largest (length d) small, fine w, e, ne-eqb l 0 (λ q. omega arith))
 
-    field-back : (l c : ℕ) → form ≡ 0 → wrong ≡ l → 1 ≤ l → firstColumn t its ≡ c → readingOf t register sender d ≡ Field l c
-    unfolding readingOf answerTo
-    field-back l c f e h k = rw (le-ltb largest (length d) small, fine w, f, e, ne-eqb l 0 (λ q. omega arith), k)
+    module _ (short : Each Short (lines d)) where
+      form-back : (l : ℕ) → form ≡ l → 1 ≤ l → readingOf t register sender d ≡ Form l
+      unfolding readingOf answerTo
+      form-back l e h = rw (le-ltb largest (length d) small, fine w, all-short 1 (lines d) short, e, ne-eqb l 0 (λ q. omega arith))
 
-    owner-back : (l : ℕ) → form ≡ 0 → wrong ≡ 0 → owner ≡ l → 1 ≤ l → readingOf t register sender d ≡ Owner l
-    unfolding readingOf answerTo
-    owner-back l f e o h = rw (le-ltb largest (length d) small, fine w, f, e, o, ne-eqb l 0 (λ q. omega arith))
+      field-back : (l c : ℕ) → form ≡ 0 → wrong ≡ l → 1 ≤ l → firstColumn t its ≡ c → readingOf t register sender d ≡ Field l c
+      unfolding readingOf answerTo
+      field-back l c f e h k = rw (le-ltb largest (length d) small, fine w, all-short 1 (lines d) short, f, e, ne-eqb l 0 (λ q. omega arith), k)
+
+      owner-back : (l : ℕ) → form ≡ 0 → wrong ≡ 0 → owner ≡ l → 1 ≤ l → readingOf t register sender d ≡ Owner l
+      unfolding readingOf answerTo
+      owner-back l f e o h = rw (le-ltb largest (length d) small, fine w, all-short 1 (lines d) short, f, e, o, ne-eqb l 0 (λ q. omega arith))
 
   numbered : Each (λ (x : Item). 1 ≤ lineNumber x) its
   numbered = items-numbered t outside 1 (lines d) (omega arith)
@@ -258,41 +273,56 @@ too-long-exactly t register sender d = (told t register sender d TooLong, λ h. 
 pub syntax-exactly : SyntaxExactly
 syntax-exactly t register sender d i = (told t register sender d (Syntax i), λ k. sym (look-syntax t register sender d [] (k .0) i (k .1) .0))
 
+pub long-exactly : LongExactly
+long-exactly t register sender d l = (to, back)
+  where
+    to : readingOf t register sender d ≡ Long l → (length d ≤ 65536) × WellFormed d × LongAt (lines d) l
+    to e =
+        let k = told t register sender d (Long l) e in
+        (k .0, formed d (k .1), long-found (lines d) l (k .3) .0 (k .2))
+
+    back : (length d ≤ 65536) × WellFormed d × LongAt (lines d) l → readingOf t register sender d ≡ Long l
+    back (small, w, f) =
+        let e = f .number in
+        let n : 1 ≤ l = omega arith in
+        long-back t register sender d small w l (long-found (lines d) l n .1 f) n
+
 pub form-exactly : FormExactly
 form-exactly t register sender d l = (to, back)
   where
-    to : readingOf t register sender d ≡ Form l → (length d ≤ 65536) × WellFormed d × ((x : Item) × FirstNot (FormRight t) (itemsOf t d) x × (lineNumber x ≡ l))
+    to : readingOf t register sender d ≡ Form l → (length d ≤ 65536) × WellFormed d × Each Short (lines d) × ((x : Item) × FirstNot (FormRight t) (itemsOf t d) x × (lineNumber x ≡ l))
     to e =
         let k = told t register sender d (Form l) e in
-        (k .0, formed d (k .1), first-at (formBad t) (FormRight t) (itemsOf t d) (forms t register sender d) l (k .3) (k .2))
+        (k .0, formed d (k .1), long-none t register sender d (k .2), first-at (formBad t) (FormRight t) (itemsOf t d) (forms t register sender d) l (k .4) (k .3))
 
-    back : (length d ≤ 65536) × WellFormed d × ((x : Item) × FirstNot (FormRight t) (itemsOf t d) x × (lineNumber x ≡ l)) → readingOf t register sender d ≡ Form l
-    back (small, w, (x, f, e)) =
+    back : (length d ≤ 65536) × WellFormed d × Each Short (lines d) × ((x : Item) × FirstNot (FormRight t) (itemsOf t d) x × (lineNumber x ≡ l)) → readingOf t register sender d ≡ Form l
+    back (small, w, h, (x, f, e)) =
         let n = first-numbered t register sender d (FormRight t) x f in
-        form-back t register sender d small w l (at-first (formBad t) (FormRight t) (itemsOf t d) (forms t register sender d) x f ∙ e) (omega arith)
+        form-back t register sender d small w h l (at-first (formBad t) (FormRight t) (itemsOf t d) (forms t register sender d) x f ∙ e) (omega arith)
 
 pub owner-exactly : OwnerExactly
 owner-exactly t register sender d l = (to, back)
   where
     to : readingOf t register sender d ≡ Owner l
-        → (length d ≤ 65536) × WellFormed d × Each (FormRight t) (itemsOf t d) × Each (FieldsRight t) (itemsOf t d)
+        → (length d ≤ 65536) × WellFormed d × Each Short (lines d) × Each (FormRight t) (itemsOf t d) × Each (FieldsRight t) (itemsOf t d)
         × ((x : Item) × FirstNot (OwnerRight t register sender) (itemsOf t d) x × (lineNumber x ≡ l))
     to e =
         let k = told t register sender d (Owner l) e in
-        let f = form-none t register sender d (k .2) in (
+        let f = form-none t register sender d (k .3) in (
           k .0,
           formed d (k .1),
+          long-none t register sender d (k .2),
           f,
-          all-right (isWrong t) (FieldsRight t) (itemsOf t d) (fields-in t register sender d f) (none-first (isWrong t) (itemsOf t d) (numbered t register sender d) (k .3)),
-          first-at (ownerBad t register sender) (OwnerRight t register sender) (itemsOf t d) (owners t register sender d) l (k .5) (k .4),
+          all-right (isWrong t) (FieldsRight t) (itemsOf t d) (fields-in t register sender d f) (none-first (isWrong t) (itemsOf t d) (numbered t register sender d) (k .4)),
+          first-at (ownerBad t register sender) (OwnerRight t register sender) (itemsOf t d) (owners t register sender d) l (k .6) (k .5),
         )
 
-    back : (length d ≤ 65536) × WellFormed d × Each (FormRight t) (itemsOf t d) × Each (FieldsRight t) (itemsOf t d)
+    back : (length d ≤ 65536) × WellFormed d × Each Short (lines d) × Each (FormRight t) (itemsOf t d) × Each (FieldsRight t) (itemsOf t d)
         × ((x : Item) × FirstNot (OwnerRight t register sender) (itemsOf t d) x × (lineNumber x ≡ l))
         → readingOf t register sender d ≡ Owner l
-    back (small, w, f, r, (x, o, e)) =
+    back (small, w, h, f, r, (x, o, e)) =
         let n = first-numbered t register sender d (OwnerRight t register sender) x o in
-        owner-back t register sender d small w l (none-form t register sender d f)
+        owner-back t register sender d small w h l (none-form t register sender d f)
         (first-none (isWrong t) (itemsOf t d) (all-fine (isWrong t) (FieldsRight t) (itemsOf t d) (fields-in t register sender d f) r))
         (at-first (ownerBad t register sender) (OwnerRight t register sender) (itemsOf t d) (owners t register sender d) x o ∙ e)
         (omega arith)
@@ -320,19 +350,19 @@ module _ (t : Table) (register : List ℕ) (sender : ℕ) (d : List ℕ) (l c : 
           let o = first-outside t ls g line p (k ∙ h) in
           (ls, line, p, subst (λ (m : ℕ). FirstNot (FieldsRight t) (itemsOf t d) (row m ls line)) e a, h, o .0, o .1)
 
-  pub field-to : readingOf t register sender d ≡ Field l c → (length d ≤ 65536) × WellFormed d × Each (FormRight t) (itemsOf t d) × FieldAt
+  pub field-to : readingOf t register sender d ≡ Field l c → (length d ≤ 65536) × WellFormed d × Each Short (lines d) × Each (FormRight t) (itemsOf t d) × FieldAt
   field-to e =
       let k = told t register sender d (Field l c) e in
-      let f = form-none t register sender d (k .2) in
+      let f = form-none t register sender d (k .3) in
       let s = fields-in t register sender d f in
-      let a = first-at (isWrong t) (FieldsRight t) (itemsOf t d) s l (k .4) (k .3) in
-      (k .0, formed d (k .1), f, field-of (a .0) (a .1) (labels-of f (a .0) (a .1)) (a .2) (sym (column-at t (itemsOf t d) s (a .0) (a .1)) ∙ k .5))
+      let a = first-at (isWrong t) (FieldsRight t) (itemsOf t d) s l (k .5) (k .4) in
+      (k .0, formed d (k .1), long-none t register sender d (k .2), f, field-of (a .0) (a .1) (labels-of f (a .0) (a .1)) (a .2) (sym (column-at t (itemsOf t d) s (a .0) (a .1)) ∙ k .6))
 
-  pub field-from : (length d ≤ 65536) × WellFormed d × Each (FormRight t) (itemsOf t d) × FieldAt → readingOf t register sender d ≡ Field l c
-  field-from (small, w, f, (ls, line, p, a, e, o, least)) =
+  pub field-from : (length d ≤ 65536) × WellFormed d × Each Short (lines d) × Each (FormRight t) (itemsOf t d) × FieldAt → readingOf t register sender d ≡ Field l c
+  field-from (small, w, h, f, (ls, line, p, a, e, o, least)) =
       let s = fields-in t register sender d f in
       let n : 1 ≤ l = first-numbered t register sender d (FieldsRight t) (row l ls line) a in
-      field-back t register sender d small w l c (none-form t register sender d f)
+      field-back t register sender d small w h l c (none-form t register sender d f)
       (at-first (isWrong t) (FieldsRight t) (itemsOf t d) s (row l ls line) a)
       n
       (column-at t (itemsOf t d) s (row l ls line) a ∙ outside-first t ls (labels-of f (row l ls line) a) line p o least ∙ sym e)

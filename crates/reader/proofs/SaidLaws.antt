@@ -33,4 +33,4 @@ each-said t (row n ls l ∷ xs) e w = (said t ls l (e .0) (w .0), each-said t xs
 pub rows-say-lines : RowsSayLines
 rows-say-lines t register sender d n e =
     let a = accepted t register sender d .0 (n, e) in
-    each-said t (itemsOf t d) (labelled t outside 1 (lines d) tt (a .2)) (a .3)
+    each-said t (itemsOf t d) (labelled t outside 1 (lines d) tt (a .3)) (a .4)

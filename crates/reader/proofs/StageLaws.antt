@@ -25,13 +25,13 @@ use Rattle.columns.specs.declared.Table.{Table}
 use Rattle.columns.specs.Tables.{tableName, rowOf, rowWidth, wrongColumn, labelFault}
 use Rattle.rows.specs.declared.Shape.{Shape}
 use Rattle.rows.specs.declared.Read.{Read}
-use Rattle.rows.specs.inner.Shape.{shapeOf}
-use Rattle.rows.specs.inner.Reading.{readBy, readGiven}
-use Rattle.columns.specs.inner.Blank.{widest-row}
+use Rattle.rows.specs.Shape.{shapeOf}
+use Rattle.rows.specs.Reading.{readBy, readGiven}
+use Rattle.columns.specs.Layout.{widest-row}
 use Rattle.reader_step.specs.declared.State.{State}
 use Rattle.reader.specs.Items.{Item, head, row, Place, outside, awaiting, under, placeAfter, seen, inFront}
 use Rattle.reader.specs.Staging.{rowsUpTo, laid}
-use Rattle.reader_step.specs.inner.Step.{moved, misformed, labelled, mistyped, disowned, oneRowMore, dataStep, labelStep, stepAt, stepBy, staged, rowStaged, dataStaged, stagedAt, stageBy}
+use Rattle.reader_step.specs.Step.{moved, misformed, labelled, mistyped, disowned, oneRowMore, dataStep, labelStep, stepAt, stepBy, staged, rowStaged, dataStaged, stagedAt, stageBy}
 use Rattle.reader.proofs.FoldLaws.{clean, rowsFrom, Agrees, Reads, shape-fault, shape-count, data-tested}
 use Rattle.register.specs.Register.{maySend}
 

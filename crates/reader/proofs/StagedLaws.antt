@@ -10,6 +10,8 @@ use Rattle.lists.specs.Part.{over}
 use Rattle.lists.specs.Rows.{flat, rowsOf, Wide}
 use Rattle.lists.proofs.OverLaws.{onto-fits}
 use Rattle.lists.proofs.WideLaws.{length-flat, rowsOf-flat}
+use Rattle.turbo_lines.specs.Lines.{lines}
+use Rattle.turbo_lines.proofs.LongLaws.{front-whole}
 use Rattle.passage.specs.Layout.{body-wide}
 use Rattle.columns.specs.declared.Table.{Table}
 use Rattle.columns.specs.declared.Table.the-variants.{Message, Planning, Calendar}
@@ -43,7 +45,7 @@ module _ (t : Table) (register : List ℕ) (sender : ℕ) (d staging : List ℕ)
       let k = reading-looked t register sender d n e in
       let c = rows-counted t register sender d n e in
       let m : n ≤ length staging / rowWidth t = le-div-iff-mul-le (width-some t) .1 room in
-      rw (le-ltb largest (length d) (k .0), k .1, accepted-rows t register sender d n e, take-all (length staging / rowWidth t) rs (omega arith))
+      rw (le-ltb largest (length d) (k .0), k .1, front-whole (lines d) (k .2), accepted-rows t register sender d n e, take-all (length staging / rowWidth t) rs (omega arith))
 
   -- and are read back
   pub staged-rows : rowsOf (rowWidth t) n (stagedBy t register sender d staging) ≡ rs

@@ -13,7 +13,7 @@ use Rattle.clock.specs.Moment.{monthStart, dayCount}
 use Rattle.syntax.specs.Machine.{fieldStep, escapeStep, firstEscapeStep, nullStep, returnStep, startStep, markStep, step, accepting, run, fault}
 use Rattle.turbo.specs.Escape.{escaped, decode}
 use Rattle.turbo.specs.Split.{until, past, fields, fieldAt}
-use Rattle.turbo_lines.specs.Lines.{linesFrom, markOf, afterMark}
+use Rattle.turbo_lines.specs.Lines.{linesFrom, firstLong, markOf, afterMark}
 use Rattle.turbo_labels.specs.Columns.{count, columnOf, fieldUnder, anyTwice}
 use Rattle.field_types.specs.Digits.{numeral, triple}
 use Rattle.field_types.specs.Times.{clock, time}
@@ -26,7 +26,7 @@ use Rattle.columns.specs.Cell.{cell}
 use Rattle.columns.specs.Tables.{messageColumns, calendarColumns, columnsIn, tableName, names, misses, rowOf, wrongColumn, labelFault}
 use Rattle.register.specs.Register.{hasPair, grants}
 use Rattle.reader.specs.declared.Reading.{Reading}
-use Rattle.reader.specs.declared.Reading.the-variants.{Syntax, Form, Field, Owner, Rows}
+use Rattle.reader.specs.declared.Reading.the-variants.{Syntax, Long, Form, Field, Owner, Rows}
 use Rattle.reader.specs.Items.{items}
 use Rattle.reader.specs.Rules.{firstLine, firstColumn, dataRows, answerTo, readingOf}
 
@@ -51,7 +51,7 @@ pub calendars :
     × (calendar ("2017-02-29||A|CXX" ∷ "\\TLOCALSERVICEGROUPVALIDITY" ∷ "\\LOperationDate" ∷ []) ≡ Form 6)
     -- an escape that there is not, behind all of these
     × (calendar ("2017-02-29||A|CXX" ∷ "2016-03-01||A" ∷ "\\x" ∷ []) ≡ Syntax 123)
-unfolding readingOf fault run accepting step markStep startStep returnStep nullStep firstEscapeStep escapeStep fieldStep answerTo firstLine firstColumn dataRows items linesFrom markOf afterMark until past fields fieldAt fieldUnder tableName labelFault anyTwice count columnOf names columnsIn calendarColumns misses same wrongColumn rowOf flat cell spelled text decode escaped date isDate daysIn triple numeral
+unfolding readingOf fault run accepting step markStep startStep returnStep nullStep firstEscapeStep escapeStep fieldStep answerTo firstLine firstColumn dataRows items linesFrom firstLong markOf afterMark until past fields fieldAt fieldUnder tableName labelFault anyTwice count columnOf names columnsIn calendarColumns misses same wrongColumn rowOf flat cell spelled text decode escaped date isDate daysIn triple numeral
 calendars = (refl, refl, refl, refl, refl, refl, refl)
 
 -- ---- a message of one row, its owner registered for sender 1, and for the desk, to which that grants nothing
@@ -78,5 +78,18 @@ pub messages :
     -- no arrival at INTERMEDIATE; no departure at LAST is right
     × (message 2 "CXX|2016-03-01|A031|122|0|S1|15|CIOS|2016-03-01T15:15:30+01:00|CANCEL|\\0|24:10:30|INTERMEDIATE" ≡ Field 4 11)
     × (message 1 "CXX|2016-03-01|A031|122|0|S1|15|CIOS|2016-03-01T15:15:30+01:00|CANCEL|24:10:00|\\0|LAST" ≡ Rows 1)
-unfolding readingOf fault run accepting step markStep startStep returnStep nullStep firstEscapeStep escapeStep fieldStep answerTo firstLine firstColumn dataRows items linesFrom markOf afterMark until past fields fieldAt fieldUnder tableName labelFault anyTwice count columnOf names columnsIn messageColumns misses same wrongColumn rowOf flat cell spelled text decode escaped date isDate daysIn triple numeral stamp stampSeconds monthStart dayCount utcOffset clock time status stopType bit flexible part hasPair grants rowsOf
+unfolding readingOf fault run accepting step markStep startStep returnStep nullStep firstEscapeStep escapeStep fieldStep answerTo firstLine firstColumn dataRows items linesFrom firstLong markOf afterMark until past fields fieldAt fieldUnder tableName labelFault anyTwice count columnOf names columnsIn messageColumns misses same wrongColumn rowOf flat cell spelled text decode escaped date isDate daysIn triple numeral stamp stampSeconds monthStart dayCount utcOffset clock time status stopType bit flexible part hasPair grants rowsOf
 messages = (refl, refl, refl, refl, refl, refl)
+
+-- ---- a line of 4,096 bytes with its line end, and of 4,097; a fault of form before it and one of syntax behind it
+
+abbrev grouped : ℕ → List ℕ → Reading
+grouped n later = readingOf Calendar [] 0 (bytes "\\G" ++ replicate n 65 ++ 13 ∷ 10 ∷ later)
+
+pub long-lines :
+    (grouped 4092 [] ≡ Rows 0)
+    × (grouped 4093 [] ≡ Long 1)
+    × (grouped 4093 (joined ("\\TLOCALSERVICEGROUPVALIDITY" ∷ "\\LOperationDate" ∷ [])) ≡ Long 1)
+    × (grouped 4093 (joined ("\\x" ∷ [])) ≡ Syntax 4098)
+unfolding readingOf fault run accepting step markStep startStep returnStep nullStep firstEscapeStep escapeStep fieldStep answerTo firstLine firstColumn dataRows items linesFrom firstLong markOf afterMark until past fields tableName labelFault anyTwice count columnOf names columnsIn calendarColumns misses same
+long-lines = (refl, refl, refl, refl)

@@ -13,6 +13,7 @@ use Rattle.syntax.specs.Machine.{fault}
 use Rattle.turbo.specs.Split.{until, fields}
 use Rattle.turbo_lines.specs.declared.Mark.the-variants as Marks
 use Rattle.turbo_lines.specs.Lines.{lines, markOf, afterMark}
+use Rattle.turbo_lines.specs.Claims.{Short, LongAt}
 use Rattle.turbo_labels.specs.Claims.{Twice}
 use Rattle.columns.specs.declared.Table.{Table}
 use Rattle.columns.specs.declared.Table.the-variants.{Message, Planning, Calendar}
@@ -20,21 +21,22 @@ use Rattle.columns.specs.Tables.{tableName, nameOf, rowWidth, rowOf}
 use Rattle.columns.specs.Layout.{wanted, columnAt, optionalAt}
 use Rattle.register.specs.Register.{maySend}
 use Rattle.rows.specs.Claims.{Stands, cellBy, partOf, OutsideType}
-use Rattle.reader.specs.declared.Reading.the-variants.{TooLong, Syntax, Form, Field, Owner, Rows}
+use Rattle.reader.specs.declared.Reading.the-variants.{TooLong, Syntax, Long, Form, Field, Owner, Rows}
 use Rattle.passage.specs.Ranges.{updateInRange}
 use Rattle.reader.specs.Items.{Item, head, row}
 use Rattle.reader.specs.Staged.{PassFacts, ValidityFacts}
 use Rattle.reader.specs.Rules.{largest, lineNumber, formBad, wrongAt, ownerBad, dataRows, itemsOf, readingOf}
-use Rattle.reader.specs.Staging.{rowsUpTo, stagedBy}
+use Rattle.reader.specs.Staging.{rowsUpTo, shortItems, stagedBy}
 use Rattle.reader.specs.Numbers.{readingNumbers, readingTable}
 
--- no number from 2 to 6 is given exactly when the dossier is within its size, well formed, every label line and field count is right,
+-- neither 15 nor a number from 2 to 6 is given exactly when the dossier is within its size, well formed, no line is too long, every label line and field count is right,
 -- every wanted field is in its type, and every row's owner is registered for the sender
 abbrev pub AcceptedExactly : Type 0
 AcceptedExactly =
     (t : Table) (register : List ℕ) (sender : ℕ) (d : List ℕ) →
     ((n : ℕ) × (readingOf t register sender d ≡ Rows n))
     ↔ ((length d ≤ largest) × WellFormed d
+    × Each Short (lines d)
     × Each (λ (x : Item). formBad t x ≡ false) (itemsOf t d)
     × Each (λ (x : Item). wrongAt t x ≡ 0) (itemsOf t d)
     × Each (λ (x : Item). ownerBad t register sender x ≡ false) (itemsOf t d))
@@ -152,28 +154,34 @@ SyntaxExactly =
     (t : Table) (register : List ℕ) (sender : ℕ) (d : List ℕ) (i : ℕ)
     → (readingOf t register sender d ≡ Syntax i) ↔ ((length d ≤ 65536) × (fault d ≡ FaultAt i))
 
--- 4 exactly at the first line that is not right in form
+-- 15 exactly where the dossier is within its size and well formed, at the first line of more than 4,096 bytes with its CR LF, of whatever table or of none
+abbrev pub LongExactly : Type 0
+LongExactly =
+    (t : Table) (register : List ℕ) (sender : ℕ) (d : List ℕ) (l : ℕ)
+    → (readingOf t register sender d ≡ Long l) ↔ ((length d ≤ 65536) × WellFormed d × LongAt (lines d) l)
+
+-- 4 exactly where no line is too long, at the first line that is not right in form
 abbrev pub FormExactly : Type 0
 FormExactly =
     (t : Table) (register : List ℕ) (sender : ℕ) (d : List ℕ) (l : ℕ)
     → (readingOf t register sender d ≡ Form l)
-    ↔ ((length d ≤ 65536) × WellFormed d × ((x : Item) × FirstNot (FormRight t) (itemsOf t d) x × (lineNumber x ≡ l)))
+    ↔ ((length d ≤ 65536) × WellFormed d × Each Short (lines d) × ((x : Item) × FirstNot (FormRight t) (itemsOf t d) x × (lineNumber x ≡ l)))
 
--- 5 exactly where every line is right in form, at the first line with a wanted field outside its type, and at the first such field, from 1
+-- 5 exactly where no line is too long and every line is right in form, at the first line with a wanted field outside its type, and at the first such field, from 1
 abbrev pub FieldExactly : Type 0
 FieldExactly =
     (t : Table) (register : List ℕ) (sender : ℕ) (d : List ℕ) (l c : ℕ)
     → (readingOf t register sender d ≡ Field l c)
-    ↔ ((length d ≤ 65536) × WellFormed d × Each (FormRight t) (itemsOf t d)
+    ↔ ((length d ≤ 65536) × WellFormed d × Each Short (lines d) × Each (FormRight t) (itemsOf t d)
     × ((labels : List (List ℕ)) × (line : List ℕ) × (p : ℕ) × FirstNot (FieldsRight t) (itemsOf t d) (row l labels line)
     × (c ≡ p + 1) × OutsideType t labels line p × ((q : ℕ) → OutsideType t labels line q → p ≤ q)))
 
--- 6 exactly where no line is wrong in form or in a field, at the first row that the sender may not send
+-- 6 exactly where no line is too long, or wrong in form or in a field, at the first row that the sender may not send
 abbrev pub OwnerExactly : Type 0
 OwnerExactly =
     (t : Table) (register : List ℕ) (sender : ℕ) (d : List ℕ) (l : ℕ)
     → (readingOf t register sender d ≡ Owner l)
-    ↔ ((length d ≤ 65536) × WellFormed d × Each (FormRight t) (itemsOf t d) × Each (FieldsRight t) (itemsOf t d)
+    ↔ ((length d ≤ 65536) × WellFormed d × Each Short (lines d) × Each (FormRight t) (itemsOf t d) × Each (FieldsRight t) (itemsOf t d)
     × ((x : Item) × FirstNot (OwnerRight t register sender) (itemsOf t d) x × (lineNumber x ≡ l)))
 
 -- an answer's numbers are those of document 01's table
@@ -214,13 +222,13 @@ PassesInRange = (d : List ℕ) (n : ℕ) → readingOf Planning [] 0 d ≡ Rows 
 abbrev pub ValiditiesInRange : Type 0
 ValiditiesInRange = (d : List ℕ) (n : ℕ) → readingOf Calendar [] 0 d ≡ Rows n → Each ValidityFacts (dataRows Calendar (itemsOf Calendar d))
 
--- so is each row that is staged before a refusal 4 to 6
+-- so is each row that is staged before a refusal 15 or 4 to 6
 abbrev pub StagedInRange : Type 0
 StagedInRange =
     (register : List ℕ) (sender : ℕ) (d : List ℕ)
-    → Each (λ (r : List ℕ). updateInRange r ≡ true) (rowsUpTo Message register sender (itemsOf Message d))
-    × Each PassFacts (rowsUpTo Planning register sender (itemsOf Planning d))
-    × Each ValidityFacts (rowsUpTo Calendar register sender (itemsOf Calendar d))
+    → Each (λ (r : List ℕ). updateInRange r ≡ true) (rowsUpTo Message register sender (shortItems Message d))
+    × Each PassFacts (rowsUpTo Planning register sender (shortItems Planning d))
+    × Each ValidityFacts (rowsUpTo Calendar register sender (shortItems Calendar d))
 
 -- the staging area keeps its length
 abbrev pub AreaKeepsLength : Type 0
@@ -234,5 +242,5 @@ StagedRowsAreRows =
 
 abbrev pub All : Type 0
 All =
-    ItemsExactly × ItemsInOrder × RowsSayLines × AcceptedExactly × TooLongExactly × SyntaxExactly × FormExactly × FieldExactly × OwnerExactly × NumbersByTable × RowsCounted × DeskSendsNothing × RowsBounded × PlanningBounded × CalendarBounded × UpdatesInRange × PassesInRange × ValiditiesInRange
+    ItemsExactly × ItemsInOrder × RowsSayLines × AcceptedExactly × TooLongExactly × SyntaxExactly × LongExactly × FormExactly × FieldExactly × OwnerExactly × NumbersByTable × RowsCounted × DeskSendsNothing × RowsBounded × PlanningBounded × CalendarBounded × UpdatesInRange × PassesInRange × ValiditiesInRange
     × StagedInRange × AreaKeepsLength × StagedRowsAreRows

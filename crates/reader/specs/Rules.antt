@@ -1,4 +1,4 @@
--- What a reader answers, as document 01's table says: of its lines 2 to 6 the first that holds, each looked for over the whole dossier. Assumes nothing.
+-- What a reader answers, as document 01's table says, with line 15 behind line 3: of the lines 2 to 6 and 15 the first that holds, each looked for over the whole dossier. Assumes nothing.
 use Prim.Native.Nat.{ℕ}
 use mathlib.Core.Bool.{Bool, true, false, not}
 use mathlib.Core.List.{List, [], _∷_}
@@ -9,11 +9,11 @@ use Rattle.syntax.specs.declared.Verdict.{Verdict}
 use Rattle.syntax.specs.declared.Verdict.the-variants as Verdicts
 use Rattle.syntax.specs.Machine.{fault}
 use Rattle.turbo.specs.Split.{fields}
-use Rattle.turbo_lines.specs.Lines.{lines}
+use Rattle.turbo_lines.specs.Lines.{lines, firstLong}
 use Rattle.columns.specs.declared.Table.{Table}
 use Rattle.columns.specs.Tables.{rowOf, wrongColumn, labelFault}
 use Rattle.reader.specs.declared.Reading.{Reading}
-use Rattle.reader.specs.declared.Reading.the-variants.{TooLong, Syntax, Form, Field, Owner, Rows}
+use Rattle.reader.specs.declared.Reading.the-variants.{TooLong, Syntax, Long, Form, Field, Owner, Rows}
 use Rattle.reader.specs.Items.{Item, head, row, outside, items}
 use Rattle.register.specs.Register.{maySend}
 
@@ -91,11 +91,12 @@ answerTo t register sender xs =
     ∷ [])
     (Rows (length (dataRows t xs)))
 
--- lines 2 and 3 before them
+-- lines 2, 3 and 15 before them; 15 is of any line, whatever it is to the table
 unfoldable pub readingOf : Table → List ℕ → ℕ → List ℕ → Reading
 readingOf t register sender d =
     firstHeld
     ((ltb largest (length d), TooLong)
     ∷ (faults (fault d), Syntax (faultPlace (fault d)))
+    ∷ (isLine (firstLong 1 (lines d)), Long (firstLong 1 (lines d)))
     ∷ [])
     (answerTo t register sender (itemsOf t d))

@@ -9,10 +9,11 @@ use Rattle.lists.specs.Logic.{on}
 use Rattle.lists.specs.Part.{over}
 use Rattle.lists.specs.Rows.{flat}
 use Rattle.syntax.specs.Machine.{fault}
+use Rattle.turbo_lines.specs.Lines.{lines, shortFront}
 use Rattle.columns.specs.declared.Table.{Table}
 use Rattle.columns.specs.Tables.{rowWidth, rowOf}
-use Rattle.reader.specs.Items.{Item, head, row}
-use Rattle.reader.specs.Rules.{largest, formBad, isWrong, ownerBad, itemsOf, faults}
+use Rattle.reader.specs.Items.{Item, head, row, outside, items}
+use Rattle.reader.specs.Rules.{largest, formBad, isWrong, ownerBad, faults}
 
 -- a line without a fault of 4, 5 or 6
 abbrev pub fine : Table → List ℕ → ℕ → Item → Bool
@@ -31,6 +32,10 @@ rowsUpTo t register sender (x ∷ xs) = on (fine t register sender x) (withRow t
 abbrev pub laid : Table → List (List ℕ) → List ℕ → List ℕ
 laid t rs staging = over 0 (flat (take (length staging / rowWidth t) rs)) staging
 
+-- what the reader of the table sees before the first line that is too long
+abbrev pub shortItems : Table → List ℕ → List Item
+shortItems t d = items t outside 1 (shortFront (lines d))
+
 -- a dossier too long or with a fault of syntax leaves the area as it was
 unfoldable pub stagedBy : Table → List ℕ → ℕ → List ℕ → List ℕ → List ℕ
-stagedBy t register sender d staging = on (ltb largest (length d) || faults (fault d)) staging (laid t (rowsUpTo t register sender (itemsOf t d)) staging)
+stagedBy t register sender d staging = on (ltb largest (length d) || faults (fault d)) staging (laid t (rowsUpTo t register sender (shortItems t d)) staging)

@@ -4,17 +4,20 @@ use reader_step::State;
 use syntax::Verdict;
 ghost use mathlib.Core.Path.{_≡_};
 ghost use mathlib.Core.List.{[]};
-ghost use Prim.Native.Nat.{_≤_};
+ghost use Prim.Native.Nat.{_+_, _≤_, _<_};
 ghost use lib.ListN.{length};
-ghost use Rattle.reader.specs.Rules.{largest, answerTo, itemsOf, readingOf};
+ghost use Rattle.turbo_lines.specs.Lines.{lines, firstLong};
+ghost use Rattle.reader.specs.declared.Reading.the-variants.{Form};
+ghost use Rattle.reader.specs.Rules.{largest, readingOf};
 ghost use Rattle.reader.specs.Numbers.{readingNumbers, readingTable};
-ghost use Rattle.reader.specs.Staging.{rowsUpTo, laid, stagedBy};
-ghost use Rattle.reader.specs.inner.Settled.{answeredBy};
+ghost use Rattle.reader.specs.Staging.{rowsUpTo, laid, shortItems, stagedBy};
+ghost use Rattle.reader.specs.inner.Settled.{answeredBy, unlessLong, linesAnswer};
 
-// What a reader answers: refusals 2 to 6 with their places, or how many rows the dossier has.
+// What a reader answers: refusals 2 to 6 and 15 with their places, or how many rows the dossier has.
 pub enum Reading {
     TooLong,
     Syntax(usize),
+    Long(usize),
     Form(usize),
     Field(usize, usize),
     Owner(usize),
@@ -34,7 +37,19 @@ fn settle(last: State) -> Reading
     Reading::Rows(last.rows)
 }
 
-// The lines of a dossier within its size, one after another.
+// A fault of form, unless a line of what is left behind it is too long. `line` is the number of the first of these.
+fn form_unless_long(form: usize, rest: &[u8], line: usize) -> Reading
+    requires { ⌜ line + length (now rest) < 4294967296 ⌝ }
+    ensures { λ r. ⌜ r ≡ unlessLong (firstLong line (lines (now (rest .entry)))) (Form form) ⌝ }
+{
+    let long = turbo_lines::first_long(rest, line);
+    if long != 0 {
+        return Reading::Long(long);
+    }
+    Reading::Form(form)
+}
+
+// The lines of a dossier within its size, one after another. Behind a fault of form only a line that is too long is looked for, since that goes before it.
 fn read_lines(
     table: Table,
     dossier: &[u8],
@@ -43,24 +58,27 @@ fn read_lines(
     staging: &mut [u8],
 ) -> Reading
     requires { ⌜ length (now dossier) ≤ largest ⌝ }
-    ensures answer { λ r. ⌜ r ≡ answerTo table (now (register .entry)) sender (itemsOf table (now (dossier .entry))) ⌝ }
-    ensures area { λ _. ⌜ now (staging .exit) ≡ laid table (rowsUpTo table (now (register .entry)) sender (itemsOf table (now (dossier .entry)))) (now (staging .entry)) ⌝ }
+    ensures answer { λ r. ⌜ r ≡ linesAnswer table (now (register .entry)) sender (now (dossier .entry)) ⌝ }
+    ensures area { λ _. ⌜ now (staging .exit) ≡ laid table (rowsUpTo table (now (register .entry)) sender (shortItems table (now (dossier .entry)))) (now (staging .entry)) ⌝ }
 {
     let mut state = reader_step::start();
     let mut rest = dossier;
     while 0 < rest.len() {
         let mut size: usize = 0;
         let next = turbo_lines::read_line(rest, &mut size);
+        if 4094 < size {
+            return Reading::Long(state.line);
+        }
         state = reader_step::line_step(table, state, &rest[..size], register, sender, staging);
         if state.form != 0 {
-            return Reading::Form(state.form);
+            return form_unless_long(state.form, next, state.line);
         }
         rest = next;
     }
     settle(state)
 }
 
-// Any bytes, in the order of document 01's table: 2, 3, then 4 to 6.
+// Any bytes, in the order of the table of refusals: 2, 3, 15, then 4 to 6.
 fn read(table: Table, dossier: &[u8], register: &[u8], sender: u8, staging: &mut [u8]) -> Reading
     ensures answer { λ r. ⌜ r ≡ readingOf table (now (register .entry)) sender (now (dossier .entry)) ⌝ }
     ensures area { λ _. ⌜ now (staging .exit) ≡ stagedBy table (now (register .entry)) sender (now (dossier .entry)) (now (staging .entry)) ⌝ }

@@ -6,7 +6,7 @@ use borrow.Author.Tests.{eq-eqb, ne-eqb}
 use Rattle.columns.specs.declared.Table.{Table}
 use Rattle.rows.specs.declared.Read.{Read}
 use Rattle.reader_step.specs.declared.State.{State}
-use Rattle.reader_step.specs.inner.Step.{moved, mistyped, disowned, oneRowMore, rowStep, staged, rowStaged}
+use Rattle.reader_step.specs.Step.{moved, mistyped, disowned, oneRowMore, rowStep, staged, rowStaged}
 use Rattle.register.specs.Register.{maySend}
 
 -- Which case of a row's step holds. Assumes nothing.

@@ -8,10 +8,10 @@ use Rattle.turbo.specs.Split.{until, fields}
 use Rattle.turbo_lines.specs.Lines.{markOf, afterMark}
 use Rattle.columns.specs.declared.Table as Tables
 use Rattle.rows.specs.declared.Shape.{Shape}
-use Rattle.rows.specs.inner.Shape.{noShape, shapeOf}
-use Rattle.rows.specs.inner.Reading.{readBy}
+use Rattle.rows.specs.Shape.{noShape, shapeOf}
+use Rattle.rows.specs.Reading.{readBy}
 use Rattle.reader_step.specs.declared.State.{State}
-use Rattle.reader_step.specs.inner.Step.{moved, misformed, rowStep, dataStep, labelStep, placeNamed, stepBy, lineStep, rowStaged, dataStaged, stageBy, lineStaged, Fresh}
+use Rattle.reader_step.specs.Step.{moved, misformed, rowStep, dataStep, labelStep, placeNamed, stepBy, lineStep, rowStaged, dataStaged, stageBy, lineStaged, Fresh}
 
 -- Which case of a line's step holds. Assumes nothing.
 

@@ -13,8 +13,8 @@ use Rattle.columns.specs.declared.Table.{Table}
 use Rattle.columns.specs.declared.Table.the-variants.{Message, Planning, Calendar}
 use Rattle.columns.specs.Cell.{width}
 use Rattle.columns.specs.Tables.{messageColumns, planningColumns, calendarColumns, columnsIn, rowWidth}
-use Rattle.columns.specs.inner.Blank.{widest-row}
-use Rattle.reader_step.specs.inner.Step.{staged}
+use Rattle.columns.specs.Layout.{widest-row}
+use Rattle.reader_step.specs.Step.{staged}
 
 -- How wide a row is, and where it goes. Assumes nothing.
 

@@ -4,7 +4,7 @@ use mathlib.Core.Path.{_≡_}
 use mathlib.Core.List.{List}
 use Rattle.columns.specs.declared.Table.{Table}
 use Rattle.reader_step.specs.declared.State.{State}
-use Rattle.reader_step.specs.inner.Step.{lineStep, lineStaged}
+use Rattle.reader_step.specs.Step.{lineStep, lineStaged}
 
 -- behind a line at fault in its form, whatever comes, that line is kept, no row is counted, and nothing is staged
 abbrev pub FirstFaultKept : Type 0

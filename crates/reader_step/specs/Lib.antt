@@ -1,2 +1,2 @@
+pub mod Step
 pub mod Claims
-pub mod inner

@@ -6,12 +6,12 @@ use turbo_lines::Mark;
 ghost use mathlib.Core.Path.{_≡_};
 ghost use Prim.Native.Nat.{_≤_, _<_};
 ghost use lib.ListN.{length};
-ghost use Rattle.rows.specs.inner.Shape.{IsShape};
+ghost use Rattle.rows.specs.Shape.{IsShape};
 ghost use Rattle.lists.specs.Text.{same};
 ghost use Rattle.columns.specs.Tables.{tableName};
-ghost use Rattle.columns.specs.inner.Blank.{widest-row};
-ghost use Rattle.reader_step.specs.inner.Step.{moved, misformed, labelled, mistyped, disowned, oneRowMore, rowStep, dataStep, labelStep, placeNamed, stepBy, lineStep, Fresh};
-ghost use Rattle.reader_step.specs.inner.Step.{staged, rowStaged, dataStaged, stageBy, lineStaged};
+ghost use Rattle.columns.specs.Layout.{widest-row};
+ghost use Rattle.reader_step.specs.Step.{moved, misformed, labelled, mistyped, disowned, oneRowMore, rowStep, dataStep, labelStep, placeNamed, stepBy, lineStep, Fresh};
+ghost use Rattle.reader_step.specs.Step.{staged, rowStaged, dataStaged, stageBy, lineStaged};
 
 // What is kept of the lines so far. `place`: 0 outside the table, 1 between its `\T` and `\L` lines, 2 under its labels.
 // `line` is the number of the line to come; `form`, `wrong` with `column`, and `owner` are the first lines at fault, 0 for none.

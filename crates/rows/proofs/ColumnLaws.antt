@@ -14,7 +14,7 @@ use Rattle.lists.specs.Part.{onto, over, some}
 use Rattle.columns.specs.Tables.{Column, lesser}
 use Rattle.columns.specs.Layout.{total}
 use Rattle.columns.proofs.PartLaws.{begins, Fit}
-use Rattle.rows.specs.inner.Reading.{perColumn, firstWrong}
+use Rattle.rows.specs.Reading.{perColumn, firstWrong}
 
 module _ (f : Column → ℕ → List ℕ) where
   pub per-length : (cs : List Column) (ps : List ℕ) → length cs ≤ length ps → length (perColumn f cs ps) ≡ length cs

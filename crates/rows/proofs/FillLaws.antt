@@ -21,13 +21,14 @@ use Rattle.columns.specs.declared.Kind.the-variants as Kinds
 use Rattle.columns.specs.Cell.{null, width, cell}
 use Rattle.columns.specs.Tables.{Column, must, columnsIn, isOptional, leftOut, cellOf, rowWidth}
 use Rattle.columns.specs.Layout.{wanted, columnAt, kindAt, optionalAt, widthIn, widths, offset}
-use Rattle.columns.specs.inner.Blank.{widest-row, blankCell, blankRow}
+use Rattle.columns.specs.Layout.{widest-row}
+use Rattle.columns.specs.inner.Blank.{blankCell, blankRow}
 use Rattle.columns.proofs.CellLaws.{cell-width}
 use Rattle.columns.proofs.PartLaws.{Fit}
 use Rattle.columns.proofs.LayoutLaws.{absent-width, width-at, length-widths, wanted-most}
 use Rattle.rows.specs.declared.Shape.{Shape}
-use Rattle.rows.specs.inner.Shape.{IsShape}
-use Rattle.rows.specs.inner.Reading.{cellAt, perColumn, cellsBy, filled}
+use Rattle.rows.specs.Shape.{IsShape}
+use Rattle.rows.specs.Reading.{cellAt, perColumn, cellsBy, filled}
 use Rattle.rows.proofs.ColumnLaws.{per-length, per-at, flat-set, fit-each}
 
 pub equal : (k j : ℕ) → Dec (k ≡ j)

@@ -4,6 +4,7 @@ pub mod OrderLaws
 pub mod LackLaws
 pub mod ShapeLaws
 pub mod SoundLaws
+pub mod RestoredLaws
 pub mod LabelLaws
 pub mod TailLaws
 pub mod ColumnLaws

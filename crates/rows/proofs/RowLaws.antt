@@ -17,13 +17,13 @@ use Rattle.columns.specs.declared.Kind.the-variants as Kinds
 use Rattle.columns.specs.Cell.{width}
 use Rattle.columns.specs.Tables.{Column, must, columnsIn, nameOf, cellUnder, cellsOf, stopPlace, rowOf, rowWidth, wrongIn, wrongColumn, lesser, labelFault}
 use Rattle.columns.specs.Layout.{wanted, columnAt, kindAt, widths, offset}
-use Rattle.columns.specs.inner.Blank.{widest-row}
+use Rattle.columns.specs.Layout.{widest-row}
 use Rattle.columns.proofs.PartLaws.{begins, Fit, length-flat, flat-part}
 use Rattle.columns.proofs.LayoutLaws.{wanted-most, width-at, length-widths, total-widths}
 use Rattle.rows.specs.declared.Shape.{Shape}
 use Rattle.rows.specs.declared.Read.{Read}
-use Rattle.rows.specs.inner.Shape.{placesOf, shapeOf, IsShape}
-use Rattle.rows.specs.inner.Reading.{cellAt, perColumn, cellsBy, firstWrong, readGiven, readCells, readBy}
+use Rattle.rows.specs.Shape.{placesOf, shapeOf, IsShape}
+use Rattle.rows.specs.Reading.{cellAt, perColumn, cellsBy, firstWrong, readGiven, readCells, readBy}
 use Rattle.rows.proofs.ColumnLaws.{WrongIs, wrong-is, fit-each}
 use Rattle.rows.proofs.SoundLaws.{name-at, place-at, places-room, shape-is, right-sound}
 use Rattle.rows.proofs.FillLaws.{cell-wide}

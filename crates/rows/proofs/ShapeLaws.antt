@@ -15,7 +15,7 @@ use Rattle.columns.specs.declared.Table.the-variants.{Message, Planning, Calend
 use Rattle.columns.specs.Tables.{messageColumns, planningColumns, calendarColumns, columnsIn, names, misses, stopPlace, labelFault}
 use Rattle.columns.specs.Layout.{wanted}
 use Rattle.rows.specs.declared.Shape.{Shape}
-use Rattle.rows.specs.inner.Shape.{placesOf, lacking, visits, readingOrder, noShape, shapeOf}
+use Rattle.rows.specs.Shape.{placesOf, lacking, visits, readingOrder, noShape, shapeOf}
 
 -- what must be there and is missing, by the places
 pub misses-lacking : (t : Table) (labels : List (List ℕ)) → misses t labels ≡ lacking (length labels) (columnsIn t) (placesOf t labels)

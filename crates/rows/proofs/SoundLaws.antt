@@ -22,7 +22,7 @@ use Rattle.columns.specs.Tables.{Column, must, messageColumns, planningColumns,
 use Rattle.columns.specs.Layout.{wanted, columnAt, optionalAt}
 use Rattle.columns.proofs.LayoutLaws.{wanted-most, names-wanted}
 use Rattle.rows.specs.declared.Shape.{Shape}
-use Rattle.rows.specs.inner.Shape.{IsShape, placesOf, readingOrder, shapeOf}
+use Rattle.rows.specs.Shape.{IsShape, placesOf, readingOrder, shapeOf}
 use Rattle.rows.proofs.AheadLaws.{visits-length}
 use Rattle.rows.proofs.ShapeLaws.{found-twice, found-places}
 

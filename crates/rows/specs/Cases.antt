@@ -22,7 +22,7 @@ use Rattle.texts.specs.Texts.{text}
 use Rattle.columns.specs.declared.Table.the-variants.{Message, Calendar}
 use Rattle.columns.specs.Cell.{cell}
 use Rattle.columns.specs.Tables.{messageColumns, calendarColumns, columnsIn, names, misses, rowOf, wrongColumn, labelFault}
-use Rattle.rows.specs.inner.Shape.{nextFrom, visits, shapeOf}
+use Rattle.rows.specs.Shape.{nextFrom, visits, lacking, shapeOf, isOneOf, meeting, shapeAt}
 
 -- a calendar's columns out of order, among others: the level is first, the date third, the owner fifth
 unfoldable pub labels : List (List ℕ)
@@ -35,6 +35,15 @@ pub calendar-shape :
     × (take 3 (shapeOf Calendar labels .order) ≡ 1 ∷ 2 ∷ 0 ∷ [])
 unfolding labels shapeOf labelFault anyTwice count placesFrom columnOf names columnsIn calendarColumns misses same visits nextFrom over onto
 calendar-shape = (refl, refl, refl, refl)
+
+-- the same shape by its numbers; with two columns at one place, and with one past the last, no line can be read by it
+pub calendar-restored :
+    (shapeAt Calendar 5 5 (4 ∷ 0 ∷ 2 ∷ replicate 17 0) .fault ≡ false)
+    × (take 3 (shapeAt Calendar 5 5 (4 ∷ 0 ∷ 2 ∷ replicate 17 0) .order) ≡ 1 ∷ 2 ∷ 0 ∷ [])
+    × (shapeAt Calendar 5 5 (4 ∷ 2 ∷ 2 ∷ replicate 17 0) .fault ≡ true)
+    × (shapeAt Calendar 4 5 (4 ∷ 0 ∷ 2 ∷ replicate 17 0) .fault ≡ true)
+unfolding shapeAt columnsIn calendarColumns lacking meeting isOneOf visits nextFrom over onto
+calendar-restored = (refl, refl, refl, refl)
 
 -- a missing column, and a wanted name that stands twice; an unwanted one may
 pub label-faults :

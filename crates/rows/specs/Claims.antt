@@ -14,8 +14,8 @@ use Rattle.columns.specs.declared.Table.{Table}
 use Rattle.columns.specs.Cell.{width}
 use Rattle.columns.specs.Tables.{nameOf, rowWidth, stopField, cellOf, rowOf, wrongColumn, labelFault}
 use Rattle.columns.specs.Layout.{wanted, columnAt, kindAt, optionalAt, offset}
-use Rattle.rows.specs.inner.Shape.{shapeOf}
-use Rattle.rows.specs.inner.Reading.{readGiven, readBy}
+use Rattle.rows.specs.Shape.{shapeOf}
+use Rattle.rows.specs.Reading.{readGiven, readBy}
 
 -- ---- label lines
 

@@ -12,6 +12,7 @@ use Rattle.update.specs.Rule.{rowRule}
 use Rattle.table.specs.Rules.{tableSound}
 use Rattle.book.specs.Rules.{planRows}
 use Rattle.calls.specs.Message.{takenBy, messageLeaves}
+use Rattle.calls.specs.End.{endLeaves}
 use Rattle.calls.specs.Withdraw.{withoutBy, withdrawLeaves}
 use Rattle.calls.specs.Open.{openedBy, openLeaves}
 use Rattle.calls.specs.Leaves.{Day}
@@ -24,7 +25,9 @@ use Rattle.board_show.specs.Show.{shows}
 use Rattle.runs.proofs.LogLaws.{NotedFrom}
 use Rattle.runs.proofs.NeverLaws.{same-standing}
 use Rattle.runs.proofs.FollowLaws.{Holds, Follows, rows-replayed}
-use Rattle.runs.proofs.MessageLaws.{message-holds, message-deed, next-is}
+use Rattle.runs.proofs.TakeLaws.{next-is}
+use Rattle.runs.proofs.MessageLaws.{message-holds, message-deed}
+use Rattle.runs.proofs.EndLaws.{end-holds, end-deed}
 use Rattle.runs.proofs.WithdrawLaws.{withdraw-holds}
 use Rattle.runs.proofs.OpenLaws.{open-follows}
 use Rattle.runs.proofs.SoundLaws.{accepted-sound, accepted-agrees}
@@ -39,6 +42,10 @@ message-refused : (d : List ℕ) (sender : ℕ) (register : List ℕ) (x : Day) 
 unfolding messageLeaves takenBy
 message-refused d sender register x e = rw e
 
+end-refused : (register staging kept : List ℕ) (x : Day) → isDone (replyTo (Call.endFeed register staging kept) x) ≡ false → after (Call.endFeed register staging kept) x ≡ x
+unfolding endLeaves takenBy
+end-refused register staging kept x e = rw e
+
 withdraw-refused : (n sender : ℕ) (x : Day) → isDone (replyTo (Call.withdraw n sender) x) ≡ false → after (Call.withdraw n sender) x ≡ x
 unfolding withdrawLeaves withoutBy
 withdraw-refused n sender x e = rw e
@@ -46,6 +53,7 @@ withdraw-refused n sender x e = rw e
 refused : RefusedChangesNothing
 refused (Call.reopen planning calendar) x e = (open-refused planning calendar x e, rw e)
 refused (Call.message d sender register) x e = (message-refused d sender register x e, rw e)
+refused (Call.endFeed register staging kept) x e = (end-refused register staging kept x e, rw e)
 refused (Call.withdraw n sender) x e = (withdraw-refused n sender x e, rw e)
 refused (Call.look question places) x e = (refl, rw e)
 
@@ -59,6 +67,7 @@ accepted-holds : (call : Call) (x : Day) (begun : Begun) (log : List Taken) → 
     → Holds (begunIf true call x begun .plan) (begunIf true call x begun .lent) (after call x) (noted (deedOf call (replyTo call x)) log)
 accepted-holds (Call.reopen planning calendar) x begun log f e = rw e (open-follows planning calendar (x .book) (x .table) (x .counts) e .holds)
 accepted-holds (Call.message d sender register) x begun log f e = message-holds d sender register x e (begun .plan) (begun .lent) log (f .agrees .0 .0) (f .holds)
+accepted-holds (Call.endFeed register staging kept) x begun log f e = end-holds register staging kept x e (begun .plan) (begun .lent) log (f .agrees .0 .0) (f .holds)
 accepted-holds (Call.withdraw n sender) x begun log f e = withdraw-holds n sender x e (begun .plan) (begun .lent) log (f .agrees .0 .0) (f .holds)
 accepted-holds (Call.look question places) x begun log f e = rw e (f .holds)
 
@@ -147,6 +156,7 @@ accepted-deed : (call : Call) (x : Day) → isDone (replyTo call x) ≡ true →
 unfolding openLeaves openedBy withdrawLeaves withoutBy
 accepted-deed (Call.reopen planning calendar) x e = rw e
 accepted-deed (Call.message d sender register) x e = message-deed d sender register x e
+accepted-deed (Call.endFeed register staging kept) x e = end-deed register staging kept x e
 accepted-deed (Call.withdraw n sender) x e = rw e
 accepted-deed (Call.look question places) x e = rw e
 

@@ -3,7 +3,9 @@ pub mod LogLaws
 pub mod NeverLaws
 pub mod RowsLaws
 pub mod FollowLaws
+pub mod TakeLaws
 pub mod MessageLaws
+pub mod EndLaws
 pub mod WithdrawLaws
 pub mod OpenLaws
 pub mod SoundLaws

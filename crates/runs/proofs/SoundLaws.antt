@@ -28,7 +28,7 @@ use Rattle.book.proofs.AgreeLaws.{agrees-withdrawn}
 use Rattle.book.proofs.AfterLaws.{after-message}
 use Rattle.calls.specs.Message.{nextIn, bookTaking, tableTaking}
 use Rattle.calls.specs.Withdraw.{rowsWithout, bookWithout, tableWithout}
-use Rattle.calls.proofs.AcceptedLaws.{Passed, left}
+use Rattle.calls.proofs.AcceptedLaws.{left}
 use Rattle.calls.proofs.TakenLaws.{keeps}
 use Rattle.calls.specs.Leaves.{Day}
 use Rattle.runs.specs.Runs.{Call, replyTo, isDone, after}
@@ -38,7 +38,9 @@ use Rattle.runs.proofs.EntryLaws.{entries-standing, standing-as}
 use Rattle.runs.proofs.RowsLaws.{Row, plan-rows, sorted-plan, rows-stored, stored-read}
 use Rattle.book.proofs.MarkLaws.{book-less}
 use Rattle.runs.proofs.OpenLaws.{open-follows}
+use Rattle.runs.proofs.TakeLaws.{takes, takes-none, Takable}
 use Rattle.runs.proofs.MessageLaws as Message
+use Rattle.runs.proofs.EndLaws as End
 use Rattle.runs.proofs.WithdrawLaws as Withdraw
 
 -- what the row rule makes of none or of a row, by an update
@@ -59,71 +61,62 @@ sound-rows n t e =
     each-both (λ (r : List ℕ). length r ≡ row-wide) (λ (r : List ℕ). rowInRange r ≡ true) (rowsOf row-wide n t)
     (wide-rowsOf row-wide n t (sound-fits n t e)) (range-each (rowsOf row-wide n t) (sound-range n t e))
 
--- ---- message
+-- ---- rows that are taken, of a message or staged ones
 
-module _ (d : List ℕ) (sender : ℕ) (register : List ℕ) (x : Day) (s : Sound x) (e : isDone (replyTo (Call.message d sender register) x) ≡ true) where
-  abbrev bodies : List (List ℕ)
-  bodies = Message.sent d sender register x
-
-  went : Passed d register (x .book) (x .table) sender (x .counts)
-  went = Message.went d sender register x e
+module _ (bodies : List (List ℕ)) (sender : ℕ) (x : Day) (s : Sound x) (t : Takable bodies sender x) where
+  new-rows : Each Row (takenAll rowRule bodies (rowsIn x))
+  new-rows = each-takenAll rowRule Update Row rule-row bodies _ (t .updates) (sound-rows (x .counts .rows) (x .table) (s .1))
 
   table-after : tableSound (length (takenAll rowRule bodies (rowsOf row-wide (x .counts .rows) (x .table)))) (tableTaking bodies (x .table) (x .counts .rows)) ≡ true
   unfolding tableTaking
-  table-after =
-      rows-stored (x .counts .rows) _ (x .table)
-      (each-takenAll rowRule Update Row rule-row bodies _ (Message.sent-updates d sender register x e) (sound-rows (x .counts .rows) (x .table) (s .1)))
-      (sorted-takenAll rowRule bodies _ (sound-sorted (x .counts .rows) (x .table) (s .1)))
-      (went .in-table)
+  table-after = rows-stored (x .counts .rows) _ (x .table) new-rows (sorted-takenAll rowRule bodies _ (sound-sorted (x .counts .rows) (x .table) (s .1))) (t .in-table)
 
   book-taken : 0 < length bodies → bookSound (x .counts .used + length bodies * entry-wide) (bookTaking (nextIn (x .counts .used) (x .book)) bodies sender (x .book) (x .counts .used)) ≡ true
   unfolding bookTaking
-  book-taken some =
-      after-message (x .counts .used) (x .book) (s .0) sender bodies (Message.sent-updates d sender register x e)
-      (Message.from-sender register d sender (went .rows .0) (went .rows .1) some) (went .in-book) .0
+  book-taken some = after-message (x .counts .used) (x .book) (s .0) sender bodies (t .updates) (t .from some) (t .in-book) .0
+
+  taken-sound : Sound (takes bodies sender x)
+  taken-sound = go bodies refl
+    where
+      go : (us : List (List ℕ)) → bodies ≡ us → Sound (takes bodies sender x)
+      go [] h = rw h (subst Sound (takes-none sender x) s)
+      go (b ∷ l) h = (book-taken (rw h (omega arith)), table-after)
 
   -- ---- the table against the book
 
-  new-rows : Each Row (takenAll rowRule bodies (rowsIn x))
-  new-rows = each-takenAll rowRule Update Row rule-row bodies _ (Message.sent-updates d sender register x e) (sound-rows (x .counts .rows) (x .table) (s .1))
-
   rows-read : rowsOf row-wide (length (takenAll rowRule bodies (rowsIn x))) (tableTaking bodies (x .table) (x .counts .rows)) ≡ takenAll rowRule bodies (rowsIn x)
   unfolding tableTaking
-  rows-read = stored-read (x .counts .rows) _ (x .table) new-rows (went .in-table)
+  rows-read = stored-read (x .counts .rows) _ (x .table) new-rows (t .in-table)
 
-  taken-agrees : rowsIn x ≡ rowsByBook x → 0 < length bodies → rowsIn (Message.takes bodies sender x) ≡ rowsByBook (Message.takes bodies sender x)
+  some-agree : rowsIn x ≡ rowsByBook x → 0 < length bodies → rowsIn (takes bodies sender x) ≡ rowsByBook (takes bodies sender x)
   unfolding bookTaking
-  taken-agrees a some =
+  some-agree a some =
       let us = updatesIn (x .counts .used) (x .book) in
       let ps = planBodies (x .counts .used) (x .book) in
       let next = nextNumber us in
-      let b =
-      after-message (x .counts .used) (x .book) (s .0) sender bodies (Message.sent-updates d sender register x e)
-      (Message.from-sender register d sender (went .rows .0) (went .rows .1) some) (went .in-book) in
+      let b = after-message (x .counts .used) (x .book) (s .0) sender bodies (t .updates) (t .from some) (t .in-book) in
       let added : standing (us ++ entriesOf next sender bodies) ≡ standing us ++ bodies =
       standing-append us (entriesOf next sender bodies)
-      ∙ ap (λ (l : List (List ℕ)). standing us ++ l)
-      (ap standing (entries-standing next sender bodies) ∙ standing-as 2 next sender bodies (updates-wide bodies (Message.sent-updates d sender register x e))) in
+      ∙ ap (λ (l : List (List ℕ)). standing us ++ l) (ap standing (entries-standing next sender bodies) ∙ standing-as 2 next sender bodies (updates-wide bodies (t .updates))) in
       rows-read
       ∙ ap (takenAll rowRule bodies) a
       ∙ sym (takenAll-append rowRule (standing us) bodies (planRows ps))
       ∙ ap (λ (l : List (List ℕ)). takenAll rowRule l (planRows ps)) (sym (ap standing (b .3) ∙ added))
       ∙ ap (λ (l : List (List ℕ)). takenAll rowRule (standing (updatesIn (x .counts .used + length bodies * entry-wide) (bookTaking (nextIn (x .counts .used) (x .book)) bodies sender (x .book) (x .counts .used)))) (planRows l)) (sym (b .2))
 
-  message-agrees : rowsIn x ≡ rowsByBook x → rowsIn (after (Call.message d sender register) x) ≡ rowsByBook (after (Call.message d sender register) x)
-  message-agrees a = subst (λ (y : Day). rowsIn y ≡ rowsByBook y) (Message.day-after d sender register x e) (go bodies refl)
+  taken-agrees : rowsIn x ≡ rowsByBook x → rowsIn (takes bodies sender x) ≡ rowsByBook (takes bodies sender x)
+  taken-agrees a = go bodies refl
     where
-      go : (us : List (List ℕ)) → bodies ≡ us → rowsIn (Message.takes bodies sender x) ≡ rowsByBook (Message.takes bodies sender x)
-      go [] h = rw h (subst (λ (y : Day). rowsIn y ≡ rowsByBook y) (Message.takes-none sender x) a)
-      go (b ∷ l) h = taken-agrees a (rw h (omega arith))
+      go : (us : List (List ℕ)) → bodies ≡ us → rowsIn (takes bodies sender x) ≡ rowsByBook (takes bodies sender x)
+      go [] h = rw h (subst (λ (y : Day). rowsIn y ≡ rowsByBook y) (takes-none sender x) a)
+      go (b ∷ l) h = some-agree a (rw h (omega arith))
 
-  message-sound : Sound (after (Call.message d sender register) x)
-  message-sound = subst Sound (Message.day-after d sender register x e) (go bodies refl)
-    where
-      go : (us : List (List ℕ)) → bodies ≡ us → Sound (Message.takes bodies sender x)
-      go [] h = rw h (subst Sound (Message.takes-none sender x) s)
-      go (b ∷ l) h =
-          (book-taken (rw h (omega arith)), table-after)
+  -- and so a call that takes them
+  took-sound : (y : Day) → takes bodies sender x ≡ y → Sound y
+  took-sound y e = subst Sound e taken-sound
+
+  took-agrees : (y : Day) → takes bodies sender x ≡ y → rowsIn x ≡ rowsByBook x → Agrees y
+  took-agrees y e a = subst Agrees e (taken-sound, taken-agrees a)
 
 -- ---- withdraw
 
@@ -191,12 +184,18 @@ module _ (n sender : ℕ) (x : Day) (s : Sound x) (e : isDone (replyTo (Call.wit
 
 pub accepted-sound : (call : Call) (x : Day) → Sound x → isDone (replyTo call x) ≡ true → Sound (after call x)
 accepted-sound (Call.reopen planning calendar) x s e = open-follows planning calendar (x .book) (x .table) (x .counts) e .agrees .0
-accepted-sound (Call.message d sender register) x s e = message-sound d sender register x s e
+accepted-sound (Call.message d sender register) x s e =
+    took-sound (Message.sent d sender register x) sender x s (Message.takable d sender register x e) (after (Call.message d sender register) x) (Message.day-after d sender register x e)
+accepted-sound (Call.endFeed register staging kept) x s e =
+    took-sound (End.sent register staging kept x) (End.sender register staging kept x) x s (End.takable register staging kept x e) (after (Call.endFeed register staging kept) x) (End.day-after register staging kept x e)
 accepted-sound (Call.withdraw n sender) x s e = withdraw-sound n sender x s e
 accepted-sound (Call.look question places) x s e = s
 
 pub accepted-agrees : (call : Call) (x : Day) → Agrees x → isDone (replyTo call x) ≡ true → Agrees (after call x)
 accepted-agrees (Call.reopen planning calendar) x a e = open-follows planning calendar (x .book) (x .table) (x .counts) e .agrees
-accepted-agrees (Call.message d sender register) x a e = (message-sound d sender register x (a .0) e, message-agrees d sender register x (a .0) e (a .1))
+accepted-agrees (Call.message d sender register) x a e =
+    took-agrees (Message.sent d sender register x) sender x (a .0) (Message.takable d sender register x e) (after (Call.message d sender register) x) (Message.day-after d sender register x e) (a .1)
+accepted-agrees (Call.endFeed register staging kept) x a e =
+    took-agrees (End.sent register staging kept x) (End.sender register staging kept x) x (a .0) (End.takable register staging kept x e) (after (Call.endFeed register staging kept) x) (End.day-after register staging kept x e) (a .1)
 accepted-agrees (Call.withdraw n sender) x a e = (withdraw-sound n sender x (a .0) e, withdraw-agrees n sender x (a .0) e (a .1))
 accepted-agrees (Call.look question places) x a e = a

@@ -6,6 +6,7 @@ use lib.Dec.{eqb, ltb}
 use Rattle.lists.specs.Logic.{on}
 use Rattle.lists.specs.Part.{over}
 use Rattle.lists.specs.Rows.{flat}
+use Rattle.feeds.specs.Kept.{feedOf}
 use Rattle.book.specs.Entries.{planEntry, entriesOf}
 use Rattle.book.specs.Rules.{markedWithdrawn, planRows}
 use Rattle.calls.specs.declared.Answer.{Answer}
@@ -14,16 +15,19 @@ use Rattle.calls.specs.Answers.{numbers, isAccepted}
 use Rattle.calls.specs.Leaves.{Day, dayOf, Leaves}
 use Rattle.calls.specs.Message.{messageRows, messageAnswer, bookTaking, tableTaking, countsTaking, messageLeaves}
 use Rattle.calls.specs.Withdraw.{rowsWithout, withdrawAnswer, bookWithout, tableWithout, countsWithout, withdrawLeaves}
+use Rattle.calls.specs.End.{stagedRows, endAnswer, EndLeaves, endLeaves}
 use Rattle.calls.specs.Open.{planOf, openAnswer, countsOpened, openLeaves}
 use Rattle.board.specs.declared.Listing.{Listing}
 use Rattle.board.specs.declared.Listing.the-variants.{Listed, Unsound, OutOfRange}
 use Rattle.board.specs.Rules.{Board, boardLeaves}
 use Rattle.board_show.specs.Ask.{Question}
 
--- an open (planning, calendar), a message (dossier, sender, register), a withdrawal (message number, sender), or a board (a question, the places lent)
+-- an open (planning, calendar), a message (dossier, sender, register), the end of a dossier that came in parts (register, staging area, the feed's numbers: whatever
+-- bytes and numbers these are), a withdrawal (message number, sender), or a board (a question, the places lent)
 pub data Call : Type 0 where
   reopen : List ℕ → List ℕ → Call
   message : List ℕ → ℕ → List ℕ → Call
+  endFeed : List ℕ → List ℕ → List ℕ → Call
   withdraw : ℕ → ℕ → Call
   look : Question → List ℕ → Call
 
@@ -35,6 +39,7 @@ pub data Reply : Type 0 where
 abbrev pub replyTo : Call → Day → Reply
 replyTo (reopen planning calendar) x = answered (openAnswer planning calendar (x .book) (x .table))
 replyTo (message dossier sender register) x = answered (messageAnswer dossier sender register (x .book) (x .table) (x .counts))
+replyTo (endFeed register staging kept) x = answered (endAnswer register staging (x .book) (x .table) (x .counts) kept)
 replyTo (withdraw n sender) x = answered (withdrawAnswer n sender (x .book) (x .table) (x .counts))
 replyTo (look question places) x = showed (boardLeaves question (x .table) (x .counts .rows) places)
 
@@ -52,6 +57,9 @@ isDone (showed board) = isListed (board .answer)
 abbrev pub dayLeft : Leaves → Day
 dayLeft left = dayOf (left .book) (left .table) (left .outcome .counts)
 
+abbrev pub dayEnded : EndLeaves → Day
+dayEnded left = dayOf (left .book) (left .table) (left .outcome .counts)
+
 -- the day that open leaves
 abbrev pub opened : List ℕ → List ℕ → List ℕ → List ℕ → Counts → Day
 opened planning calendar book table c = dayLeft (openLeaves planning calendar book table c)
@@ -60,6 +68,7 @@ opened planning calendar book table c = dayLeft (openLeaves planning calendar bo
 abbrev pub after : Call → Day → Day
 after (reopen planning calendar) x = opened planning calendar (x .book) (x .table) (x .counts)
 after (message dossier sender register) x = dayLeft (messageLeaves dossier sender register (x .book) (x .table) (x .counts))
+after (endFeed register staging kept) x = dayEnded (endLeaves register staging (x .book) (x .table) (x .counts) kept)
 after (withdraw n sender) x = dayLeft (withdrawLeaves n sender (x .book) (x .table) (x .counts))
 after (look question places) x = x
 
@@ -79,7 +88,7 @@ undone m = record { number = m .number; sender = m .sender; bodies = m .bodies; 
 abbrev pub struck : ℕ → Taken → Taken
 struck n m = on (eqb (m .number) n) (undone m) m
 
--- what a call did to a day: it took a message's rows (number, sender, rows), struck a message out, began the day anew with a plan, or nothing
+-- what a call did to a day: it took rows, of a message or staged ones (number, sender, rows), struck a message out, began the day anew with a plan, or nothing
 pub data Deed : Type 0 where
   took : ℕ → ℕ → List (List ℕ) → Deed
   struckOut : ℕ → Deed
@@ -91,11 +100,12 @@ abbrev pub numberGiven : Reply → ℕ
 numberGiven (answered a) = numbers a .1
 numberGiven (showed board) = 0
 
--- by the call, whether it was done, and the number that it got: a message without rows gets 0
+-- by the call, whether it was done, and the number that it got: a message without rows gets 0, an end too. Staged rows are taken as they lie there at the end
 abbrev pub deedIf : Bool → Call → ℕ → Deed
 deedIf false call n = nothing
 deedIf true (reopen planning calendar) n = began (planOf planning calendar)
 deedIf true (message dossier sender register) n = on (eqb n 0) nothing (took n sender (messageRows dossier))
+deedIf true (endFeed register staging kept) n = on (eqb n 0) nothing (took n (feedOf kept .sender) (stagedRows staging (feedOf kept)))
 deedIf true (withdraw m sender) n = struckOut m
 deedIf true (look question places) n = nothing
 
@@ -142,6 +152,7 @@ abbrev pub begunIf : Bool → Call → Day → Begun → Begun
 begunIf false call x begun = begun
 begunIf true (reopen planning calendar) x begun = begunBy planning calendar (x .book)
 begunIf true (message dossier sender register) x begun = begun
+begunIf true (endFeed register staging kept) x begun = begun
 begunIf true (withdraw n sender) x begun = begun
 begunIf true (look question places) x begun = begun
 

@@ -160,7 +160,7 @@ plain-bad : (k : Kind) (b : ℕ) → (b ≡ 92 → ⊥) → on (eqb b 92) (To (M
 plain-bad k b h = rw (ne-eqb b 92 h)
 
 -- at a data line's start and in its first field the machine differs in a backslash alone
-rows-alike : (b : ℕ) → (b ≡ 92 → ⊥) → step (Open Rows) b ≡ step (First Rows) b
+pub rows-alike : (b : ℕ) → (b ≡ 92 → ⊥) → step (Open Rows) b ≡ step (First Rows) b
 unfolding step startStep fieldStep
 rows-alike b h = rw (ne-eqb b 92 h)
 

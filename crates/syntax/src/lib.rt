@@ -92,7 +92,7 @@ fn quiet_blocks(dossier: &[u8], i: usize) -> usize
 }
 
 // The first loud byte from i on, or the length.
-fn quiet_end(dossier: &[u8], i: usize) -> usize
+pub fn quiet_end(dossier: &[u8], i: usize) -> usize
     requires { ⌜ i ≤ length (now dossier) ⌝ }
     ensures { λ r. ⌜ r ≡ i + quietFor (drop i (now (dossier .entry))) ⌝ }
 {
@@ -107,7 +107,7 @@ fn quiet_end(dossier: &[u8], i: usize) -> usize
 }
 
 // Whether a field begins at j, where the bytes from i to j are quiet.
-fn begins(dossier: &[u8], i: usize, j: usize, fresh: bool) -> bool
+pub fn begins(dossier: &[u8], i: usize, j: usize, fresh: bool) -> bool
     requires { ⌜ (i ≤ j) × (j ≤ length (now dossier)) ⌝ }
     ensures { λ r. ⌜ r ≡ freshAt (now (dossier .entry)) i j fresh ⌝ }
 {

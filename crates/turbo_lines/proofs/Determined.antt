@@ -10,6 +10,10 @@ use Rattle.turbo_lines.proofs.read_line.Kinds as read-line
 use Rattle.turbo_lines.proofs.read_line.Reads as read-line-reads
 use Rattle.turbo_lines.proofs.count_lines.Kinds as count-lines
 use Rattle.turbo_lines.proofs.count_lines.Reads as count-lines-reads
+use Rattle.turbo_lines.proofs.first_long.Kinds as first-long
+use Rattle.turbo_lines.proofs.first_long.Reads as first-long-reads
+use Rattle.turbo_lines.proofs.line_feed.Kinds as line-feed
+use Rattle.turbo_lines.proofs.line_feed.Reads as line-feed-reads
 use Rattle.turbo_lines.proofs.mark_of.Kinds as mark-of
 use Rattle.turbo_lines.proofs.mark_of.Reads as mark-of-reads
 use Rattle.turbo_lines.proofs.after_mark.Kinds as after-mark
@@ -23,6 +27,12 @@ rest-after-line-determined κs a x y s t p q = p ∙ sym q
 
 pub count-lines-determined : OneResult 1 count-lines.ps count-lines.r count-lines-reads.Post
 count-lines-determined κs a x y s t p q = p ∙ sym q
+
+pub first-long-determined : OneResult 1 first-long.ps first-long.r first-long-reads.Post
+first-long-determined κs a x y s t p q = p ∙ sym q
+
+pub line-feed-determined : OneResult 1 line-feed.ps line-feed.r line-feed-reads.Post
+line-feed-determined κs a x y s t p q = p .0 ∙ sym (q .0)
 
 pub mark-of-determined : OneResult 1 mark-of.ps mark-of.r mark-of-reads.Post
 mark-of-determined κs a x y s t p q = p ∙ sym q

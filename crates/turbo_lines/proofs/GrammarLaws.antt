@@ -17,7 +17,7 @@ free-append : (x : ℕ) {l m : List ℕ} → Free x l → Free x m → Free x (l
 free-append x Free.none g = g
 free-append x (Free.byte n f) g = Free.byte n (free-append x f g)
 
-differ′ : (a b : ℕ) → b < a → a ≡ b → ⊥
+pub differ′ : (a b : ℕ) → b < a → a ≡ b → ⊥
 differ′ a b h e = omega arith
 
 -- no byte below 32, CR and LF among them, stands in fields
@@ -45,7 +45,7 @@ module _ (x : ℕ) (low : x < 32) where
   fields-free (Fields.more f g) = free-append x (field-free f) (Free.byte (differ′ 124 x (omega arith)) (fields-free g))
 
 -- a line with no CR, before its line end
-line-before : {f : List ℕ} (r : List ℕ) → Free 13 f → lines (ended f r) ≡ f ∷ lines r
+pub line-before : {f : List ℕ} (r : List ℕ) → Free 13 f → lines (ended f r) ≡ f ∷ lines r
 unfolding linesFrom
 line-before r Free.none = refl
 line-before r (Free.byte {b} n f) = rw (ne-eqb b 13 n) (ap (intoFirst b) (line-before r f))

@@ -1,9 +1,9 @@
-// The walk over a dossier by lines, as parts of the lent bytes, and a line's mark.
+// The walk over a dossier by lines, as parts of the lent bytes, lines that are too long, and a line's mark.
 ghost use mathlib.Core.Path.{_≡_};
-ghost use Prim.Native.Nat.{_≤_};
+ghost use Prim.Native.Nat.{_+_, _≤_, _<_};
 ghost use lib.ListN.{length, drop};
 ghost use Rattle.turbo.specs.Split.{until, past};
-ghost use Rattle.turbo_lines.specs.Lines.{lines, letter, markOf, afterMark};
+ghost use Rattle.turbo_lines.specs.Lines.{lines, firstLong, letter, markOf, afterMark};
 
 // ---- lines
 
@@ -55,6 +55,35 @@ pub fn count_lines(dossier: &[u8]) -> usize
         n += 1;
     }
     n
+}
+
+// The number of the first line of more than 4,096 bytes with its CR LF, where the first of all has the number `first`; 0 for none.
+pub fn first_long(dossier: &[u8], first: usize) -> usize
+    requires { ⌜ first + length (now dossier) < 4294967296 ⌝ }
+    ensures { λ r. ⌜ r ≡ firstLong first (lines (now (dossier .entry))) ⌝ }
+{
+    let mut line = first;
+    let mut rest = dossier;
+    while 0 < rest.len() {
+        let mut size: usize = 0;
+        let next = read_line(rest, &mut size);
+        if 4094 < size {
+            return line;
+        }
+        line += 1;
+        rest = next;
+    }
+    0
+}
+
+// ---- parts
+
+// Where the first LF stands, or the length: in a dossier that comes in parts LF ends a line.
+pub fn line_feed(bytes: &[u8]) -> usize
+    ensures is { λ r. ⌜ r ≡ length (until 10 (now (bytes .entry))) ⌝ }
+    ensures within { λ r. ⌜ r ≤ length (now (bytes .entry)) ⌝ }
+{
+    turbo::find_far(bytes, b'\n')
 }
 
 // ---- marks

@@ -39,6 +39,11 @@ fn told(a: Reading) -> Three {
             a: i,
             column: 0,
         },
+        Reading::Long(l) => Three {
+            word: 6,
+            a: l,
+            column: 0,
+        },
         Reading::Form(l) => Three {
             word: 2,
             a: l,
@@ -65,7 +70,7 @@ fn told(a: Reading) -> Three {
 pub fn answer(reading: Reading) {
     let t = told(reading);
     let word = turbo::field_of(
-        b" -> | -> 3 at | -> 4 line | -> 5 line | -> 6 line | -> rows ",
+        b" -> | -> 3 at | -> 4 line | -> 5 line | -> 6 line | -> rows | -> 15 line ",
         t.word,
     );
     count(word, t.a);

@@ -54,41 +54,53 @@ enum-known-answer-6 c = search needs
 with-numbers-requires-7 : tie.Need-with-numbers-requires-7
 with-numbers-requires-7 c κs = search needs
 
-enum-told-2 : tie.Need-enum-told-2
-enum-told-2 c = search needs
+enum-known-answer-7 : tie.Need-enum-known-answer-7
+enum-known-answer-7 c = search needs
 
 with-numbers-requires-8 : tie.Need-with-numbers-requires-8
 with-numbers-requires-8 c κs = search needs
 
-enum-told-3 : tie.Need-enum-told-3
-enum-told-3 c = search needs
+enum-told-2 : tie.Need-enum-told-2
+enum-told-2 c = search needs
 
 with-numbers-requires-9 : tie.Need-with-numbers-requires-9
 with-numbers-requires-9 c κs = search needs
 
-enum-told-4 : tie.Need-enum-told-4
-enum-told-4 c = search needs
+enum-told-3 : tie.Need-enum-told-3
+enum-told-3 c = search needs
 
 with-numbers-requires-10 : tie.Need-with-numbers-requires-10
 with-numbers-requires-10 c κs = search needs
 
-enum-told-5 : tie.Need-enum-told-5
-enum-told-5 c = search needs
+enum-told-4 : tie.Need-enum-told-4
+enum-told-4 c = search needs
 
 with-numbers-requires-11 : tie.Need-with-numbers-requires-11
 with-numbers-requires-11 c κs = search needs
 
-enum-told-6 : tie.Need-enum-told-6
-enum-told-6 c = search needs
+enum-told-5 : tie.Need-enum-told-5
+enum-told-5 c = search needs
 
 with-numbers-requires-12 : tie.Need-with-numbers-requires-12
 with-numbers-requires-12 c κs = search needs
 
-enum-told-7 : tie.Need-enum-told-7
-enum-told-7 c = search needs
+enum-told-6 : tie.Need-enum-told-6
+enum-told-6 c = search needs
 
 with-numbers-requires-13 : tie.Need-with-numbers-requires-13
 with-numbers-requires-13 c κs = search needs
+
+enum-told-7 : tie.Need-enum-told-7
+enum-told-7 c = search needs
+
+with-numbers-requires-14 : tie.Need-with-numbers-requires-14
+with-numbers-requires-14 c κs = search needs
+
+enum-told-8 : tie.Need-enum-told-8
+enum-told-8 c = search needs
+
+with-numbers-requires-15 : tie.Need-with-numbers-requires-15
+with-numbers-requires-15 c κs = search needs
 
 -- the numbers r of the case a are those of an answer that is a
 case-of : (x a : Answer) (r : Four) → x ≡ a → r ≡ fourOf (numbers a) → r ≡ fourOf (numbers x)
@@ -116,22 +128,28 @@ returns-7 : tie.Need-returns-7
 returns-7 c = case-of _ _ _ (c .before .before .answer6 .given .1) (c .with-numbers7 .ensures)
 
 returns-8 : tie.Need-returns-8
-returns-8 c = case-of _ _ _ (c .before .enum-told2 .given .1) (c .with-numbers8 .ensures)
+returns-8 c = case-of _ _ _ (c .before .before .answer7 .given .1) (c .with-numbers8 .ensures)
 
 returns-9 : tie.Need-returns-9
-returns-9 c = case-of _ _ _ (c .before .enum-told3 .given .1) (c .with-numbers9 .ensures)
+returns-9 c = case-of _ _ _ (c .before .enum-told2 .given .1) (c .with-numbers9 .ensures)
 
 returns-10 : tie.Need-returns-10
-returns-10 c = case-of _ _ _ (c .before .enum-told4 .given .1) (c .with-numbers10 .ensures)
+returns-10 c = case-of _ _ _ (c .before .enum-told3 .given .1) (c .with-numbers10 .ensures)
 
 returns-11 : tie.Need-returns-11
-returns-11 c = case-of _ _ _ (c .before .enum-told5 .given .1) (c .with-numbers11 .ensures)
+returns-11 c = case-of _ _ _ (c .before .enum-told4 .given .1) (c .with-numbers11 .ensures)
 
 returns-12 : tie.Need-returns-12
-returns-12 c = case-of _ _ _ (c .before .enum-told6 .given .1) (c .with-numbers12 .ensures)
+returns-12 c = case-of _ _ _ (c .before .enum-told5 .given .1) (c .with-numbers12 .ensures)
 
 returns-13 : tie.Need-returns-13
-returns-13 c = case-of _ _ _ (c .before .enum-told7 .given .1) (c .with-numbers13 .ensures)
+returns-13 c = case-of _ _ _ (c .before .enum-told6 .given .1) (c .with-numbers13 .ensures)
+
+returns-14 : tie.Need-returns-14
+returns-14 c = case-of _ _ _ (c .before .enum-told7 .given .1) (c .with-numbers14 .ensures)
+
+returns-15 : tie.Need-returns-15
+returns-15 c = case-of _ _ _ (c .before .enum-told8 .given .1) (c .with-numbers15 .ensures)
 
 pub numbers-spec : {M : Type 1} → statement M
 numbers-spec =
@@ -152,18 +170,22 @@ numbers-spec =
     with-numbers-requires-6
     enum-known-answer-6
     with-numbers-requires-7
-    enum-told-2
+    enum-known-answer-7
     with-numbers-requires-8
-    enum-told-3
+    enum-told-2
     with-numbers-requires-9
-    enum-told-4
+    enum-told-3
     with-numbers-requires-10
-    enum-told-5
+    enum-told-4
     with-numbers-requires-11
-    enum-told-6
+    enum-told-5
     with-numbers-requires-12
-    enum-told-7
+    enum-told-6
     with-numbers-requires-13
+    enum-told-7
+    with-numbers-requires-14
+    enum-told-8
+    with-numbers-requires-15
     returns
     returns-2
     returns-3
@@ -176,4 +198,6 @@ numbers-spec =
     returns-10
     returns-11
     returns-12
-    returns-13)
+    returns-13
+    returns-14
+    returns-15)

@@ -23,6 +23,9 @@ enum-known-reading-4 c = search needs
 enum-known-reading-5 : tie.Need-enum-known-reading-5
 enum-known-reading-5 c = search needs
 
+enum-known-reading-6 : tie.Need-enum-known-reading-6
+enum-known-reading-6 c = search needs
+
 returns : tie.Need-returns
 returns c = sym (ap (passedOf _) (c .enum-told .given .1))
 
@@ -41,6 +44,9 @@ returns-5 c = sym (ap (passedOf _) (c .before .reading4 .given .1))
 returns-6 : tie.Need-returns-6
 returns-6 c = sym (ap (passedOf _) (c .before .reading5 .given .1))
 
+returns-7 : tie.Need-returns-7
+returns-7 c = sym (ap (passedOf _) (c .before .reading6 .given .1))
+
 pub passed-spec : {M : Type 1} → statement M
 passed-spec =
     tie.close
@@ -51,9 +57,11 @@ passed-spec =
     enum-known-reading-3
     enum-known-reading-4
     enum-known-reading-5
+    enum-known-reading-6
     returns
     returns-2
     returns-3
     returns-4
     returns-5
-    returns-6)
+    returns-6
+    returns-7)

@@ -6,11 +6,7 @@ use Rattle.lists.specs.Logic.{on}
 use Rattle.lists.specs.Rows.{flat}
 use Rattle.columns.specs.declared.Table.{Table}
 use Rattle.columns.specs.Tables.{Column, columnsIn, isOptional, rowWidth}
-use Rattle.columns.specs.Layout.{widthIn}
-
--- the bytes that have room for any table's row
-abbrev pub widest-row : ℕ
-widest-row = 80
+use Rattle.columns.specs.Layout.{widthIn, widest-row}
 
 -- what is kept where the column is absent, or zero bytes where it must be there
 abbrev pub blankCell : Column → List ℕ

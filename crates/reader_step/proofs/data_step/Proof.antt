@@ -1,7 +1,7 @@
 use Prim.Native.Nat.{_-_}
 use mathlib.Core.Path.{sym, ap, _∙_}
 use borrow.Author.Needs.{needs}
-use Rattle.reader_step.specs.inner.Step.{rowStep, rowStaged}
+use Rattle.reader_step.specs.Step.{rowStep, rowStaged}
 use Rattle.reader_step.proofs.StepLaws.{data-many, data-known, data-read}
 use Rattle.reader_step.proofs.data_step.Statement.{statement}
 use Rattle.reader_step.proofs.data_step.Tie as tie

@@ -4,7 +4,7 @@ use mathlib.Core.Path.{sym, ap, _∙_}
 use mathlib.Core.Bool.{Bool}
 use borrow.Author.Needs.{needs}
 use Rattle.reader_step.specs.declared.State.{State}
-use Rattle.reader_step.specs.inner.Step.{labelStep, misformed, labelled}
+use Rattle.reader_step.specs.Step.{labelStep, misformed, labelled}
 use Rattle.reader_step.proofs.label_step.Statement.{statement}
 use Rattle.reader_step.proofs.label_step.Tie as tie
 

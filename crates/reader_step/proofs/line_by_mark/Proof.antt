@@ -3,8 +3,8 @@ use mathlib.Core.Path.{sym, ap, _∙_}
 use mathlib.Core.List.{List}
 use borrow.Author.Needs.{needs}
 use Rattle.turbo.specs.Split.{until, fields}
-use Rattle.rows.specs.inner.Shape.{shapeOf}
-use Rattle.reader_step.specs.inner.Step.{moved, labelStep, placeNamed}
+use Rattle.rows.specs.Shape.{shapeOf}
+use Rattle.reader_step.specs.Step.{moved, labelStep, placeNamed}
 use Rattle.reader_step.proofs.StepLaws.{line-group, line-table, line-labels, line-labels-skipped, line-data, line-data-skipped}
 use Rattle.reader_step.proofs.line_by_mark.Statement.{statement}
 use Rattle.reader_step.proofs.line_by_mark.Tie as tie

@@ -3,7 +3,7 @@ use Prim.Native.Nat.{_-_}
 use native.Mathlib.Omega.{arith}
 use mathlib.Core.Path.{_≡_, sym, _∙_}
 use borrow.Author.Needs.{needs}
-use Rattle.columns.specs.inner.Blank.{widest-row}
+use Rattle.columns.specs.Layout.{widest-row}
 use Rattle.reader_step.proofs.RowStepLaws.{row-wrong, row-before, row-sent, row-refused}
 use Rattle.reader_step.proofs.row_step.Statement.{statement}
 use Rattle.reader_step.proofs.row_step.Tie as tie

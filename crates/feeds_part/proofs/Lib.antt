@@ -1,0 +1,5 @@
+pub mod HeldLaws
+pub mod ByteLaws
+pub mod LineLaws
+pub mod PartLaws
+pub mod Determined

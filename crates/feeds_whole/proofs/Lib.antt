@@ -1,0 +1,9 @@
+pub mod ByteLaws
+pub mod FoldLaws
+pub mod WeighLaws
+pub mod WholeLaws
+pub mod EndLaws
+pub mod PartLaws
+pub mod CallLaws
+pub mod RuleLaws
+pub mod Claims

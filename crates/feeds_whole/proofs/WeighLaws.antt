@@ -1,0 +1,206 @@
+use Prim.Native.Nat.{ℕ, suc, _+_, _-_, _*_, _≤_}
+use native.Mathlib.Omega.{arith}
+use mathlib.Core.Path.{_≡_, refl, sym, ap, _∙_}
+use mathlib.Core.Bool.{Bool, true, false, not, _&&_}
+use mathlib.Core.List.{List, [], _∷_, _++_}
+use borrow.Author.Tests.{eqb-true}
+use lib.Dec.{eqb}
+use lib.ListN.{length, take, length-append}
+use lib.Seq.{take-nil}
+use Rattle.lists.specs.Logic.{on}
+use Rattle.lists.proofs.LogicLaws.{and-false}
+use Rattle.syntax.specs.declared.Kind.the-variants as Kinds
+use Rattle.syntax.specs.declared.State as Machine
+use Rattle.syntax.specs.declared.State.the-variants as States
+use Rattle.syntax.specs.declared.Next.{Next}
+use Rattle.syntax.specs.declared.Next.the-variants.{To, Bad}
+use Rattle.syntax.specs.declared.Verdict.{Verdict}
+use Rattle.syntax.specs.declared.Verdict.the-variants.{Fine, FaultAt}
+use Rattle.syntax.specs.Machine.{fieldStep, escapeStep, firstEscapeStep, nullStep, returnStep, startStep, markStep, step, follow, accepting, run}
+use Rattle.turbo_lines.specs.declared.Mark.{Mark}
+use Rattle.turbo_lines.specs.declared.Mark.the-variants as Marks
+use Rattle.turbo.specs.Split.{fields}
+use Rattle.turbo_lines.specs.Lines.{isLong, shortFront, markOf, afterMark}
+use Rattle.columns.specs.declared.Table.the-variants.{Message}
+use Rattle.columns.specs.Tables.{rowOf, wrongColumn}
+use Rattle.reader.specs.Items.{Item, head, row, Place, outside, awaiting, under, placeAfter, seen, inFront, items}
+use Rattle.reader.specs.Rules.{formBad, ownerBad, faults, faultPlace}
+use Rattle.reader.specs.Staging.{fine, rowsUpTo}
+use Rattle.reader.proofs.BoundLaws.{message-long}
+use Rattle.turbo_lines.specs.Ended.{endedLines}
+use Rattle.feeds_whole.proofs.ByteLaws.{without-length, valid}
+
+-- How many rows the parts of a dossier can give: a row's line has 27 bytes with its line end. Assumes nothing.
+
+-- a line's bytes with its line end
+abbrev weights : List (List ℕ) → ℕ
+weights [] = 0
+weights (l ∷ ls) = length l + 2 + weights ls
+
+-- ---- the rows of lines
+
+module _ (register : List ℕ) (sender : ℕ) where
+  abbrev weight : List Item → ℕ
+  weight xs = length (rowsUpTo Message register sender xs) * 27
+
+  on-weigh : (b : Bool) (rs : List (List ℕ)) (n : ℕ) → length rs * 27 ≤ n → length (on b rs []) * 27 ≤ n
+  on-weigh true rs n h = h
+  on-weigh false rs n h = omega arith
+
+  head-weigh : (n : ℕ) (l : List ℕ) (xs : List Item) (w : ℕ) → weight xs ≤ w → weight (head n (fields (afterMark l)) ∷ xs) ≤ length l + 2 + w
+  unfolding rowsUpTo
+  head-weigh n l xs w h = on-weigh (fine Message register sender (head n (fields (afterMark l)))) (rowsUpTo Message register sender xs) (length l + 2 + w) (omega arith)
+
+  row-weigh : (n : ℕ) (fs : List (List ℕ)) (l : List ℕ) (xs : List Item) (w : ℕ) → weight xs ≤ w → weight (row n fs l ∷ xs) ≤ length l + 2 + w
+  unfolding rowsUpTo
+  row-weigh n fs l xs w h = go (eqb (wrongColumn Message fs l) 0) refl
+    where
+      go : (b : Bool) → eqb (wrongColumn Message fs l) 0 ≡ b
+          → length (on (not (formBad Message (row n fs l)) && (not (not b) && not (ownerBad Message register sender (row n fs l)))) (rowOf Message fs l ∷ rowsUpTo Message register sender xs) []) * 27 ≤ length l + 2 + w
+      go true e =
+          on-weigh (not (formBad Message (row n fs l)) && (true && not (ownerBad Message register sender (row n fs l)))) (rowOf Message fs l ∷ rowsUpTo Message register sender xs) (length l + 2 + w)
+          (omega (arith, message-long fs l (eqb-true _ _ e)))
+      go false e = rw (and-false (not (formBad Message (row n fs l)))) (omega arith)
+
+  rows-weigh : (p : Place) (n : ℕ) (ls : List (List ℕ)) → weight (items Message p n ls) ≤ weights ls
+  unfolding items rowsUpTo
+  rows-weigh p n [] = omega arith
+  rows-weigh p n (l ∷ ls) = go (markOf l) p (rows-weigh (placeAfter Message (markOf l) l p) (suc n) ls)
+    where
+      go : (m : Mark) (p : Place) → weight (items Message (placeAfter Message m l p) (suc n) ls) ≤ weights ls
+          → weight (inFront (seen m n l p) (items Message (placeAfter Message m l p) (suc n) ls)) ≤ length l + 2 + weights ls
+      go Marks.Group p h = omega arith
+      go Marks.Table p h = omega arith
+      go Marks.Labels outside h = omega arith
+      go Marks.Labels awaiting h = head-weigh n l (items Message (placeAfter Message Marks.Labels l awaiting) (suc n) ls) (weights ls) h
+      go Marks.Labels (under fs) h = omega arith
+      go Marks.Data outside h = omega arith
+      go Marks.Data awaiting h = omega arith
+      go Marks.Data (under fs) h = row-weigh n fs l (items Message (under fs) (suc n) ls) (weights ls) h
+
+-- ---- the lines of bytes
+
+front-weigh : (ls : List (List ℕ)) → weights (shortFront ls) ≤ weights ls
+unfolding shortFront
+front-weigh [] = omega arith
+front-weigh (l ∷ ls) = go (isLong l) (front-weigh ls)
+  where
+    go : (b : Bool) → weights (shortFront ls) ≤ weights ls → weights (on b [] (l ∷ shortFront ls)) ≤ length l + 2 + weights ls
+    go true h = omega arith
+    go false h = omega arith
+
+-- the machine takes an LF only behind a CR
+abbrev isRet : Machine.State → Bool
+isRet (States.Open k) = false
+isRet (States.Mark k) = false
+isRet (States.First k) = false
+isRet (States.Inside k) = false
+isRet (States.FirstEsc k) = false
+isRet (States.InsideEsc k) = false
+isRet (States.Null k) = false
+isRet (States.Ret k) = true
+
+abbrev leadsToRet : Next → Bool
+leadsToRet (To t) = isRet t
+leadsToRet Bad = false
+
+abbrev goesOn : Next → Bool
+goesOn (To t) = true
+goesOn Bad = false
+
+lf-only : (s : Machine.State) → (goesOn (step s 10) ≡ true → isRet s ≡ true) × (leadsToRet (step s 10) ≡ false)
+unfolding step startStep markStep returnStep nullStep firstEscapeStep escapeStep fieldStep
+lf-only (States.Open Kinds.Nothing) = (λ e. e, refl)
+lf-only (States.Open Kinds.Group) = (λ e. e, refl)
+lf-only (States.Open Kinds.Table) = (λ e. e, refl)
+lf-only (States.Open Kinds.Rows) = (λ e. e, refl)
+lf-only (States.Mark Kinds.Nothing) = (λ e. e, refl)
+lf-only (States.Mark Kinds.Group) = (λ e. e, refl)
+lf-only (States.Mark Kinds.Table) = (λ e. e, refl)
+lf-only (States.Mark Kinds.Rows) = (λ e. e, refl)
+lf-only (States.First k) = (λ e. e, refl)
+lf-only (States.Inside k) = (λ e. e, refl)
+lf-only (States.FirstEsc k) = (λ e. e, refl)
+lf-only (States.InsideEsc k) = (λ e. e, refl)
+lf-only (States.Null k) = (λ e. e, refl)
+lf-only (States.Ret k) = (λ e. refl, refl)
+
+none-weigh : (h : List ℕ) (n : ℕ) → weights (endedLines h []) ≤ length h + suc n
+unfolding endedLines
+none-weigh h n = omega arith
+
+lf-weigh : (h : List ℕ) (b : ℕ) (v : List ℕ) (n : ℕ) → eqb b 10 ≡ true → 1 ≤ length h → weights (endedLines [] v) ≤ n → weights (endedLines h (b ∷ v)) ≤ length h + suc n
+unfolding endedLines
+lf-weigh h b v n e some few = rw e (omega (arith, without-length h, some, few))
+
+on-line : (h : List ℕ) (b : ℕ) (v : List ℕ) (n : ℕ) → eqb b 10 ≡ false → weights (endedLines (h ++ b ∷ []) v) ≤ length (h ++ b ∷ []) + n → weights (endedLines h (b ∷ v)) ≤ length h + suc n
+unfolding endedLines
+on-line h b v n e few = rw e (omega (arith, length-append h (b ∷ []), few))
+
+ended-weigh : (w : List ℕ) (s : Machine.State) (h : List ℕ) → (isRet s ≡ true → 1 ≤ length h) → weights (endedLines h (valid s w)) ≤ length h + length w
+unfolding valid endedLines
+ended-weigh [] s h r = omega arith
+ended-weigh (b ∷ w) s h r = go (step s b) refl (eqb b 10) refl (λ t k. ended-weigh w t k)
+  where
+    go : (n : Next) → step s b ≡ n → (l : Bool) → eqb b 10 ≡ l
+        → ((t : Machine.State) (k : List ℕ) → (isRet t ≡ true → 1 ≤ length k) → weights (endedLines k (valid t w)) ≤ length k + length w)
+        → weights (endedLines h (follow n (λ t. b ∷ valid t w) [])) ≤ length h + suc (length w)
+    go Bad e l q ih = none-weigh h (length w)
+    go (To t) e true q ih =
+        let z : step s 10 ≡ To t = ap (step s) (sym (eqb-true b 10 q)) ∙ e in
+        let k = lf-only s in
+        let some : 1 ≤ length h = r (k .0 (ap goesOn z)) in
+        let m : isRet t ≡ false = sym (ap leadsToRet z) ∙ k .1 in
+        let few = ih t [] (λ y. absurd (let f : _≡_ {A = ℕ} 0 1 = cc in omega arith)) in
+        lf-weigh h b (valid t w) (length w) q some (omega (arith, few))
+    go (To t) e false q ih = on-line h b (valid t w) (length w) q (ih t (h ++ b ∷ []) (λ y. omega (arith, length-append h (b ∷ []))))
+
+-- the rows of lines that the first bytes of a dossier end
+pub rows-few : (register : List ℕ) (sender : ℕ) (w : List ℕ) → length w ≤ 65536
+    → length (rowsUpTo Message register sender (items Message outside 1 (shortFront (endedLines [] (valid (States.Open Kinds.Nothing) w))))) ≤ 2427
+rows-few register sender w h =
+    let ls = endedLines [] (valid (States.Open Kinds.Nothing) w) in
+    let a = rows-weigh register sender outside 1 (shortFront ls) in
+    let b = front-weigh ls in
+    let c = ended-weigh w (States.Open Kinds.Nothing) [] (λ e. absurd (let f : _≡_ {A = ℕ} 0 1 = cc in omega arith)) in
+    omega (arith, a, b, c, h)
+
+-- ---- the front that the machine takes, by its verdict
+
+run-behind : (w : List ℕ) (s : Machine.State) (i j : ℕ) → run s w i ≡ FaultAt j → i ≤ j
+unfolding run
+run-behind [] s i j = go (accepting s)
+  where
+    go : (b : Bool) → on b Fine (FaultAt i) ≡ FaultAt j → i ≤ j
+    go true e = absurd (let f : _≡_ {A = ℕ} 0 1 = cc in omega arith)
+    go false e = let f : i ≡ j = cc in omega arith
+run-behind (b ∷ w) s i j = go (step s b) (λ t. run-behind w t (i + 1) j)
+  where
+    go : (n : Next) → ((t : Machine.State) → run t w (i + 1) ≡ FaultAt j → i + 1 ≤ j) → follow n (λ t. run t w (i + 1)) (FaultAt i) ≡ FaultAt j → i ≤ j
+    go (To t) ih e = let k = ih t e in omega arith
+    go Bad ih e = let f : i ≡ j = cc in omega arith
+
+-- the bytes before the place of a fault
+abbrev front : Verdict → ℕ → List ℕ → List ℕ
+front v i w = on (faults v) (take (faultPlace v - i) w) w
+
+front-more : (v : Verdict) (i b : ℕ) (w : List ℕ) → ((j : ℕ) → v ≡ FaultAt j → i + 1 ≤ j) → b ∷ front v (i + 1) w ≡ front v i (b ∷ w)
+front-more Fine i b w h = refl
+front-more (FaultAt j) i b w h =
+    let k = h j refl in
+    let e : j - i ≡ suc (j - (i + 1)) = omega arith in
+    ap (λ (n : ℕ). take n (b ∷ w)) (sym e)
+
+pub valid-front : (w : List ℕ) (s : Machine.State) (i : ℕ) → valid s w ≡ front (run s w i) i w
+unfolding valid run
+valid-front [] s i = go (run s [] i)
+  where
+    go : (v : Verdict) → [] ≡ front v i []
+    go Fine = refl
+    go (FaultAt j) = sym (take-nil (j - i))
+valid-front (b ∷ w) s i = go (step s b) (λ t. valid-front w t (i + 1))
+  where
+    go : (n : Next) → ((t : Machine.State) → valid t w ≡ front (run t w (i + 1)) (i + 1) w)
+        → follow n (λ t. b ∷ valid t w) [] ≡ front (follow n (λ t. run t w (i + 1)) (FaultAt i)) i (b ∷ w)
+    go (To t) ih = ap (λ (l : List ℕ). b ∷ l) (ih t) ∙ front-more (run t w (i + 1)) i b w (λ j e. run-behind w t (i + 1) j e)
+    go Bad ih = let e : 0 ≡ i - i = omega arith in ap (λ (n : ℕ). take n (b ∷ w)) e

@@ -1,0 +1,4 @@
+pub mod ScannedLaws
+pub mod TurnLaws
+pub mod Claims
+pub mod Determined

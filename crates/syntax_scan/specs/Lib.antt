@@ -1,0 +1,4 @@
+pub mod Scanned
+pub mod Claims
+pub mod Cases
+pub mod inner
