@@ -11,30 +11,19 @@ use Rattle.lists.specs.Logic.{on}
 use Rattle.lists.specs.Part.{part}
 use Rattle.lists.proofs.LogicLaws.{and-false, and-pass, or-fail}
 use Rattle.lists.proofs.RowLaws.{length-rowsOf, row-at}
-use Rattle.table.specs.Rules.{tableRoom}
-use Rattle.book.specs.Entries.{entry-wide}
-use Rattle.book.specs.Rules.{bookRoom}
 use Rattle.passage.specs.Layout.{body-wide, ownerOf}
 use Rattle.passage.specs.Ranges.{updateInRange}
 use Rattle.register.specs.Register.{grants}
-use Rattle.reader.specs.declared.Reading.{Reading}
 use Rattle.reader.specs.declared.Reading.the-variants as Readings
 use Rattle.feeds.specs.Kept.{feedOf, isBegun}
-use Rattle.calls.specs.declared.Answer.{Answer}
-use Rattle.calls.specs.declared.Answer.the-variants.{Accepted, Unsound, Owner, StagingShort, BookShort, TableShort}
+use Rattle.calls.specs.declared.Answer.the-variants.{Unsound, Owner}
 use Rattle.calls.specs.declared.Counts.{Counts}
-use Rattle.calls.specs.Answers.{numbers, unlessRefused}
-use Rattle.calls.specs.Claims.{isOneOf}
-use Rattle.calls.specs.Message.{messageSound, numberFor, rowsTaken, roomFor, takenBy}
-use Rattle.calls.specs.End.{least, stagedRows, allInRange, anyDenied, fallsShort, most-rows, endSound, readingKept, postAnswer, endAnswer, endLeaves, cleared}
-use Rattle.feeds_whole.specs.Claims.{RefusedEndGivesBack, NeverBegun, AcceptedEndClears, EndNumbersListed, Staged, RowsOutOfRange, Unregistered}
+use Rattle.calls.specs.Message.{messageSound, takenBy}
+use Rattle.calls.specs.End.{least, stagedRows, allInRange, anyDenied, most-rows, endSound, readingKept, postAnswer, endAnswer, endLeaves, cleared}
+use Rattle.feeds_whole.specs.Claims.{NeverBegun, AcceptedEndClears, Staged, RowsOutOfRange, Unregistered}
 use Rattle.feeds_whole.proofs.PartLaws.{fed-never}
 
 -- The end, of any bytes and numbers whatever. Assumes nothing.
-
-pub refused-gives-back : RefusedEndGivesBack
-unfolding endLeaves takenBy
-refused-gives-back register staging book table kept c e = (rw e, rw e, rw e, rw e)
 
 -- ---- 1
 
@@ -69,45 +58,6 @@ cleared-begun = refl
 pub accepted-clears : AcceptedEndClears
 unfolding endLeaves
 accepted-clears = (λ register staging book table kept c e. rw e, cleared-begun)
-
--- ---- numbers
-
-abbrev ends : List ℕ
-ends = 0 ∷ 1 ∷ 2 ∷ 3 ∷ 15 ∷ 4 ∷ 5 ∷ 6 ∷ 14 ∷ 7 ∷ 8 ∷ []
-
-abbrev Passes : Answer → Type 0
-Passes a = isOneOf ends (numbers a .0) ≡ true
-
-room-passes : (bodies : List (List ℕ)) (book table : List ℕ) (c : Counts) → Passes (roomFor bodies book table c)
-unfolding roomFor
-room-passes bodies book table c =
-    go (leb (c .used + length bodies * entry-wide) (bookRoom book)) (leb (length (rowsTaken bodies table (c .rows))) (tableRoom table)) (numberFor bodies (c .used) book)
-  where
-    go : (p q : Bool) (n : ℕ) → Passes (on p (on q (Accepted n) TableShort) BookShort)
-    go true true n = refl
-    go true false n = refl
-    go false q n = refl
-
-reading-passes : (s : Bool) (r : Reading) (next : Answer) → Passes next → Passes (on s (unlessRefused 0 r next) Unsound)
-reading-passes false r next h = refl
-reading-passes true Readings.TooLong next h = refl
-reading-passes true (Readings.Syntax i) next h = refl
-reading-passes true (Readings.Long l) next h = refl
-reading-passes true (Readings.Form l) next h = refl
-reading-passes true (Readings.Field l c) next h = refl
-reading-passes true (Readings.Owner l) next h = refl
-reading-passes true (Readings.Rows n) next h = h
-
-post-passes : (denied short : Bool) (next : Answer) → Passes next → Passes (on denied (Owner 0) (on short StagingShort next))
-post-passes true short next h = refl
-post-passes false true next h = refl
-post-passes false false next h = h
-
-pub numbers-listed : EndNumbersListed
-unfolding endAnswer postAnswer
-numbers-listed register staging book table kept c =
-    reading-passes (endSound register staging book table c kept) (readingKept (feedOf kept)) _
-    (post-passes (anyDenied register (feedOf kept .sender) (stagedRows staging (feedOf kept))) (fallsShort staging (feedOf kept)) _ (room-passes (stagedRows staging (feedOf kept)) book table c))
 
 -- ---- a staged row
 

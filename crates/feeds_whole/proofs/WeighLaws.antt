@@ -1,14 +1,13 @@
-use Prim.Native.Nat.{ℕ, suc, _+_, _-_, _*_, _≤_}
+use Prim.Native.Nat.{ℕ, suc, _+_, _-_, _≤_}
 use native.Mathlib.Omega.{arith}
 use mathlib.Core.Path.{_≡_, refl, sym, ap, _∙_}
-use mathlib.Core.Bool.{Bool, true, false, not, _&&_}
+use mathlib.Core.Bool.{Bool, true, false}
 use mathlib.Core.List.{List, [], _∷_, _++_}
 use borrow.Author.Tests.{eqb-true}
 use lib.Dec.{eqb}
 use lib.ListN.{length, take, length-append}
 use lib.Seq.{take-nil}
 use Rattle.lists.specs.Logic.{on}
-use Rattle.lists.proofs.LogicLaws.{and-false}
 use Rattle.syntax.specs.declared.Kind.the-variants as Kinds
 use Rattle.syntax.specs.declared.State as Machine
 use Rattle.syntax.specs.declared.State.the-variants as States
@@ -18,65 +17,16 @@ use Rattle.syntax.specs.declared.Verdict.{Verdict}
 use Rattle.syntax.specs.declared.Verdict.the-variants.{Fine, FaultAt}
 use Rattle.syntax.specs.Machine.{fieldStep, escapeStep, firstEscapeStep, nullStep, returnStep, startStep, markStep, step, follow, accepting, run}
 use Rattle.turbo_lines.specs.declared.Mark.{Mark}
-use Rattle.turbo_lines.specs.declared.Mark.the-variants as Marks
-use Rattle.turbo.specs.Split.{fields}
-use Rattle.turbo_lines.specs.Lines.{isLong, shortFront, markOf, afterMark}
+use Rattle.turbo_lines.specs.Lines.{isLong, shortFront}
 use Rattle.columns.specs.declared.Table.the-variants.{Message}
-use Rattle.columns.specs.Tables.{rowOf, wrongColumn}
-use Rattle.reader.specs.Items.{Item, head, row, Place, outside, awaiting, under, placeAfter, seen, inFront, items}
-use Rattle.reader.specs.Rules.{formBad, ownerBad, faults, faultPlace}
-use Rattle.reader.specs.Staging.{fine, rowsUpTo}
-use Rattle.reader.proofs.BoundLaws.{message-long}
+use Rattle.reader.specs.Items.{row, outside, items}
+use Rattle.reader.specs.Rules.{faults, faultPlace}
+use Rattle.reader.specs.Staging.{rowsUpTo}
+use Rattle.reader.proofs.BoundLaws.{weights, message-long, rows-weigh}
 use Rattle.turbo_lines.specs.Ended.{endedLines}
 use Rattle.feeds_whole.proofs.ByteLaws.{without-length, valid}
 
 -- How many rows the parts of a dossier can give: a row's line has 27 bytes with its line end. Assumes nothing.
-
--- a line's bytes with its line end
-abbrev weights : List (List ℕ) → ℕ
-weights [] = 0
-weights (l ∷ ls) = length l + 2 + weights ls
-
--- ---- the rows of lines
-
-module _ (register : List ℕ) (sender : ℕ) where
-  abbrev weight : List Item → ℕ
-  weight xs = length (rowsUpTo Message register sender xs) * 27
-
-  on-weigh : (b : Bool) (rs : List (List ℕ)) (n : ℕ) → length rs * 27 ≤ n → length (on b rs []) * 27 ≤ n
-  on-weigh true rs n h = h
-  on-weigh false rs n h = omega arith
-
-  head-weigh : (n : ℕ) (l : List ℕ) (xs : List Item) (w : ℕ) → weight xs ≤ w → weight (head n (fields (afterMark l)) ∷ xs) ≤ length l + 2 + w
-  unfolding rowsUpTo
-  head-weigh n l xs w h = on-weigh (fine Message register sender (head n (fields (afterMark l)))) (rowsUpTo Message register sender xs) (length l + 2 + w) (omega arith)
-
-  row-weigh : (n : ℕ) (fs : List (List ℕ)) (l : List ℕ) (xs : List Item) (w : ℕ) → weight xs ≤ w → weight (row n fs l ∷ xs) ≤ length l + 2 + w
-  unfolding rowsUpTo
-  row-weigh n fs l xs w h = go (eqb (wrongColumn Message fs l) 0) refl
-    where
-      go : (b : Bool) → eqb (wrongColumn Message fs l) 0 ≡ b
-          → length (on (not (formBad Message (row n fs l)) && (not (not b) && not (ownerBad Message register sender (row n fs l)))) (rowOf Message fs l ∷ rowsUpTo Message register sender xs) []) * 27 ≤ length l + 2 + w
-      go true e =
-          on-weigh (not (formBad Message (row n fs l)) && (true && not (ownerBad Message register sender (row n fs l)))) (rowOf Message fs l ∷ rowsUpTo Message register sender xs) (length l + 2 + w)
-          (omega (arith, message-long fs l (eqb-true _ _ e)))
-      go false e = rw (and-false (not (formBad Message (row n fs l)))) (omega arith)
-
-  rows-weigh : (p : Place) (n : ℕ) (ls : List (List ℕ)) → weight (items Message p n ls) ≤ weights ls
-  unfolding items rowsUpTo
-  rows-weigh p n [] = omega arith
-  rows-weigh p n (l ∷ ls) = go (markOf l) p (rows-weigh (placeAfter Message (markOf l) l p) (suc n) ls)
-    where
-      go : (m : Mark) (p : Place) → weight (items Message (placeAfter Message m l p) (suc n) ls) ≤ weights ls
-          → weight (inFront (seen m n l p) (items Message (placeAfter Message m l p) (suc n) ls)) ≤ length l + 2 + weights ls
-      go Marks.Group p h = omega arith
-      go Marks.Table p h = omega arith
-      go Marks.Labels outside h = omega arith
-      go Marks.Labels awaiting h = head-weigh n l (items Message (placeAfter Message Marks.Labels l awaiting) (suc n) ls) (weights ls) h
-      go Marks.Labels (under fs) h = omega arith
-      go Marks.Data outside h = omega arith
-      go Marks.Data awaiting h = omega arith
-      go Marks.Data (under fs) h = row-weigh n fs l (items Message (under fs) (suc n) ls) (weights ls) h
 
 -- ---- the lines of bytes
 
@@ -160,7 +110,7 @@ pub rows-few : (register : List ℕ) (sender : ℕ) (w : List ℕ) → length w 
     → length (rowsUpTo Message register sender (items Message outside 1 (shortFront (endedLines [] (valid (States.Open Kinds.Nothing) w))))) ≤ 2427
 rows-few register sender w h =
     let ls = endedLines [] (valid (States.Open Kinds.Nothing) w) in
-    let a = rows-weigh register sender outside 1 (shortFront ls) in
+    let a = rows-weigh Message 27 message-long register sender outside 1 (shortFront ls) in
     let b = front-weigh ls in
     let c = ended-weigh w (States.Open Kinds.Nothing) [] (λ e. absurd (let f : _≡_ {A = ℕ} 0 1 = cc in omega arith)) in
     omega (arith, a, b, c, h)

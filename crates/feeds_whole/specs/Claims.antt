@@ -2,7 +2,7 @@
 use Prim.Native.Nat.{ℕ, _+_, _*_, _/_, _≤_, _<_}
 use mathlib.Core.Path.{_≡_}
 use mathlib.Core.Bool.{true, false}
-use mathlib.Core.List.{List, [], _∷_, _++_}
+use mathlib.Core.List.{List, _++_}
 use mathlib.Core.Logic.{_↔_}
 use lib.ListN.{length}
 use Rattle.lists.specs.Part.{part}
@@ -19,7 +19,6 @@ use Rattle.feeds.specs.Feeding.{feeding, feedLeaves}
 use Rattle.calls.specs.declared.Answer.the-variants.{Unsound, Owner}
 use Rattle.calls.specs.declared.Counts.{Counts}
 use Rattle.calls.specs.Answers.{numbers, isAccepted}
-use Rattle.calls.specs.Claims.{isOneOf}
 use Rattle.calls.specs.Leaves.{outcomeOf}
 use Rattle.calls.specs.Message.{messageSound, messageLeaves}
 use Rattle.calls.specs.End.{readingKept, endSound, endAnswer, endLeaves, cleared}
@@ -54,14 +53,7 @@ StagingHolds =
     (parts : List (List ℕ)) (register line staging : List ℕ) (sender : ℕ) → sender < 256
     → fedFrom register sender line staging parts .staging ≡ laid Message (rowsBefore register sender (flat parts)) staging
 
--- ---- the end, of any bytes and numbers whatever
-
--- a refusal gives back counts, book, table and the numbers
-abbrev pub RefusedEndGivesBack : Type 0
-RefusedEndGivesBack =
-    (register staging book table kept : List ℕ) (c : Counts) → isAccepted (endAnswer register staging book table c kept) ≡ false
-    → let left = endLeaves register staging book table c kept in
-    (left .outcome .counts ≡ c) × (left .book ≡ book) × (left .table ≡ table) × (left .kept ≡ kept)
+-- ---- the end, of any bytes and numbers whatever; that a refusal gives everything back, and which numbers there are, is claimed in `calls`
 
 -- numbers of no begun feed get 1, at the end and in feeding, and nothing changes
 abbrev pub NeverBegun : Type 0
@@ -77,12 +69,6 @@ AcceptedEndClears =
     ((register staging book table kept : List ℕ) (c : Counts) → isAccepted (endAnswer register staging book table c kept) ≡ true
     → endLeaves register staging book table c kept .kept ≡ cleared)
     × (isBegun cleared ≡ false)
-
--- the number is one of these
-abbrev pub EndNumbersListed : Type 0
-EndNumbersListed =
-    (register staging book table kept : List ℕ) (c : Counts)
-    → isOneOf (0 ∷ 1 ∷ 2 ∷ 3 ∷ 15 ∷ 4 ∷ 5 ∷ 6 ∷ 14 ∷ 7 ∷ 8 ∷ []) (numbers (endAnswer register staging book table c kept) .0) ≡ true
 
 -- row i of the staging area is a staged row of these numbers
 pub record Staged (staging kept : List ℕ) (i : ℕ) : Type 0 where
@@ -105,4 +91,4 @@ Unregistered =
 
 -- all of these
 abbrev pub All : Type 0
-All = CuttingIsFree × PartsAreWhole × StagingHolds × RefusedEndGivesBack × NeverBegun × AcceptedEndClears × EndNumbersListed × RowsOutOfRange × Unregistered
+All = CuttingIsFree × PartsAreWhole × StagingHolds × NeverBegun × AcceptedEndClears × RowsOutOfRange × Unregistered

@@ -42,7 +42,7 @@ use Rattle.reader.specs.Staging.{fine, rowsUpTo}
 -- How many rows a dossier can give: each row's line holds a stamp, a time or a date, and ends in two bytes. Assumes nothing.
 
 -- a line's bytes with its line end
-abbrev weights : List (List ℕ) → ℕ
+abbrev pub weights : List (List ℕ) → ℕ
 weights [] = 0
 weights (l ∷ ls) = length l + 2 + weights ls
 
@@ -185,7 +185,7 @@ module _ (t : Table) (least : ℕ) (long : (ls : List (List ℕ)) (l : List ℕ)
           (omega (arith, long fs l (eqb-true _ _ e), suc-mul (length (staged xs)) least))
       go false e = rw (and-false (not (formBad t (row n fs l))), zero-mul least) (omega arith)
 
-  rows-weigh : (p : Place) (n : ℕ) (ls : List (List ℕ)) → bytesOf (staged (items t p n ls)) ≤ weights ls
+  pub rows-weigh : (p : Place) (n : ℕ) (ls : List (List ℕ)) → bytesOf (staged (items t p n ls)) ≤ weights ls
   unfolding items rowsUpTo
   rows-weigh p n [] = rw (zero-mul least) (omega arith)
   rows-weigh p n (l ∷ ls) = go (markOf l) p (rows-weigh (placeAfter t (markOf l) l p) (suc n) ls)
