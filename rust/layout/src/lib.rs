@@ -25,7 +25,7 @@ macro_rules! constants {
 
 constants! {
     /// Of the C face that these numbers belong to.
-    VERSION: u32 = 2;
+    VERSION: u32 = 3;
 
     /// Where an answer has its number: 0 where the call was accepted, else why it was refused.
     ANSWER_NUMBER: usize = 0;
@@ -61,6 +61,12 @@ constants! {
     REGISTER: usize = 64 * PAIR;
     /// Bytes of a dossier at most.
     DOSSIER: usize = 65_536;
+    /// Bytes of a line of a dossier at most, its CR LF among them; and of the lent line of a feed.
+    LINE: usize = 4_096;
+    /// Bytes of a staging area that has room for the rows of any dossier, [`BODY_WIDE`] bytes each.
+    STAGING: usize = 2_427 * 66;
+    /// Numbers of a feed.
+    FEED: usize = 48;
 
     /// The desk as a sender: it sends no rows, and withdraws anybody's message.
     SENDER: u8 = 0;

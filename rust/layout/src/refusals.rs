@@ -7,6 +7,12 @@ pub enum Call {
     Open,
     #[allow(missing_docs)]
     Message,
+    /// The beginning of a message in parts.
+    FeedBegin,
+    /// A part of a message in parts.
+    Feed,
+    /// The end of a message in parts.
+    FeedEnd,
     #[allow(missing_docs)]
     Withdraw,
     #[allow(missing_docs)]
@@ -14,8 +20,15 @@ pub enum Call {
 }
 
 /// Every call with its name.
-pub const CALLS: [(Call, &str); 4] =
-    [(Call::Open, "open"), (Call::Message, "message"), (Call::Withdraw, "withdraw"), (Call::Board, "board")];
+pub const CALLS: [(Call, &str); 7] = [
+    (Call::Open, "open"),
+    (Call::Message, "message"),
+    (Call::FeedBegin, "feed_begin"),
+    (Call::Feed, "feed"),
+    (Call::FeedEnd, "feed_end"),
+    (Call::Withdraw, "withdraw"),
+    (Call::Board, "board"),
+];
 
 impl Call {
     /// The call's name.
@@ -31,7 +44,8 @@ pub enum Places {
     None,
     /// The value is a byte offset into the dossier, from 0.
     Offset,
-    /// The value is a line of the dossier, from 1.
+    /// The value is a line of the dossier, from 1. At the end of a message in parts it may be 0: the sender was
+    /// registered when the line was read, and is not now.
     Line,
     /// The value is a line, the second value a column of it, both from 1.
     LineAndColumn,
@@ -54,9 +68,10 @@ pub struct RefusalForm {
     pub of_dossier: bool,
 }
 
-const ON_THE_DAY: &[Call] = &[Call::Open, Call::Message, Call::Withdraw];
-const READING: &[Call] = &[Call::Open, Call::Message];
-const ON_WHAT_IS_LENT: &[Call] = &[Call::Message, Call::Withdraw, Call::Board];
+const ON_THE_DAY: &[Call] = &[Call::Open, Call::Message, Call::FeedEnd, Call::Withdraw];
+const READING: &[Call] = &[Call::Open, Call::Message, Call::FeedEnd];
+const ON_WHAT_IS_LENT: &[Call] = &[Call::Message, Call::Feed, Call::FeedEnd, Call::Withdraw, Call::Board];
+const TAKING: &[Call] = &[Call::Message, Call::FeedEnd];
 
 const fn form(
     number: u32,
@@ -74,9 +89,16 @@ const fn of_dossier(form: RefusalForm) -> RefusalForm {
 
 /// The refusals in the order in which they are looked for: where several hold, the first is given.
 pub const REFUSALS: &[RefusalForm] = &[
-    form(1, "UNSOUND", Places::None, ON_WHAT_IS_LENT, "counts, book, table or register cannot be worked with"),
+    form(
+        1,
+        "UNSOUND",
+        Places::None,
+        ON_WHAT_IS_LENT,
+        "counts, book, table, register, feed or staged rows cannot be worked with",
+    ),
     of_dossier(form(2, "TOO_LONG", Places::None, READING, "a dossier has more than 65,536 bytes")),
     of_dossier(form(3, "SYNTAX", Places::Offset, READING, "a dossier is not well formed")),
+    of_dossier(form(15, "LINE_LONG", Places::Line, READING, "a line has more than 4,096 bytes")),
     of_dossier(form(
         4,
         "FORM",
@@ -85,7 +107,8 @@ pub const REFUSALS: &[RefusalForm] = &[
         "a wanted column stands twice or is missing, or a line has another number of fields than its label line",
     )),
     of_dossier(form(5, "FIELD", Places::LineAndColumn, READING, "a wanted field is outside its type")),
-    form(6, "NOT_REGISTERED", Places::Line, &[Call::Message], "the sender is not registered for a row's owner"),
+    form(6, "NOT_REGISTERED", Places::Line, TAKING, "the sender is not registered for a row's owner"),
+    form(14, "STAGING_SHORT", Places::None, &[Call::FeedEnd], "there is no room in the staging area"),
     form(7, "BOOK_SHORT", Places::None, READING, "there is no room in the book"),
     form(9, "KEY_TWICE", Places::None, &[Call::Open], "a passage is planned twice"),
     form(10, "NO_MESSAGE", Places::None, &[Call::Withdraw], "no message has the number"),
@@ -119,5 +142,9 @@ mod tests {
         numbers.sort();
         assert_eq!(numbers, (1..=REFUSALS.len() as u32).collect::<Vec<_>>());
         assert_eq!(numbers_of(Call::Withdraw), [0, 1, 10, 12, 11, 8]);
+        assert_eq!(numbers_of(Call::Message), [0, 1, 2, 3, 15, 4, 5, 6, 7, 8]);
+        assert_eq!(numbers_of(Call::FeedBegin), [0]);
+        assert_eq!(numbers_of(Call::Feed), [0, 1]);
+        assert_eq!(numbers_of(Call::FeedEnd), [0, 1, 2, 3, 15, 4, 5, 6, 14, 7, 8]);
     }
 }

@@ -3,11 +3,12 @@
 //!
 //! An answer of a call on the day has six numbers, a board's the first three of them: [`layout::ANSWER_NUMBER`] and what
 //! follows it say which. The counts of an answer go to the next call. Any bytes and any numbers may be passed: a call
-//! refuses what it cannot take, and a refused call leaves every byte as it was.
+//! refuses what it cannot take, and a refused call leaves every byte as it was. The beginning and the parts of a feed
+//! have no answer but its number.
 #![warn(missing_docs)]
 #![deny(unsafe_op_in_unsafe_fn)]
 
-use layout::{ANSWER, ANSWER_NUMBER, BOARD_ANSWER};
+use layout::{ANSWER, ANSWER_NUMBER, BOARD_ANSWER, FEED, LINE};
 
 extern "C" {
     fn desk_open(
@@ -35,6 +36,31 @@ extern "C" {
         table_len: usize,
         used: u64,
         rows: u64,
+        answer: *mut u64,
+    ) -> u32;
+    fn desk_feed_begin(sender: u8, feed: *mut u64) -> u32;
+    fn desk_feed(
+        part: *const u8,
+        part_len: usize,
+        register: *const u8,
+        register_len: usize,
+        staging: *mut u8,
+        staging_len: usize,
+        line: *mut u8,
+        feed: *mut u64,
+    ) -> u32;
+    fn desk_feed_end(
+        register: *const u8,
+        register_len: usize,
+        staging: *const u8,
+        staging_len: usize,
+        book: *mut u8,
+        book_len: usize,
+        table: *mut u8,
+        table_len: usize,
+        used: u64,
+        rows: u64,
+        feed: *mut u64,
         answer: *mut u64,
     ) -> u32;
     fn desk_withdraw(
@@ -120,6 +146,62 @@ pub fn message(
             table.len(),
             used,
             rows,
+            answer.as_mut_ptr(),
+        )
+    };
+    checked(number, answer)
+}
+
+/// Begins a feed: a message from this sender, in parts. Writes all numbers of the feed, and is 0.
+pub fn feed_begin(sender: u8, feed: &mut [u64; FEED]) -> u32 {
+    // SAFETY: `feed` has its numbers, and the library does not keep it.
+    unsafe { desk_feed_begin(sender, feed.as_mut_ptr()) }
+}
+
+/// Takes the next part of a message: 0, or 1 where the numbers are those of no begun feed, and then nothing is changed.
+/// Rows wait in `staging`, and a line that is cut in `line`. Both, and the feed, are lent again to the calls that follow.
+pub fn feed(part: &[u8], register: &[u8], staging: &mut [u8], line: &mut [u8; LINE], feed: &mut [u64; FEED]) -> u32 {
+    // SAFETY: as for `open`, but that there is no answer; `line` and `feed` have their fixed lengths.
+    unsafe {
+        desk_feed(
+            part.as_ptr(),
+            part.len(),
+            register.as_ptr(),
+            register.len(),
+            staging.as_mut_ptr(),
+            staging.len(),
+            line.as_mut_ptr(),
+            feed.as_mut_ptr(),
+        )
+    }
+}
+
+/// Ends a feed: takes the rows that wait into book and table, as [`message`] does. Accepted, the feed is all zeros; refused,
+/// it is as it was and may be ended again.
+pub fn feed_end(
+    register: &[u8],
+    staging: &[u8],
+    book: &mut [u8],
+    table: &mut [u8],
+    used: u64,
+    rows: u64,
+    feed: &mut [u64; FEED],
+) -> [u64; ANSWER] {
+    let mut answer = [0; ANSWER];
+    // SAFETY: as for `open`; `feed` has its numbers, and the staging area is only read.
+    let number = unsafe {
+        desk_feed_end(
+            register.as_ptr(),
+            register.len(),
+            staging.as_ptr(),
+            staging.len(),
+            book.as_mut_ptr(),
+            book.len(),
+            table.as_mut_ptr(),
+            table.len(),
+            used,
+            rows,
+            feed.as_mut_ptr(),
             answer.as_mut_ptr(),
         )
     };
