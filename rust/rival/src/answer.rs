@@ -5,6 +5,8 @@ use super::syntax::{self, Index};
 
 /// The longest dossier.
 pub const DOSSIER: usize = 65_536;
+/// The longest line, with its line end.
+pub const LINE: usize = 4_096;
 
 /// A refusal: number, value, second value.
 #[derive(Clone, Copy)]
@@ -30,10 +32,15 @@ impl From<Fault> for Refusal {
     }
 }
 
-/// Size and form of a dossier: refusals 2 and 3.
+/// Size, form and lines of a dossier: refusals 2, 3 and 15.
 pub fn form(dossier: &[u8]) -> Result<Index, Refusal> {
     if dossier.len() > DOSSIER {
         return Err(Refusal::bare(2));
     }
-    syntax::scan(dossier).map_err(|offset| Refusal(3, offset as u64, 0))
+    let index = syntax::scan(dossier).map_err(|offset| Refusal(3, offset as u64, 0))?;
+    let wide = |ends: &[u32]| (ends[1] - ends[0]) as usize > LINE;
+    match index.lines.windows(2).position(wide) {
+        Some(line) => Err(Refusal(15, line as u64 + 1, 0)),
+        None => Ok(index),
+    }
 }

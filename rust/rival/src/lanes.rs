@@ -34,6 +34,13 @@ mod fast {
         let marks = v.map(|x| vorrq_u8(vcltq_u8(x, vdupq_n_u8(32)), vceqq_u8(x, vdupq_n_u8(b'\\'))));
         (mask(bars), mask(marks))
     }
+
+    #[inline]
+    #[target_feature(enable = "neon")]
+    pub fn ends64(bytes: &[u8; 64]) -> u64 {
+        let v = [load(bytes, 0), load(bytes, 16), load(bytes, 32), load(bytes, 48)];
+        mask(v.map(|x| vorrq_u8(vceqq_u8(x, vdupq_n_u8(b'|')), vceqq_u8(x, vdupq_n_u8(b'\r')))))
+    }
 }
 
 #[cfg(all(target_arch = "x86_64", target_feature = "sse2"))]
@@ -62,6 +69,19 @@ mod fast {
         }
         (bars, marks)
     }
+
+    #[inline]
+    #[target_feature(enable = "sse2")]
+    pub fn ends64(bytes: &[u8; 64]) -> u64 {
+        let mut ends = 0;
+        for at in [0, 16, 32, 48] {
+            let v = load(bytes, at);
+            let bar = _mm_cmpeq_epi8(v, _mm_set1_epi8(b'|' as i8));
+            let end = _mm_or_si128(bar, _mm_cmpeq_epi8(v, _mm_set1_epi8(b'\r' as i8)));
+            ends |= (_mm_movemask_epi8(end) as u32 as u64) << at;
+        }
+        ends
+    }
 }
 
 #[cfg(any(
@@ -78,6 +98,10 @@ mod plain {
 
     pub fn marks64(bytes: &[u8; 64]) -> (u64, u64) {
         (mask(bytes, |b| b == b'|'), mask(bytes, |b| b < 32 || b == b'\\'))
+    }
+
+    pub fn ends64(bytes: &[u8; 64]) -> u64 {
+        mask(bytes, |b| b == b'|' || b == b'\r')
     }
 }
 
@@ -102,6 +126,11 @@ mod chosen {
     pub fn marks64(bytes: &[u8; 64]) -> (u64, u64) {
         unsafe { fast::marks64(bytes) }
     }
+
+    #[inline(always)]
+    pub fn ends64(bytes: &[u8; 64]) -> u64 {
+        unsafe { fast::ends64(bytes) }
+    }
 }
 #[cfg(not(any(
     all(target_arch = "aarch64", target_feature = "neon"),
@@ -113,6 +142,12 @@ use plain as chosen;
 #[inline(always)]
 pub fn marks64(bytes: &[u8; 64]) -> (u64, u64) {
     chosen::marks64(bytes)
+}
+
+/// Bars and CRs: in a well-formed line, the ends of its fields.
+#[inline(always)]
+pub fn ends64(bytes: &[u8; 64]) -> u64 {
+    chosen::ends64(bytes)
 }
 
 /// Not 0 if a padded text breaks its form: a byte that is not in 32 to 126 has
@@ -139,6 +174,7 @@ mod tests {
             for at in 0..64 {
                 block[at] = b;
                 assert_eq!(marks64(&block), plain::marks64(&block));
+                assert_eq!(ends64(&block), plain::ends64(&block));
                 block[at] = [b'|', b'\\', b'\r', b'x'][at % 4];
             }
         }

@@ -1,7 +1,7 @@
 //! Message: rows of a dossier go into the book and change the table.
 
 use super::answer::{form, Refusal};
-use super::book;
+use super::book::{self, Parts};
 use super::passage::*;
 use super::rows::{self, Fields, Wanted};
 use super::table;
@@ -9,7 +9,7 @@ use super::table;
 /// Sender and owner.
 const PAIR: usize = 1 + TEXT;
 
-const WANTED: Wanted = Wanted {
+pub const WANTED: Wanted = Wanted {
     table: b"DATEDPASSTIME",
     columns: &[
         b"DataOwnerCode",
@@ -56,12 +56,28 @@ fn accept(
     used: u64,
     rows: u64,
 ) -> Result<(u32, usize, usize), Refusal> {
-    if !register.len().is_multiple_of(PAIR) || register.len() > 64 * PAIR {
-        return Err(Refusal::bare(1));
-    }
-    let parts = book::sound(lent_book, used).ok_or(Refusal::bare(1))?;
-    let rows = table::sound(lent_table, rows).ok_or(Refusal::bare(1))?;
+    let (parts, rows) = sound(register, lent_book, lent_table, used, rows).ok_or(Refusal::bare(1))?;
     let updates = read(dossier, &owners(sender, register))?;
+    take(&updates, sender, lent_book, lent_table, &parts, rows)
+}
+
+/// Register, book and table can be worked with: the book's parts and the table's rows.
+pub fn sound(register: &[u8], book: &[u8], table: &[u8], used: u64, rows: u64) -> Option<(Parts, usize)> {
+    if !register.len().is_multiple_of(PAIR) || register.len() > 64 * PAIR {
+        return None;
+    }
+    Some((book::sound(book, used)?, table::sound(table, rows)?))
+}
+
+/// Takes the updates into book and table, where there is room: refusals 7 and 8.
+pub fn take(
+    updates: &[Body],
+    sender: u8,
+    lent_book: &mut [u8],
+    lent_table: &mut [u8],
+    parts: &Parts,
+    rows: usize,
+) -> Result<(u32, usize, usize), Refusal> {
     if updates.is_empty() {
         return Ok((0, parts.used, rows));
     }
@@ -69,7 +85,7 @@ fn accept(
     if end > book::room(lent_book) {
         return Err(Refusal::bare(7));
     }
-    let steps = locate(lent_table, rows, &updates);
+    let steps = locate(lent_table, rows, updates);
     let total = rows + steps.new.len();
     if total > table::room(lent_table) {
         return Err(Refusal::bare(8));
@@ -79,7 +95,7 @@ fn accept(
     }
     table::insert(lent_table, rows, &steps.new);
     let number = parts.last + 1;
-    write(&mut lent_book[parts.used..end], number, sender, &updates);
+    write(&mut lent_book[parts.used..end], number, sender, updates);
     Ok((number, end, total))
 }
 
@@ -100,7 +116,12 @@ fn owners(sender: u8, register: &[u8]) -> Vec<[u8; TEXT]> {
     register.chunks_exact(PAIR).filter(of_sender).map(owner).collect()
 }
 
-/// Reads all rows; refusals 2 to 6.
+/// The sender is registered for the owner. Pairs that are not whole do not count.
+pub fn grants(register: &[u8], sender: u8, owner: &[u8; TEXT]) -> bool {
+    sender != 0 && register.chunks_exact(PAIR).any(|pair| pair[0] == sender && pair[1..] == *owner)
+}
+
+/// Reads all rows; refusals 2 to 6, and 15.
 fn read(dossier: &[u8], owners: &[[u8; TEXT]]) -> Result<Vec<Body>, Refusal> {
     let index = form(dossier)?;
     // A row takes a line, and more than 64 bytes.
@@ -130,7 +151,7 @@ fn read(dossier: &[u8], owners: &[[u8; TEXT]]) -> Result<Vec<Body>, Refusal> {
 
 /// Fills a body from one row; the answer has a bit for each faulty column.
 #[inline(always)]
-fn update(fields: &Fields, body: &mut Body) -> u32 {
+pub fn update(fields: &Fields, body: &mut Body) -> u32 {
     let mut faults = 0;
     let mut text = |column: usize, at: usize| match fields.field(column).text() {
         Some(text) => body[at..at + TEXT].copy_from_slice(&text),

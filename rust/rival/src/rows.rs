@@ -5,7 +5,7 @@ use super::syntax::Index;
 use super::types::Field;
 
 /// Most wanted columns of any table, and a slot where unwanted ones end up.
-const SLOTS: usize = 32;
+pub const SLOTS: usize = 32;
 const UNWANTED: u8 = SLOTS as u8 - 1;
 
 /// A wanted table: its name and its columns. Bit `i` of `optional` is set when
@@ -25,9 +25,9 @@ pub enum Fault {
 
 /// The wanted fields of one data line.
 pub struct Fields<'a> {
-    bytes: &'a [u8],
-    spans: [(u32, u32); SLOTS],
-    present: u32,
+    pub bytes: &'a [u8],
+    pub spans: [(u32, u32); SLOTS],
+    pub present: u32,
 }
 
 impl<'a> Fields<'a> {
@@ -48,22 +48,29 @@ impl<'a> Fields<'a> {
     }
 }
 
-/// Goes along the field ends of consecutive lines.
-struct Ends<'a> {
+/// Goes along the field ends of a line.
+pub trait Ends {
+    /// The next end. A line's CR is always one, so there is one to be found.
+    fn next(&mut self) -> usize;
+}
+
+/// The ends of consecutive lines, as the scan has left them.
+struct Indexed<'a> {
     words: &'a [u64],
     at: usize,
     word: u64,
 }
 
-impl<'a> Ends<'a> {
+impl<'a> Indexed<'a> {
     /// The ends from `offset` on.
     fn from(words: &'a [u64], offset: usize) -> Self {
         let at = offset / 64;
         let word = words.get(at).map_or(0, |w| w & (u64::MAX << (offset % 64)));
-        Ends { words, at, word }
+        Indexed { words, at, word }
     }
+}
 
-    /// The next end; a line's CR is always one, so there is one to be found.
+impl Ends for Indexed<'_> {
     #[inline(always)]
     fn next(&mut self) -> usize {
         while self.word == 0 {
@@ -80,17 +87,17 @@ impl<'a> Ends<'a> {
 }
 
 /// Where the wanted columns stand in a table's lines.
-struct Labels {
+pub struct Labels {
     /// By column of the line: the wanted column's number, or `UNWANTED`.
-    slots: Vec<u8>,
+    pub slots: Vec<u8>,
     /// By wanted column: its place in the line, from 1.
-    places: [u32; SLOTS],
-    present: u32,
+    pub places: [u32; SLOTS],
+    pub present: u32,
 }
 
 impl Labels {
     /// Reads a label line; `None` if a wanted name is missing or stands twice.
-    fn read(bytes: &[u8], ends: &mut Ends, start: usize, stop: usize, wanted: &Wanted) -> Option<Labels> {
+    pub fn read(bytes: &[u8], ends: &mut impl Ends, start: usize, stop: usize, wanted: &Wanted) -> Option<Labels> {
         let mut labels = Labels { slots: Vec::new(), places: [0; SLOTS], present: 0 };
         let mut start = start;
         loop {
@@ -124,7 +131,7 @@ impl Labels {
 
 /// Splits one data line; `false` if it has not one field for each label.
 #[inline(always)]
-fn split(fields: &mut Fields, slots: &[u8], ends: &mut Ends, start: usize, stop: usize) -> bool {
+fn split(fields: &mut Fields, slots: &[u8], ends: &mut Indexed, start: usize, stop: usize) -> bool {
     let mut start = start;
     let Some((&last, others)) = slots.split_last() else {
         return false;
@@ -159,7 +166,7 @@ pub fn read(
             continue;
         }
         let start = lines[table + 1] as usize + 2;
-        let mut ends = Ends::from(&index.ends, start);
+        let mut ends = Indexed::from(&index.ends, start);
         let stop = lines[table + 2] as usize - 2;
         let Some(labels) = Labels::read(bytes, &mut ends, start, stop, wanted) else {
             return Err(Fault::Shape(table as u64 + 2));
@@ -183,7 +190,7 @@ pub fn read(
 }
 
 /// The name at `start` runs to the first bar or the line's end.
-fn is_named(bytes: &[u8], start: usize, name: &[u8]) -> bool {
+pub fn is_named(bytes: &[u8], start: usize, name: &[u8]) -> bool {
     let rest = &bytes[start..];
     rest.starts_with(name) && matches!(rest.get(name.len()), Some(b'|' | b'\r'))
 }
