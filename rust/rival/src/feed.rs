@@ -24,7 +24,7 @@ pub const LINE_START: usize = 2;
 pub const LINES: usize = 3;
 /// Rows so far, up to the first fault.
 pub const ROWS: usize = 4;
-/// Rows that lie in the staging area.
+/// Rows that lie in the staging area, from its start on.
 pub const LYING: usize = 5;
 /// A table is read: its name is the wanted one.
 pub const WANTS: usize = 6;

@@ -103,12 +103,10 @@ impl Staging<'_> {
         }
         let place = self.feed[ROWS] as usize;
         self.feed[ROWS] += 1;
-        // Behind a row that found no room none lies either.
-        if self.feed[LYING] as usize == place {
-            if let Some(room) = self.rows.get_mut(place * BODY..(place + 1) * BODY) {
-                room.copy_from_slice(&body);
-                self.feed[LYING] += 1;
-            }
+        // Each has its own place; those count that lie there with all before them.
+        if let Some(room) = self.rows.get_mut(place * BODY..(place + 1) * BODY) {
+            room.copy_from_slice(&body);
+            self.feed[LYING] += (self.feed[LYING] as usize == place) as u64;
         }
     }
 }
