@@ -1,13 +1,16 @@
 //! Times the proved library against the rival, in one run on the same input.
 //!
 //! ```text
-//! bench [SAMPLES]
+//! bench [SAMPLES [TABLE]]
 //! ```
+//!
+//! Of its four tables `calls`, `early`, `feeds` and `reasons`, TABLE alone is printed where it is given.
 //!
 //! Samples of the two sides alternate. Before each one the lent bytes are set anew, outside the
 //! measured time. The table printed gives the median and, in brackets, the 10th and the 90th
 //! percentile, of either side's time and of the ratio of neighbouring samples.
 
+mod feeds;
 mod reasons;
 
 use std::hint::black_box;
@@ -35,24 +38,36 @@ const LONG: usize = 8_193;
 
 fn main() {
     let samples = std::env::args().nth(1).and_then(|word| word.parse().ok()).unwrap_or(1_001);
-    println!("Microseconds: median (10th to 90th percentile) of {samples} samples a side.\n");
+    let table = std::env::args().nth(2);
+    let prints = |name: &str| table.as_ref().is_none_or(|table| table == name);
+    println!("Microseconds: median (10th to 90th percentile) of {samples} samples a side.");
+    if prints("calls") {
+        print_head("Calls.");
+        each_size(|rows| cases(rows).iter().for_each(|case| measure(rows, case, samples)));
+    }
+    if prints("early") {
+        print_head("Where the proved library's time goes, as far as it shows from outside.");
+        each_size(|rows| parts(rows).iter().for_each(|case| measure(rows, case, samples)));
+    }
+    if prints("feeds") {
+        print_head("Messages in parts: the beginning, the parts and the end together.");
+        each_size(|rows| feeds::print(rows, samples));
+    }
+    if prints("reasons") {
+        println!("\nWhy: parts of calls in the proved library's way of working, by the rival's compiler.\n");
+        reasons::print(ROWS, samples);
+    }
+}
+
+/// Tables of few rows and of as many as there can be.
+fn each_size(print: impl FnMut(usize)) {
+    [256, ROWS].into_iter().for_each(print);
+}
+
+fn print_head(about: &str) {
+    println!("\n{about}\n");
     println!("| rows | call | answer | proved | rival | proved / rival |");
     println!("|---|---|---|---|---|---|");
-    for rows in [256, ROWS] {
-        for case in cases(rows) {
-            measure(rows, &case, samples);
-        }
-    }
-    println!("\nWhere the proved library's time goes, as far as it shows from outside.\n");
-    println!("| rows | call | answer | proved | rival | proved / rival |");
-    println!("|---|---|---|---|---|---|");
-    for rows in [256, ROWS] {
-        for case in parts(rows) {
-            measure(rows, &case, samples);
-        }
-    }
-    println!("\nWhy: parts of calls in the proved library's way of working, by the rival's compiler.\n");
-    reasons::print(ROWS, samples);
 }
 
 struct Case {
@@ -69,24 +84,30 @@ fn case(name: impl Into<String>, call: Call, lent: &State) -> Case {
 fn measure(rows: usize, case: &Case, samples: usize) {
     let answer = agreed_answer(case);
     let mut room = Room::new(&case.job);
-    let (mut proved, mut rival, mut ratio) = (Vec::new(), Vec::new(), Vec::new());
+    let times = by_turns(samples, || (room.sample::<Proved>(&case.job), room.sample::<Rival>(&case.job)));
+    print_line(rows, &case.name, &answer, times);
+}
+
+/// Times of the proved library, of the rival, and the ratio of neighbouring ones.
+type Times = [Vec<f64>; 3];
+
+fn by_turns(samples: usize, mut sample: impl FnMut() -> (f64, f64)) -> Times {
+    let mut times = [const { Vec::new() }; 3];
     for round in 0..samples + samples / 10 {
-        let one = room.sample::<Proved>(&case.job);
-        let other = room.sample::<Rival>(&case.job);
+        let (proved, rival) = sample();
         // The first tenth only warms up.
         if round >= samples / 10 {
-            proved.push(one);
-            rival.push(other);
-            ratio.push(one / other);
+            for (times, time) in times.iter_mut().zip([proved, rival, proved / rival]) {
+                times.push(time);
+            }
         }
     }
-    println!(
-        "| {rows} | {} | {answer} | {} | {} | {} |",
-        case.name,
-        spread(&mut proved, 1),
-        spread(&mut rival, 1),
-        spread(&mut ratio, 2)
-    );
+    times
+}
+
+fn print_line(rows: usize, name: &str, answer: &str, [mut proved, mut rival, mut ratio]: Times) {
+    let columns = [spread(&mut proved, 1), spread(&mut rival, 1), spread(&mut ratio, 2)];
+    println!("| {rows} | {name} | {answer} | {} |", columns.join(" | "));
 }
 
 /// What is timed must be the same work: both sides' outcomes are compared first.
