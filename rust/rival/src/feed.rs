@@ -93,6 +93,11 @@ pub fn feed(part: &[u8], register: &[u8], staging: &mut [u8], line: &mut [u8; LI
         return 0;
     }
     let before = before as usize;
+    if let &[byte] = part {
+        if plain_byte(byte, before, line, feed) {
+            return 0;
+        }
+    }
     let part = &part[..part.len().min(DOSSIER - before)];
     let (at, kind) = place(feed);
     let sender = sender(feed);
@@ -111,6 +116,24 @@ pub fn feed(part: &[u8], register: &[u8], staging: &mut [u8], line: &mut [u8; LI
         Err(offset) => feed[SYNTAX] = (before + offset) as u64 + 1,
     }
     0
+}
+
+/// A single byte inside a line that is neither a mark nor a fault: most of those
+/// that come one by one.
+#[inline(always)]
+fn plain_byte(byte: u8, before: usize, line: &mut [u8; LINE], feed: &mut Numbers) -> bool {
+    let (at, kind) = place(feed);
+    let plain = matches!(at, At::FieldStart | At::Field) && byte >= 32 && byte != b'\\';
+    if plain {
+        let at = if byte == b'|' { At::FieldStart } else { At::Field };
+        feed[HEAD] = feed[HEAD] & !7 | at as u64;
+        if reads(feed, kind) {
+            if let Some(room) = line.get_mut(before - feed[LINE_START] as usize) {
+                *room = byte;
+            }
+        }
+    }
+    plain
 }
 
 /// Keeps what the part has of the line that has not ended.
