@@ -130,6 +130,26 @@ fn join(bodies: &[&[u8]]) {
     assert!(area[..room * BODY] == bodies.concat()[..room * BODY]);
 }
 
+/// A line around the most bytes, before and behind a fault of form, in a table that is wanted and in one that is not.
+#[test]
+fn long_lines_agree_with_the_rival() {
+    for size in 4_094..4_099 {
+        for place in 0..6 {
+            for table in ["DATEDPASSTIME", "OTHER"] {
+                let mut lines = ["\\G", "\\T", "\\L", "a|b", "", "c"].map(String::from);
+                lines[1] = format!("\\T{table}|");
+                lines[place] += &"x".repeat(size - 2 - lines[place].len());
+                let dossier = (lines.join("\r\n") + "\r\n").into_bytes();
+                let answer = Rival::message(&dossier, 1, &[], &mut [], &mut [], 0, 0);
+                let refused = reading::read_message(&dossier, &[], 1, &mut []).err().unwrap_or([0; 3]);
+                assert_eq!(refused, answer[..3], "a line of {size} bytes at {place}, {table}");
+                let number = if size > 4_096 { 15 } else { 4 * (table == "DATEDPASSTIME") as u64 };
+                assert_eq!(answer[0], number);
+            }
+        }
+    }
+}
+
 /// Bits of form put together at random: what generated dossiers seldom have.
 #[test]
 fn syntax_agrees_with_the_rival() {

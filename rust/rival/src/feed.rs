@@ -53,7 +53,8 @@ fn head(sender: u8, at: At, kind: stream::Kind) -> u64 {
 fn begun(feed: &Numbers) -> bool {
     (feed[HEAD] & !(0xff << SENDER_AT | 3 << KIND_AT | 7) == TAG)
         & (feed[LINE_START] <= DOSSIER as u64)
-        & (feed[LINE_START] + (feed[HEAD] & 7 != At::LineStart as u64) as u64 <= feed[BYTES])
+        & ((feed[LINE_START] < feed[BYTES])
+            | (feed[LINE_START] == feed[BYTES]) & (feed[HEAD] & 7 == At::LineStart as u64))
         & (feed[LINES] <= feed[LINE_START])
         & (feed[ROWS] <= MOST_ROWS)
         & (feed[LYING] <= feed[ROWS])
@@ -218,4 +219,140 @@ fn read_faults(feed: &Numbers) -> Result<(), Refusal> {
         }
     }
     Ok(())
+}
+
+#[cfg(test)]
+mod tests {
+    use super::super::message::message;
+    use super::*;
+
+    const LABELS: &str = "DataOwnerCode|OperationDate|LinePlanningNumber|VehicleJourneyNumber|FortifyOrderNumber|\
+        UserStopCode|UserStopOrderNumber|DestinationCode|LastUpdateTimeStamp|TripStopStatus|ExpectedArrivalTime|x|\
+        ExpectedDepartureTime|JourneyStopType";
+    const ROW: &str = "CXX|2016-03-01|A\\i|7|0|S1|1|E\\p|2016-03-01T09:00:00+01:00|DRIVING|\\0|\\0|10:07:30|FIRST";
+    const REGISTER: &[u8] = b"\x03CXX\0\0\0\0\0\0\0";
+
+    struct Memory {
+        staging: Vec<u8>,
+        line: [u8; LINE],
+        feed: Numbers,
+    }
+
+    fn begun_by(sender: u8, room: usize) -> Memory {
+        let mut memory = Memory { staging: vec![7; room], line: [7; LINE], feed: [7; 48] };
+        assert_eq!(feed_begin(sender, &mut memory.feed), 0);
+        memory
+    }
+
+    impl Memory {
+        fn fed(&mut self, part: &[u8]) -> u32 {
+            feed(part, REGISTER, &mut self.staging, &mut self.line, &mut self.feed)
+        }
+
+        fn ended(&mut self) -> [u64; 6] {
+            feed_end(REGISTER, &self.staging, &mut [0; 720], &mut [0; 670], 0, 0, &mut self.feed)
+        }
+    }
+
+    fn whole(dossier: &[u8]) -> [u64; 6] {
+        message(dossier, 3, REGISTER, &mut [0; 720], &mut [0; 670], 0, 0)
+    }
+
+    /// Dossiers that are right, and such as get each refusal of reading, by more than one fault where that is possible.
+    fn dossiers() -> Vec<(u64, Vec<u8>)> {
+        let of = |rows: &[&str]| {
+            let rows: String = rows.iter().map(|row| format!("{row}\r\n")).collect();
+            format!("\\Gx|\r\n\\Tother\r\n\\L\r\n\r\n\\TDATEDPASSTIME|\r\n\\L{LABELS}\r\n{rows}").into_bytes()
+        };
+        let long = format!("{}{}", ROW, "y".repeat(4_100));
+        let (short, stranger, wrong) = ("CXX|x", ROW.replace("CXX", "ARR"), ROW.replace("10:0", "x"));
+        let mut cut = of(&[ROW, ROW]);
+        cut.pop();
+        vec![
+            (0, of(&[ROW, &ROW.replace("|7|", "|8|"), "\\Tnext", "\\L|", "\\0|x"])),
+            (3, cut),
+            (3, of(&[ROW, &long, short, "a\\0"])),
+            (3, of(&[ROW, "\\Tdatedpasstime"])),
+            (15, of(&[ROW, short, &long, ROW])),
+            (4, of(&[ROW, &stranger, &wrong, ROW, short])),
+            (4, of(&[ROW, "\\TDATEDPASSTIME", "\\LDataOwnerCode", ROW])),
+            (5, of(&[ROW, &stranger, &wrong, ROW])),
+            (6, of(&[ROW, &stranger, ROW])),
+            (2, [of(&[ROW]), vec![b'q'; DOSSIER]].concat()),
+        ]
+    }
+
+    /// The answer is that of the one call, and the staging area is the same, wherever a dossier is cut: short ones anywhere.
+    #[test]
+    fn cuts_are_free() {
+        for (number, dossier) in dossiers() {
+            let expected = whole(&dossier);
+            assert_eq!(expected[0], number);
+            let mut once = begun_by(3, 200);
+            once.fed(&dossier);
+            for cut in (0..=dossier.len()).step_by(1 + dossier.len() / 2_000) {
+                let mut parts = begun_by(3, 200);
+                let middle = cut + (dossier.len() - cut) / 3;
+                for part in [&dossier[..cut], &dossier[cut..middle], &dossier[middle..]] {
+                    assert_eq!(parts.fed(part), 0);
+                }
+                assert!(parts.staging == once.staging, "{number}, cut at {cut}");
+                let before = parts.feed;
+                assert_eq!(parts.ended(), expected, "cut at {cut}");
+                assert!(parts.feed == if number == 0 { [0; 48] } else { before });
+            }
+            let mut bytes = begun_by(3, 200);
+            dossier.iter().for_each(|&byte| assert_eq!(bytes.fed(&[byte]), 0));
+            assert!(bytes.staging == once.staging && bytes.ended() == expected);
+        }
+    }
+
+    /// Rows for which there is no room, an owner that is no longer granted, and rows that somebody has changed.
+    #[test]
+    fn the_end_looks_at_what_is_staged() {
+        let (_, dossier) = dossiers().remove(0);
+        let mut short = begun_by(3, 2 * BODY - 1);
+        short.fed(&dossier);
+        assert_eq!(short.ended(), [14, 0, 0, 0, 0, 0]);
+        assert_eq!(short.staging[BODY..], [7; BODY - 1]);
+        let mut fed = begun_by(3, 2 * BODY);
+        fed.fed(&dossier);
+        let changed = feed_end(&[], &fed.staging, &mut [0; 720], &mut [0; 670], 0, 0, &mut fed.feed);
+        assert_eq!(changed, [6, 0, 0, 0, 0, 0]);
+        fed.staging[0] = 0;
+        assert_eq!(fed.ended()[0], 1);
+        fed.staging[0] = b'C';
+        assert_eq!(fed.ended(), [0, 1, 0, 0, 144, 2]);
+        assert_eq!((fed.ended()[0], fed.fed(b"x")), (1, 1));
+    }
+
+    /// Numbers that nobody has written into a feed are none, or do no harm.
+    #[test]
+    fn any_numbers_may_stand_there() {
+        let mut random = 1u64;
+        let mut next = move || {
+            random = random.wrapping_mul(6_364_136_223_846_793_005).wrapping_add(1);
+            random >> 33
+        };
+        let (_, dossier) = dossiers().remove(0);
+        for _ in 0..20_000 {
+            let mut memory = begun_by(3, 200);
+            memory.fed(&dossier[..next() as usize % dossier.len()]);
+            for _ in 0..next() % 3 {
+                let values = [0, 1, next() % 70_000, next(), u64::MAX];
+                memory.feed[next() as usize % 20] = values[next() as usize % 5];
+            }
+            if next() % 4 == 0 {
+                memory.feed[HEAD] = TAG | next() % 8 | next() % 4 << KIND_AT;
+            }
+            memory.line[next() as usize % 300] = next() as u8;
+            let before = memory.feed;
+            let part = &dossier[next() as usize % dossier.len()..];
+            let taken = memory.fed(part);
+            assert!(taken == 0 || taken == 1 && memory.feed == before);
+            memory.ended();
+        }
+        let mut none = Memory { staging: vec![7; 200], line: [7; LINE], feed: [0; 48] };
+        assert_eq!((none.fed(b"\\G"), none.ended()[0], none.feed), (1, 1, [0; 48]));
+    }
 }

@@ -274,7 +274,21 @@ fn line_step(s: State, line: &[u8], register: &[u8], sender: u8, staging: &mut [
     }
 }
 
-/// How many rows a message has, or the first three numbers of its refusal, 2 to 6.
+/// The first line of what is left that has more than 4,096 bytes with its CR LF, where its first is line `first`.
+fn first_long(rest: &[u8], first: usize) -> Option<usize> {
+    let (mut line, mut rest) = (first, rest);
+    while !rest.is_empty() {
+        let size = find_far(rest, b'\r');
+        if 4_094 < size {
+            return Some(line);
+        }
+        line += 1;
+        rest = &rest[size + 2..];
+    }
+    None
+}
+
+/// How many rows a message has, or the first three numbers of its refusal, 2 to 6 or 15.
 pub fn read_message(d: &[u8], register: &[u8], sender: u8, staging: &mut [u8]) -> Result<usize, [u64; 3]> {
     if 65_536 < d.len() {
         return Err([2, 0, 0]);
@@ -284,11 +298,15 @@ pub fn read_message(d: &[u8], register: &[u8], sender: u8, staging: &mut [u8]) -
     while !rest.is_empty() {
         let size = find_far(rest, b'\r');
         s.line += 1;
-        s = line_step(s, &rest[..size], register, sender, staging);
-        if s.refused[0] == 4 {
-            return Err(s.refused);
+        if 4_094 < size {
+            return Err([15, s.line as u64, 0]);
         }
+        s = line_step(s, &rest[..size], register, sender, staging);
         rest = &rest[size + 2..];
+        if s.refused[0] == 4 {
+            let long = first_long(rest, s.line + 1);
+            return Err(long.map_or(s.refused, |line| [15, line as u64, 0]));
+        }
     }
     if s.refused[0] == 0 {
         Ok(s.rows)
