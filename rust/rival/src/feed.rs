@@ -343,7 +343,7 @@ mod tests {
                 memory.feed[next() as usize % 20] = values[next() as usize % 5];
             }
             if next() % 4 == 0 {
-                memory.feed[HEAD] = TAG | next() % 8 | next() % 4 << KIND_AT;
+                memory.feed[HEAD] = TAG | (next() % 8) | ((next() % 4) << KIND_AT);
             }
             memory.line[next() as usize % 300] = next() as u8;
             let before = memory.feed;

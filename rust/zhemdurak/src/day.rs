@@ -2,9 +2,9 @@ use std::fmt;
 
 use layout::{ANSWER, ANSWER_ROWS, ANSWER_SECOND, ANSWER_USED, ANSWER_VALUE, BOARD_ANSWER, BOOK, ROW, ROWS};
 
-use crate::{Board, Question, Refusal, Register, Sender, Table};
+use crate::{Board, Kept, Question, Refusal, Register, Sender, Table};
 
-/// Bytes that a day may live in: a `Vec<u8>` that it owns, or `&mut [u8]` that it borrows.
+/// Bytes that a day, or a feed's rows, may live in: a `Vec<u8>` that is owned, or `&mut [u8]` that is borrowed.
 pub trait Bytes: AsRef<[u8]> + AsMut<[u8]> {}
 
 impl<B: AsRef<[u8]> + AsMut<[u8]>> Bytes for B {}
@@ -117,7 +117,7 @@ impl<B: Bytes> Day<B> {
     }
 
     /// A message is taken whole or refused whole. Its number is what [`Day::withdraw`] takes; a message without rows is
-    /// accepted, changes nothing and has none.
+    /// accepted, changes nothing and has none. One that comes in parts is a [`Feed`](crate::Feed).
     pub fn message(
         &mut self,
         dossier: &[u8],
@@ -127,6 +127,24 @@ impl<B: Bytes> Day<B> {
         let Counts { used, rows } = self.counts;
         let (book, table) = (self.book.as_mut(), self.table.as_mut());
         let answer = raw::message(dossier, sender.0, register.as_bytes(), book, table, used, rows);
+        self.taken(answer)
+    }
+
+    /// The end of a feed: the rows that wait are taken.
+    pub(crate) fn take_staged(
+        &mut self,
+        kept: &mut Kept,
+        staging: &[u8],
+        register: &Register,
+    ) -> Result<Option<MessageNumber>, Refusal> {
+        let Counts { used, rows } = self.counts;
+        let (book, table) = (self.book.as_mut(), self.table.as_mut());
+        let answer = raw::feed_end(register.as_bytes(), staging, book, table, used, rows, &mut kept.numbers);
+        self.taken(answer)
+    }
+
+    /// The number of a message that was taken.
+    fn taken(&mut self, answer: [u64; ANSWER]) -> Result<Option<MessageNumber>, Refusal> {
         let number = self.keep(answer)? as u32;
         Ok((number != 0).then_some(MessageNumber(number)))
     }

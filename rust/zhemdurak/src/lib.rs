@@ -1,7 +1,8 @@
 //! Departure boards from KV7 and KV8 turbo dossiers, by a library each function of which is proved to meet its promise.
 //!
-//! A [`Day`] is opened with a planning and a calendar, takes messages and gives boards. A call is done whole, or refused
-//! with a [`Refusal`] and nothing changed; it takes any bytes, and never panics for what it is given.
+//! A [`Day`] is opened with a planning and a calendar, takes messages, whole or in parts ([`Feed`]), and gives boards. A
+//! call is done whole, or refused with a [`Refusal`] and nothing changed; it takes any bytes, and never panics for what it
+//! is given.
 //!
 //! ```
 //! use zhemdurak::{Date, Day, Question, Refusal, Register, Sender, Status, Time};
@@ -54,6 +55,7 @@
 
 mod board;
 mod day;
+mod feed;
 mod refusal;
 mod register;
 mod row;
@@ -61,6 +63,7 @@ mod time;
 
 pub use board::{Board, Question};
 pub use day::{Bytes, Counts, Day, MessageNumber};
+pub use feed::{Feed, Kept, NotEnded};
 pub use layout;
 pub use refusal::{Dossier, Refusal};
 pub use register::{NotAdded, Register, Sender};

@@ -8,8 +8,9 @@ use layout::{refusal, RefusalForm, ANSWER_DOSSIER, ANSWER_NUMBER, ANSWER_SECOND,
 #[derive(Clone, Copy, Debug, PartialEq, Eq, Hash)]
 #[non_exhaustive]
 pub enum Refusal {
-    /// 1: counts, book, table or register cannot be worked with. A day made by [`Day::new`](crate::Day::new) and changed
-    /// by its calls alone never gets it.
+    /// 1: counts, book, table, register, feed or staged rows cannot be worked with. A day made by
+    /// [`Day::new`](crate::Day::new) and changed by its calls alone never gets it, and a feed made by
+    /// [`Feed::begin`](crate::Feed::begin) neither.
     Unsound,
     /// 2: a dossier has more than [`layout::DOSSIER`] bytes.
     TooLong {
@@ -41,7 +42,8 @@ pub enum Refusal {
     },
     /// 6: the sender is not registered for a row's owner.
     NotRegistered {
-        /// The first such line, from 1.
+        /// The first such line, from 1. At the end of a [feed](crate::Feed) it is 0 where the sender was registered when
+        /// the line came, and is not now.
         line: u64,
     },
     /// 7: there is no room in the book.
@@ -58,6 +60,15 @@ pub enum Refusal {
     OtherSender,
     /// 13: owner, stop, date, second or horizon is out of its range.
     OutOfRange,
+    /// 14: there is no room in the staging area of a [feed](crate::Feed), or there was none while its rows came.
+    StagingShort,
+    /// 15: a line has more than [`layout::LINE`] bytes, its CR LF among them.
+    LineLong {
+        /// Which dossier has it.
+        dossier: Dossier,
+        /// The first such line, from 1.
+        line: u64,
+    },
     /// A number that this crate has no name for: the library is newer.
     Other {
         /// The number.
@@ -104,6 +115,8 @@ impl Refusal {
             11 => Refusal::AlreadyWithdrawn,
             12 => Refusal::OtherSender,
             13 => Refusal::OutOfRange,
+            14 => Refusal::StagingShort,
+            15 => Refusal::LineLong { dossier, line: value },
             number => Refusal::Other { number, value, second },
         })
     }
@@ -124,6 +137,8 @@ impl Refusal {
             Refusal::AlreadyWithdrawn => 11,
             Refusal::OtherSender => 12,
             Refusal::OutOfRange => 13,
+            Refusal::StagingShort => 14,
+            Refusal::LineLong { .. } => 15,
             Refusal::Other { number, .. } => *number,
         }
     }
@@ -138,6 +153,7 @@ impl Refusal {
         match *self {
             Refusal::TooLong { dossier }
             | Refusal::Syntax { dossier, .. }
+            | Refusal::LineLong { dossier, .. }
             | Refusal::Form { dossier, .. }
             | Refusal::Field { dossier, .. } => Some(dossier),
             Refusal::NotRegistered { .. } => Some(Dossier::Message),
@@ -149,7 +165,7 @@ impl Refusal {
     pub fn values(&self) -> [u64; 2] {
         match *self {
             Refusal::Syntax { offset, .. } => [offset, 0],
-            Refusal::Form { line, .. } | Refusal::NotRegistered { line } => [line, 0],
+            Refusal::LineLong { line, .. } | Refusal::Form { line, .. } | Refusal::NotRegistered { line } => [line, 0],
             Refusal::Field { line, column, .. } => [line, column],
             Refusal::Other { value, second, .. } => [value, second],
             _ => [0, 0],
@@ -168,7 +184,10 @@ impl fmt::Display for Refusal {
         }
         match *self {
             Refusal::Syntax { offset, .. } => write!(f, "byte {offset}: ")?,
-            Refusal::Form { line, .. } | Refusal::NotRegistered { line } => write!(f, "line {line}: ")?,
+            Refusal::NotRegistered { line: 0 } => {}
+            Refusal::LineLong { line, .. } | Refusal::Form { line, .. } | Refusal::NotRegistered { line } => {
+                write!(f, "line {line}: ")?
+            }
             Refusal::Field { line, column, .. } => write!(f, "line {line}, column {column}: ")?,
             _ => {}
         }
@@ -214,5 +233,10 @@ mod tests {
         let syntax = Refusal::Syntax { dossier: Dossier::Message, offset: 0 };
         assert_eq!(syntax.to_string(), "refused with 3: byte 0: a dossier is not well formed");
         assert_eq!(Refusal::NoMessage.to_string(), "refused with 10: no message has the number");
+        let long = Refusal::LineLong { dossier: Dossier::Calendar, line: 2 };
+        assert_eq!(long.to_string(), "refused with 15: calendar, line 2: a line has more than 4,096 bytes");
+        let row = "the sender is not registered for a row's owner";
+        assert_eq!(Refusal::NotRegistered { line: 4 }.to_string(), format!("refused with 6: line 4: {row}"));
+        assert_eq!(Refusal::NotRegistered { line: 0 }.to_string(), format!("refused with 6: {row}"));
     }
 }

@@ -1,7 +1,8 @@
 //! A day through the typed crate alone.
 
 use zhemdurak::{
-    layout, Counts, Date, Day, Dossier, Flexible, Question, Refusal, Register, Sender, Status, StopType, Time,
+    layout, Counts, Date, Day, Dossier, Feed, Flexible, Kept, Question, Refusal, Register, Sender, Status, StopType,
+    Time,
 };
 
 const PASSES: &str = "DataOwnerCode|LocalServiceLevelCode|LinePlanningNumber|VehicleJourneyNumber|FortifyOrderNumber|\
@@ -125,4 +126,82 @@ fn a_day_in_lent_bytes() {
     assert_eq!(day.counts().rows, 2);
     assert_eq!(Day::with_room(66, 2).open(&planning(), &calendar()), Err(Refusal::BookShort));
     assert_eq!(Day::with_room(134, 1).open(&planning(), &calendar()), Err(Refusal::TableShort));
+}
+
+fn fed(parts: &[&[u8]]) -> Feed {
+    let mut feed = Feed::begin(Sender(7));
+    for part in parts {
+        feed.part(part, &registered()).expect("a begun feed takes any part");
+    }
+    feed
+}
+
+/// Wherever the dossier is cut, the day is that of the one call.
+#[test]
+fn a_message_in_parts() {
+    let (dossier, register, mut whole) = (driving(), registered(), opened());
+    let number = whole.message(&dossier, Sender(7), &register).expect("taken");
+    for cut in 0..=dossier.len() {
+        let (first, second) = dossier.split_at(cut);
+        let mut day = opened();
+        assert_eq!(fed(&[first, b"", second]).end(&mut day, &register).expect("taken"), number);
+        assert_eq!(day.counts(), whole.counts());
+        assert!(day.book_bytes() == whole.book_bytes() && day.table_bytes() == whole.table_bytes());
+    }
+    assert_eq!(fed(&[b"\\G", b"\r", b"\n"]).end(&mut whole, &register).expect("no rows"), None);
+}
+
+/// What refuses the one call refuses the feed, with the same places; and a feed that was refused may go on.
+#[test]
+fn a_feed_that_is_refused_comes_back() {
+    let (dossier, register, mut day) = (driving(), registered(), opened());
+    let before = (day.counts(), day.book_bytes().to_vec(), day.table_bytes().to_vec());
+    let (first, second) = dossier.split_at(dossier.len() - 1);
+    let not_ended = fed(&[first]).end(&mut day, &register).expect_err("its last line has not ended");
+    let syntax = Refusal::Syntax { dossier: Dossier::Message, offset: first.len() as u64 };
+    assert_eq!((not_ended.refusal, day.message(first, Sender(7), &register)), (syntax, Err(syntax)));
+    let mut feed = not_ended.feed;
+    feed.part(second, &register).expect("the rest");
+    let nobody = feed.end(&mut day, &Register::new()).expect_err("the register has changed");
+    assert_eq!(nobody.to_string(), "refused with 6: the sender is not registered for a row's owner");
+    let short = nobody.feed.end(&mut Day::with_room(71, 1), &register).expect_err("no room in the book");
+    assert_eq!(short.refusal, Refusal::BookShort);
+    assert_eq!((day.counts(), day.book_bytes().to_vec(), day.table_bytes().to_vec()), before);
+    let kept = short.feed.into_parts();
+    let feed = Feed::resumed(kept.0, kept.1);
+    assert_eq!(feed.end(&mut day, &register).expect("taken").map(|number| number.0), Some(1));
+}
+
+#[test]
+fn a_feed_in_lent_bytes() {
+    let (dossier, register, mut day) = (driving(), registered(), opened());
+    let mut staging = vec![7; layout::BODY_WIDE];
+    let mut feed = Feed::lent(Sender(7), &mut staging[..layout::BODY_WIDE - 1]);
+    feed.part(&dossier, &register).expect("it is fed");
+    assert_eq!(Refusal::from(feed.end(&mut day, &register).expect_err("no room for its row")), Refusal::StagingShort);
+    assert_eq!(staging, [7; layout::BODY_WIDE]);
+    let mut feed = Feed::lent(Sender(7), &mut staging[..]);
+    feed.part(&dossier, &register).expect("it is fed");
+    feed.end(&mut day, &register).expect("just enough room");
+    assert_eq!(staging[..], day.book_bytes()[2 * layout::PLAN_WIDE + layout::UPDATE_BODY_AT..][..layout::BODY_WIDE]);
+    let mut narrow = Feed::with_room(Sender(7), 1);
+    narrow.part(&dossier, &register).expect("it is fed");
+    assert!(narrow.end(&mut day, &register).is_ok());
+    let none = Box::new(Kept { numbers: [0; layout::FEED], line: [0; layout::LINE] });
+    let mut none = Feed::resumed(none, Vec::new());
+    assert_eq!(none.part(&dossier, &register), Err(Refusal::Unsound));
+    assert_eq!(none.end(&mut day, &register).expect_err("it was not begun").refusal, Refusal::Unsound);
+}
+
+#[test]
+fn a_line_too_long() {
+    let (register, mut day) = (registered(), opened());
+    let of = |bytes: usize| format!("\\G{}\r\n", "x".repeat(bytes - 4)).into_bytes();
+    let (dossier, line) = (Dossier::Message, 1);
+    assert_eq!(day.message(&of(layout::LINE), Sender(7), &register), Ok(None));
+    assert_eq!(day.message(&of(layout::LINE + 1), Sender(7), &register), Err(Refusal::LineLong { dossier, line }));
+    let fed = fed(&[&of(layout::LINE + 1)]).end(&mut day, &register);
+    assert_eq!(fed.map_err(Refusal::from), Err(Refusal::LineLong { dossier, line }));
+    let dossier = Dossier::Calendar;
+    assert_eq!(day.open(&planning(), &of(layout::LINE + 1)), Err(Refusal::LineLong { dossier, line }));
 }
