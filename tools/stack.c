@@ -36,6 +36,9 @@ static struct desk_day day = {.book = book, .book_len = sizeof book, .table = ta
 static char planning[DESK_DOSSIER + 1], message[DESK_DOSSIER + 1];
 static uint32_t places[DESK_ROWS];
 static uint64_t board_answer[DESK_BOARD_ANSWER];
+static uint8_t staging[DESK_STAGING], line[DESK_LINE];
+static uint64_t feed[DESK_FEED];
+static const char *part, *part_end;
 static uint32_t number;
 
 #define TEXT(s) (const uint8_t *)(s), strlen(s)
@@ -62,6 +65,24 @@ static void *open_day(void *unused)
 static void *take_message(void *unused)
 {
     number = desk_day_message(&day, TEXT(message), SENDER, (const uint8_t *)registered, sizeof registered);
+    return unused;
+}
+
+static void *begin_feed(void *unused)
+{
+    number = desk_feed_begin(SENDER, feed);
+    return unused;
+}
+
+static void *feed_part(void *unused)
+{
+    number = desk_feed((const uint8_t *)part, (size_t)(part_end - part), (const uint8_t *)registered, sizeof registered, staging, sizeof staging, line, feed);
+    return unused;
+}
+
+static void *end_feed(void *unused)
+{
+    number = desk_day_feed_end(&day, (const uint8_t *)registered, sizeof registered, staging, sizeof staging, feed);
     return unused;
 }
 
@@ -97,7 +118,7 @@ static size_t taken(void *(*call)(void *))
 static void tell(const char *name, void *(*call)(void *))
 {
     size_t bytes = taken(call);
-    printf("%-14s %8zu%s\n", name, bytes - taken(nothing), number == DESK_ACCEPTED ? "" : ", refused");
+    printf("%-15s %8zu%s\n", name, bytes - taken(nothing), number == DESK_ACCEPTED ? "" : ", refused");
 }
 
 static void tell_all(int rows)
@@ -106,6 +127,14 @@ static void tell_all(int rows)
     printf("bytes of stack, %d rows\n", rows);
     tell("desk_open", open_day);
     tell("desk_message", take_message);
+    tell("desk_feed_begin", begin_feed);
+    part = message;
+    part_end = message + strlen(message) - 9;
+    tell("desk_feed", feed_part);
+    part = part_end;
+    part_end = message + strlen(message);
+    tell("  a line's end", feed_part);
+    tell("desk_feed_end", end_feed);
     tell("desk_board", show_board);
     tell("desk_withdraw", withdraw);
 }
