@@ -160,7 +160,10 @@ impl Room {
                 S::message(dossier, *sender, register, book, table, used, rows)
             }
             Call::Withdraw { number, sender } => S::withdraw(*number, *sender, book, table, used, rows),
-            Call::Board { owner, stop, date, second, horizon, .. } => {
+            call => {
+                let Call::Board { owner, stop, date, second, horizon, .. } = call else {
+                    panic!("messages in parts have a table of their own");
+                };
                 let [number, value, in_all] =
                     S::board(owner, stop, *date, *second, *horizon, table, rows, &mut self.places);
                 [number, value, in_all, 0, 0, 0]

@@ -32,6 +32,8 @@ fn check(job: &Job, outcome: &Outcome) -> usize {
     let refusal = outcome.answer[0];
     let sound = soundness::table_is_sound(&table, rows) && (is_board(job) || soundness::book_is_sound(&book, used));
     match &job.call {
+        // Its parts are those of a message, and are tried there.
+        call if call.kind() == layout::Call::FeedEnd => 0,
         Call::Open { .. } if refusal == 0 => open(outcome),
         Call::Open { .. } => 0,
         Call::Message { register, .. } if register.len() % 11 != 0 || register.len() > 704 => 0,
