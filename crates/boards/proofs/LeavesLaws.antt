@@ -8,11 +8,7 @@ use borrow.Author.Tests.{lt-ltb, le-ltb}
 use lib.ListN.{length, take}
 use Rattle.lists.specs.Logic.{on}
 use Rattle.script_text.specs.Rules.{wordAt, appended}
-use Rattle.table.specs.Rules.{tableSound}
-use Rattle.board_show.specs.Ask.{Question, asked, asksInRange}
-use Rattle.board.specs.declared.Listing.{Listing}
-use Rattle.board.specs.declared.Listing.the-variants as Listings
-use Rattle.board.specs.Rules.{boardOf, boardNumbers, boardGives}
+use Rattle.boards_departures.specs.Shown.{isShown}
 use Rattle.calls.specs.declared.Answer.{Answer}
 use Rattle.calls.specs.declared.Answer.the-variants as Answers
 use Rattle.calls.specs.declared.Four.{Four}
@@ -68,9 +64,11 @@ number-accepted (Answers.Accepted n) h = refl
 number-accepted Answers.Unsound h = absurd (omega (arith, h))
 number-accepted (Answers.TooLong w) h = absurd (omega (arith, h))
 number-accepted (Answers.Syntax i w) h = absurd (omega (arith, h))
+number-accepted (Answers.Long l w) h = absurd (omega (arith, h))
 number-accepted (Answers.Form l w) h = absurd (omega (arith, h))
 number-accepted (Answers.Field l c w) h = absurd (omega (arith, h))
 number-accepted (Answers.Owner l) h = absurd (omega (arith, h))
+number-accepted Answers.StagingShort h = absurd (omega (arith, h))
 number-accepted Answers.BookShort h = absurd (omega (arith, h))
 number-accepted Answers.TableShort h = absurd (omega (arith, h))
 number-accepted Answers.KeyTwice h = absurd (omega (arith, h))
@@ -83,9 +81,11 @@ number-refused (Answers.Accepted n) h = absurd (h refl)
 number-refused Answers.Unsound h = refl
 number-refused (Answers.TooLong w) h = refl
 number-refused (Answers.Syntax i w) h = refl
+number-refused (Answers.Long l w) h = refl
 number-refused (Answers.Form l w) h = refl
 number-refused (Answers.Field l c w) h = refl
 number-refused (Answers.Owner l) h = refl
+number-refused Answers.StagingShort h = refl
 number-refused Answers.BookShort h = refl
 number-refused Answers.TableShort h = refl
 number-refused Answers.KeyTwice h = refl
@@ -125,41 +125,12 @@ pair-register sender owner w n register first last e f g k = rw (le-ltb 693 n e,
 
 -- ---- a board
 
--- by a listing's number: what is listed is of a sound table and in range, and what is not is not
-boarded : (q : Question) (table : List ℕ) (n room : ℕ) (l : Listing) → boardNumbers l ≡ boardGives q table n room
-    → ((w s : ℕ) → l ≡ Listings.Listed w s → (tableSound n table && asksInRange q) ≡ true)
-    × (l ≡ Listings.Unsound → (tableSound n table && asksInRange q) ≡ false)
-    × (l ≡ Listings.OutOfRange → (tableSound n table && asksInRange q) ≡ false)
-unfolding boardGives
-boarded q table n room l e = go (tableSound n table) (asksInRange q) (ap (λ (x : ℕ × ℕ × ℕ). x .0) e)
-  where
-    z : ℕ
-    z = length (boardOf q table n)
+module _ (line : List ℕ) (date second horizon : ℕ) (table : List ℕ) (h : Held) (r : Bool) (e : r ≡ isShown line date second horizon (h .counts .rows) table) where
+  pub ask-shown : r ≡ true → (register book : List ℕ) → state h register book table ≡ askedBy line date second horizon (state h register book table)
+  ask-shown k register book = rw (sym e ∙ k)
 
-    y : ℕ
-    y = length (take room (boardOf q table n))
-
-    go : (t u : Bool) → boardNumbers l .0 ≡ on {A = ℕ × ℕ × ℕ} (not t) (1, 0, 0) (on {A = ℕ × ℕ × ℕ} (not u) (13, 0, 0) (0, y, z)) .0
-        → ((w s : ℕ) → l ≡ Listings.Listed w s → (t && u) ≡ true) × (l ≡ Listings.Unsound → (t && u) ≡ false) × (l ≡ Listings.OutOfRange → (t && u) ≡ false)
-    go true true f = (λ w s e. refl, λ e. absurd (omega (arith, f, ap (λ (x : Listing). boardNumbers x .0) e)), λ e. absurd (omega (arith, f, ap (λ (x : Listing). boardNumbers x .0) e)))
-    go true false f = (λ w s e. absurd (omega (arith, f, ap (λ (x : Listing). boardNumbers x .0) e)), λ e. refl, λ e. refl)
-    go false u f = (λ w s e. absurd (omega (arith, f, ap (λ (x : Listing). boardNumbers x .0) e)), λ e. refl, λ e. refl)
-
--- the words of the line are what is asked
-module _ (line owner stop : List ℕ) (date second horizon : ℕ) (table : List ℕ) (room : ℕ) (h : Held) (l : Listing)
-    (e : owner ≡ wordAt 1 line) (f : stop ≡ wordAt 2 line)
-    (g : boardNumbers l ≡ boardGives (asked owner stop date second horizon) table (h .counts .rows) room) where
-  words-asked : boardNumbers l ≡ boardGives (asked (wordAt 1 line) (wordAt 2 line) date second horizon) table (h .counts .rows) room
-  words-asked = g ∙ ap (λ (x : List ℕ). boardGives (asked x stop date second horizon) table (h .counts .rows) room) e ∙ ap (λ (x : List ℕ). boardGives (asked (wordAt 1 line) x date second horizon) table (h .counts .rows) room) f
-
-  pub ask-listed : (w s : ℕ) → l ≡ Listings.Listed w s → (register book : List ℕ) → state h register book table ≡ askedBy line date second horizon (state h register book table)
-  ask-listed w s k register book = rw (boarded _ table (h .counts .rows) room l words-asked .0 w s k)
-
-  pub ask-unsound : (d : Held) → d ≡ declined h → l ≡ Listings.Unsound → (register book : List ℕ) → state d register book table ≡ askedBy line date second horizon (state h register book table)
-  ask-unsound d q k register book = rw (boarded _ table (h .counts .rows) room l words-asked .1 k) (held-is d (declined h) register book table q)
-
-  pub ask-outside : (d : Held) → d ≡ declined h → l ≡ Listings.OutOfRange → (register book : List ℕ) → state d register book table ≡ askedBy line date second horizon (state h register book table)
-  ask-outside d q k register book = rw (boarded _ table (h .counts .rows) room l words-asked .2 k) (held-is d (declined h) register book table q)
+  pub ask-refused : (d : Held) → d ≡ declined h → r ≡ false → (register book : List ℕ) → state d register book table ≡ askedBy line date second horizon (state h register book table)
+  ask-refused d q k register book = rw (sym e ∙ k) (held-is d (declined h) register book table q)
 
 -- ---- a file
 

@@ -1,7 +1,7 @@
 -- What a line of the script leaves: what is held, and the lent register, book and table. Assumes nothing.
 use Prim.Native.Nat.{ℕ, _+_, _%_, _^_}
 use mathlib.Core.Path.{_≡_}
-use mathlib.Core.Bool.{Bool, true, _&&_}
+use mathlib.Core.Bool.{Bool, true}
 use mathlib.Core.Logic.{_⊎_}
 use mathlib.Core.List.{List, [], _∷_}
 use lib.Dec.{ltb}
@@ -14,14 +14,13 @@ use Rattle.calls.specs.Leaves.{countsOf, Leaves as CallLeaves}
 use Rattle.calls.specs.Open.{openLeaves}
 use Rattle.calls.specs.Message.{messageLeaves}
 use Rattle.calls.specs.Withdraw.{withdrawLeaves}
-use Rattle.table.specs.Rules.{tableSound}
-use Rattle.board_show.specs.Ask.{asked, asksInRange}
+use Rattle.boards_departures.specs.Shown.{isShown}
 use Rattle.boards_saved.specs.declared.Saved.{Saved}
 use Rattle.boards_saved.specs.declared.Saved.the-variants.{Day, Other}
 use Rattle.boards_saved.specs.Saved.{dayIn, registerFrom, bookFrom, tableFrom}
 use Rattle.boards.specs.declared.script.Held.{Held}
 use Rattle.boards_orders.specs.declared.Order.{Order}
-use Rattle.boards_orders.specs.declared.Order.the-variants.{Nothing, Open, Register, Message, Withdraw, Board, Messages, Registered, Save, Load, Bad}
+use Rattle.boards_orders.specs.declared.Order.the-variants.{Nothing, Open, Register, Message, Withdraw, Board, Messages, Registered, Save, Load, Parts, Bad}
 
 -- what is held between two lines, and what is lent
 pub record State : Type 0 where
@@ -104,12 +103,9 @@ sent dossier sender s = left (messageLeaves dossier sender (take (s .held .regis
 abbrev pub withdrawnBy : ℕ → ℕ → State → State
 withdrawnBy number sender s = left (withdrawLeaves number sender (s .book) (s .table) (s .held .counts)) s
 
--- a board is shown of a sound table, for what is in its range
-abbrev pub isShown : List ℕ → ℕ → ℕ → ℕ → State → Bool
-isShown line date second horizon s = tableSound (s .held .counts .rows) (s .table) && asksInRange (asked (wordAt 1 line) (wordAt 2 line) date second horizon)
-
+-- a board that is not shown is a refusal
 abbrev pub askedBy : List ℕ → ℕ → ℕ → ℕ → State → State
-askedBy line date second horizon s = on (isShown line date second horizon s) s (refusedOnce s)
+askedBy line date second horizon s = on (isShown line date second horizon (s .held .counts .rows) (s .table)) s (refusedOnce s)
 
 -- what a file leaves of what is held: its day, where it is one, and that day is open
 abbrev pub loadedHeld : Saved → Held → Held
@@ -123,6 +119,7 @@ loadedFrom file s = state (loadedHeld (dayIn file) (s .held)) (registerFrom file
 abbrev pub Opens : State → State → Type 0
 Opens s t = (t ≡ notDone s) ⊎ ((planning : List ℕ) × (calendar : List ℕ) × (t ≡ openedBy planning calendar s))
 
+-- whole or in parts, of whatever size: the rule of the one call
 abbrev pub Sends : ℕ → State → State → Type 0
 Sends sender s t = (t ≡ notDone s) ⊎ ((dossier : List ℕ) × (t ≡ sent dossier sender s))
 
@@ -141,4 +138,5 @@ LineLeaves Messages line s t = t ≡ s
 LineLeaves Registered line s t = t ≡ s
 LineLeaves Save line s t = (t ≡ s) ⊎ (t ≡ notDone s)
 LineLeaves Load line s t = Loads s t
+LineLeaves (Parts sender size) line s t = Sends sender s t
 LineLeaves (Bad k why) line s t = t ≡ notDone s

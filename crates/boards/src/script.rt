@@ -1,7 +1,6 @@
 // What a line of the script does. A line that is not done changes nothing, and is counted.
 use crate::files;
 use crate::files::Loaded;
-use board::Listing;
 use boards_orders::Order;
 use boards_saved::Saved;
 use calls::Counts;
@@ -175,24 +174,18 @@ fn enrol(line: &[u8], sender: u8, register: &mut [u8], held: Held) -> Held
     }
     script_text::append(register, at, &[sender]);
     script_text::append(register, at + 1, script_text::word(line, 2));
-    boards_words::tell(
-        b"%0%1%2: pair %A of 64\n",
-        line,
-        b"",
-        b"",
-        b"",
-        &[at / register::PAIR_WIDE + 1],
-    );
+    boards_answers::enrolled(line, at);
     let mut n = held;
     n.register = at + register::PAIR_WIDE;
     n
 }
 
-// A message over the bytes that its file gave.
+// A message over the bytes that its file gave, whole or in parts.
 fn send_on(
     line: &[u8],
     dossier: &[u8],
     sender: u8,
+    size: usize,
     register: &[u8],
     book: &mut [u8],
     table: &mut [u8],
@@ -202,7 +195,7 @@ fn send_on(
 {
     let c = held.counts;
     let pairs = script_text::front(register, held.register);
-    let o = messages::message(dossier, sender, pairs, book, table, c);
+    let o = boards_messages::take(dossier, size, sender, pairs, book, table, c);
     boards_answers::sent(held.line, line, dossier, sender, c, o);
     told(o, held)
 }
@@ -210,6 +203,7 @@ fn send_on(
 fn send_from(
     line: &[u8],
     sender: u8,
+    size: usize,
     paper: &mut [u8; PAPER],
     register: &[u8],
     book: &mut [u8],
@@ -222,12 +216,14 @@ fn send_from(
         return bad(line, 2, boards_orders::UNREADABLE, held);
     };
     let dossier = script_text::front(paper, n);
-    send_on(line, dossier, sender, register, book, table, held)
+    send_on(line, dossier, sender, size, register, book, table, held)
 }
 
+// In parts of `size` bytes, or whole where that is 0.
 fn send(
     line: &[u8],
     sender: u8,
+    size: usize,
     register: &[u8],
     book: &mut [u8],
     table: &mut [u8],
@@ -236,7 +232,7 @@ fn send(
     ensures { λ r. ⌜ Sends sender (state held (now (register .entry)) (now (book .entry)) (now (table .entry))) (state r (now (register .entry)) (now (book .exit)) (now (table .exit))) ⌝ }
 {
     let mut paper = [0u8; PAPER];
-    send_from(line, sender, &mut paper, register, book, table, held)
+    send_from(line, sender, size, &mut paper, register, book, table, held)
 }
 
 fn withdraw(
@@ -257,49 +253,6 @@ fn withdraw(
 
 // ---- Questions, which change nothing.
 
-// The board that a line asks for, in the places lent; a refusal is told.
-fn ask(
-    line: &[u8],
-    date: u32,
-    second: u32,
-    horizon: u32,
-    most: usize,
-    table: &[u8],
-    places: &mut [u32],
-    held: Held,
-) -> Held
-    ensures { λ r. ⌜ ((register book : List ℕ) → state r register book (now (table .entry)) ≡ askedBy (now (line .entry)) date second horizon (state held register book (now (table .entry)))) ⌝ }
-{
-    let c = held.counts;
-    let n = script_text::at_most(most, places.len());
-    let owner = script_text::word(line, 1);
-    let stop = script_text::word(line, 2);
-    let l = board::board(
-        owner,
-        stop,
-        date,
-        second,
-        horizon,
-        table,
-        c.rows,
-        &mut places[0..n],
-    );
-    match l {
-        Listing::Listed(written, shown) => {
-            boards_listing::board(line, table, places, written, shown);
-            held
-        }
-        Listing::Unsound => {
-            boards_answers::unshown(held.line, line, 1, second, horizon);
-            decline(held)
-        }
-        Listing::OutOfRange => {
-            boards_answers::unshown(held.line, line, 13, second, horizon);
-            decline(held)
-        }
-    }
-}
-
 fn board(
     line: &[u8],
     date: u32,
@@ -311,8 +264,11 @@ fn board(
 ) -> Held
     ensures { λ r. ⌜ ((register book : List ℕ) → state r register book (now (table .entry)) ≡ askedBy (now (line .entry)) date second horizon (state held register book (now (table .entry)))) ⌝ }
 {
-    let mut places = [0u32; table::MOST_ROWS];
-    ask(line, date, second, horizon, most, table, &mut places, held)
+    let c = held.counts;
+    if boards_departures::ask(held.line, line, date, second, horizon, most, table, c.rows) {
+        return held;
+    }
+    decline(held)
 }
 
 fn list_messages(line: &[u8], book: &[u8], held: Held) -> Held
@@ -370,42 +326,17 @@ fn save(line: &[u8], register: &[u8], book: &[u8], table: &[u8], held: Held) -> 
         script_text::front(table, rows * passage::ROW_WIDE),
     );
     if whole {
-        tell_day(
-            line,
-            b"%0%1: saved; book %A bytes, table %B rows, pairs %C\n",
-            pairs,
-            used,
-            rows,
-        );
+        boards_answers::saved(line, pairs, used, rows);
         return held;
     }
     bad(line, 1, boards_orders::UNWRITABLE, held)
-}
-
-fn tell_day(line: &[u8], words: &[u8], pairs: usize, used: usize, rows: usize) {
-    boards_words::tell(
-        words,
-        line,
-        b"",
-        b"",
-        b"",
-        &[used, rows, pairs / register::PAIR_WIDE],
-    );
 }
 
 // A file that is no day.
 fn refuse_file(line: &[u8], held: Held) -> Held
     ensures { λ r. ⌜ r ≡ declined held ⌝ }
 {
-    boards_words::refuse(
-        line,
-        b"no sound day in the file",
-        0,
-        b"",
-        b"",
-        b"",
-        &[held.line as usize, 1],
-    );
+    boards_answers::no_day(held.line, line);
     decline(held)
 }
 
@@ -426,13 +357,7 @@ fn take_day(
                 used: used as usize,
                 rows: rows as usize,
             };
-            tell_day(
-                line,
-                b"%0%1: loaded; book %A bytes, table %B rows, pairs %C\n",
-                pairs as usize,
-                used as usize,
-                rows as usize,
-            );
+            boards_answers::loaded(line, pairs, used, rows);
             let mut n = held;
             n.counts = counts;
             n.register = pairs as usize;
@@ -492,7 +417,7 @@ fn perform(
         Order::Nothing => held,
         Order::Open => open(line, book, table, held),
         Order::Register(sender) => enrol(line, sender, register, held),
-        Order::Message(sender) => send(line, sender, register, book, table, held),
+        Order::Message(sender) => send(line, sender, 0, register, book, table, held),
         Order::Withdraw(number, sender) => withdraw(line, number, sender, book, table, held),
         Order::Board(date, second, horizon, most) => {
             board(line, date, second, horizon, most, table, held)
@@ -501,6 +426,7 @@ fn perform(
         Order::Registered => list_pairs(line, register, held),
         Order::Save => save(line, register, book, table, held),
         Order::Load => load_day(line, register, book, table, held),
+        Order::Parts(sender, size) => send(line, sender, size, register, book, table, held),
         Order::Bad(k, why) => bad(line, k, why, held),
     }
 }

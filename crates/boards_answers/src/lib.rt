@@ -1,4 +1,4 @@
-// What a call answered, in words: an acceptance with what it changed, a refusal with what can be done about it. The call's numbers are given; what else is said is worked out by `boards_reasons`. Each function prints; nothing comes back and nothing is changed.
+// What a call answered, in words: an acceptance with what it changed, a refusal with what can be done about it. The call's numbers are given; what else is said is worked out by `boards_reasons` and `boards_keys`. Each function prints; nothing comes back and nothing is changed.
 use calls::Counts;
 use calls::Four;
 use calls::Outcome;
@@ -12,15 +12,18 @@ fn growth(before: usize, now: usize) -> usize {
     now - before
 }
 
-// Refusals that no dossier has part in.
+// Refusals of which nothing is looked up in a dossier.
 fn plain(place: u32, line: &[u8], f: Four) {
     let all = b"|\
         book, table or register not sound|\
-        more than 65,536 bytes in the dossier||||||\
+        more than 65,536 bytes in the dossier|||||\
+        no room in the book, and withdrawing frees none|\
         no room in the table||\
         no such message|\
         message already withdrawn|\
-        message of another sender";
+        message of another sender||\
+        no room in the staging area|\
+        line %C has more than 4,096 bytes";
     let words = turbo::field_of(all, f.number as usize);
     boards_words::refuse(
         line,
@@ -29,14 +32,14 @@ fn plain(place: u32, line: &[u8], f: Four) {
         b"",
         b"",
         b"",
-        &[place as usize, f.number as usize],
+        &[place as usize, f.number as usize, f.value],
     );
 }
 
 // Which dossier an opening's refusal is of, and its table.
 fn refuse_opening(place: u32, line: &[u8], planning: &[u8], calendar: &[u8], f: Four) {
     if f.number == 9 {
-        return boards_reasons::tell_key(place, line, planning, calendar);
+        return boards_keys::tell(place, line, planning, calendar);
     }
     if f.dossier == 2 {
         return refuse(place, line, Table::Calendar, calendar, f, 0);
@@ -52,15 +55,6 @@ fn refuse(place: u32, line: &[u8], table: Table, dossier: &[u8], f: Four, sender
         4 => boards_reasons::tell_form(place, line, table, dossier, f),
         5 => boards_reasons::tell_field(place, line, dossier, f),
         6 => boards_reasons::tell_owner(place, line, dossier, f, sender),
-        7 => boards_words::refuse(
-            line,
-            b"no room in the book, and withdrawing frees none",
-            0,
-            b"",
-            b"",
-            b"",
-            &[place as usize, 7],
-        ),
         _ => plain(place, line, f),
     }
 }
@@ -96,10 +90,10 @@ pub fn opened(place: u32, line: &[u8], planning: &[u8], calendar: &[u8], outcome
 // An acceptance: a message without rows gets no number.
 fn took(line: &[u8], number: usize, before: Counts, now: Counts) {
     if number == 0 {
-        return boards_words::tell(b"%0%1%2: accepted, NO rows\n", line, b"", b"", b"", &[0]);
+        return boards_words::tell(b"%0%1%2%3: accepted, NO rows\n", line, b"", b"", b"", &[0]);
     }
     boards_words::tell(
-        b"%0%1%2: accepted as message %A; rows %B, passages new to the table %C; book %D bytes, table %E rows\n",
+        b"%0%1%2%3: accepted as message %A; rows %B, passages new to the table %C; book %D bytes, table %E rows\n",
         line,
         b"",
         b"",
@@ -114,7 +108,7 @@ fn took(line: &[u8], number: usize, before: Counts, now: Counts) {
     );
 }
 
-// What a message answered: its number, how many rows it had, how many passages are new to the table.
+// What a message answered, whole or in parts: its number, how many rows it had, how many passages are new to the table.
 pub fn sent(place: u32, line: &[u8], dossier: &[u8], sender: u8, before: Counts, outcome: Outcome) {
     let a = outcome.answer;
     let c = outcome.counts;
@@ -143,48 +137,63 @@ pub fn withdrawn(place: u32, line: &[u8], before: Counts, outcome: Outcome) {
     );
 }
 
-// Whether an owner or a stop is what a board takes.
-fn is_text(w: &[u8]) -> bool {
-    board_show::asks_in_range(w, w, 20000101, 0, 0)
+// ---- Lines that are no call.
+
+// A pair that is registered, by where the pairs ended before it.
+pub fn enrolled(line: &[u8], end: usize) {
+    boards_words::tell(
+        b"%0%1%2: pair %A of 64\n",
+        line,
+        b"",
+        b"",
+        b"",
+        &[end / register::PAIR_WIDE + 1],
+    );
 }
 
-// Which of a board's words is outside its range.
-fn which(line: &[u8], second: u32, horizon: u32) -> usize {
-    if 86400 < horizon {
-        return 4;
-    }
-    if 86399 < second {
-        return 3;
-    }
-    if is_text(script_text::word(line, 1)) {
-        return 2;
-    }
-    1
+// A day that is kept in a file: how much of book, table and register is used.
+fn day(words: &[u8], line: &[u8], pairs: usize, used: usize, rows: usize) {
+    boards_words::tell(
+        words,
+        line,
+        b"",
+        b"",
+        b"",
+        &[used, rows, pairs / register::PAIR_WIDE],
+    );
 }
 
-// Why a board is refused, by the number: with 13, which word is outside its range.
-fn why(number: usize, line: &[u8], second: u32, horizon: u32) -> usize {
-    if number == 13 {
-        return which(line, second, horizon);
-    }
-    0
+// A day that is saved.
+pub fn saved(line: &[u8], pairs: usize, used: usize, rows: usize) {
+    day(
+        b"%0%1: saved; book %A bytes, table %B rows, pairs %C\n",
+        line,
+        pairs,
+        used,
+        rows,
+    );
 }
 
-// A board that is refused.
-pub fn unshown(place: u32, line: &[u8], number: usize, second: u32, horizon: u32) {
-    let all = b"\
-        table not sound|\
-        owner%1 is not 1 to 10 bytes from 32 to 126|\
-        stop%2 is not 1 to 10 bytes from 32 to 126|\
-        time%4 is not by the clock, which goes to 23:59:59|\
-        horizon%5 is over 86400 seconds";
+// A day that is loaded.
+pub fn loaded(line: &[u8], pairs: u32, used: u32, rows: u32) {
+    day(
+        b"%0%1: loaded; book %A bytes, table %B rows, pairs %C\n",
+        line,
+        pairs as usize,
+        used as usize,
+        rows as usize,
+    );
+}
+
+// A file that is no day.
+pub fn no_day(place: u32, line: &[u8]) {
     boards_words::refuse(
         line,
-        turbo::field_of(all, why(number, line, second, horizon)),
+        b"no sound day in the file",
         0,
         b"",
         b"",
         b"",
-        &[place as usize, number],
+        &[place as usize, 1],
     );
 }

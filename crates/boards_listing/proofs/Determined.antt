@@ -1,15 +1,10 @@
 -- Each function prints and gives nothing back, so there is one outcome. None is lent bytes to write. Assumes nothing.
 use mathlib.Core.Path.{refl}
 use Rattle.lists.proofs.Promise.{OneResult}
-use Rattle.boards_listing.proofs.board.Kinds as board
-use Rattle.boards_listing.proofs.board.Reads as board-reads
 use Rattle.boards_listing.proofs.messages.Kinds as messages
 use Rattle.boards_listing.proofs.messages.Reads as messages-reads
 use Rattle.boards_listing.proofs.pairs.Kinds as pairs
 use Rattle.boards_listing.proofs.pairs.Reads as pairs-reads
-
-pub board-determined : OneResult 3 board.ps board.r board-reads.Post
-board-determined κs a x y s t p q = refl
 
 pub messages-determined : OneResult 2 messages.ps messages.r messages-reads.Post
 messages-determined κs a x y s t p q = refl

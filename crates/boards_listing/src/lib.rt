@@ -1,95 +1,4 @@
-// What the desk has listed: a board, the day's messages, the registered pairs. Each function prints; nothing comes back and nothing is changed.
-use clock::ClockSeconds;
-use clock::OperatingSeconds;
-ghost use Prim.Native.Nat.{_*_, _<_, _≤_};
-ghost use lib.ListN.{length};
-
-// ---- A board.
-
-// A kept text without the zero bytes behind it.
-fn kept<'a>(padded: &'a [u8]) -> &'a [u8] {
-    script_text::before(padded, 0)
-}
-
-// A departure: the moment as the clock shows it, line, destination and status.
-fn departure(moment: ClockSeconds, line: &[u8], destination: &[u8], status: &[u8])
-    requires { ⌜ moment .0 < 36526 * 86400 ⌝ }
-{
-    let date = clock::date_at(moment);
-    let second = clock::second_at(moment);
-    boards_words::tell(
-        b"%A-%b-%c %d:%e:%f %x %y %z\n",
-        status,
-        line,
-        destination,
-        status,
-        &[
-            (date / 10000) as usize,
-            (date / 100 % 100) as usize,
-            (date % 100) as usize,
-            (second / 3600) as usize,
-            (second / 60 % 60) as usize,
-            (second % 60) as usize,
-        ],
-    );
-}
-
-// At a time of an operating day: from 24:00:00 on it is the next day. Every row of a board has one.
-fn at_time(date: u32, time: u32, line: &[u8], destination: &[u8], status: &[u8]) {
-    if clock::is_date(date) {
-        if time < 115200 {
-            departure(
-                clock::moment(date, OperatingSeconds(time)),
-                line,
-                destination,
-                status,
-            );
-        }
-    }
-}
-
-// A row of the table.
-fn row(r: &[u8]) {
-    if r.len() != passage::ROW_WIDE {
-        return;
-    }
-    let all = b"PLANNED|CANCEL|UNKNOWN|DRIVING|ARRIVED|PASSED";
-    at_time(
-        lists::get_number(r, passage::DATE_AT, passage::DATE_WIDE),
-        lists::get_number(r, passage::DEPARTURE_AT, passage::TIME_WIDE),
-        kept(&r[passage::LINE_AT..passage::LINE_AT + passage::TEXT_WIDE]),
-        kept(&r[passage::DESTINATION_AT..passage::DESTINATION_AT + passage::TEXT_WIDE]),
-        turbo::field_of(all, script_text::at(r, passage::STATUS_AT) as usize),
-    );
-}
-
-fn place(table: &[u8], p: u32) {
-    let at = p as usize * passage::ROW_WIDE;
-    if table.len() < at + passage::ROW_WIDE {
-        return;
-    }
-    row(&table[at..at + passage::ROW_WIDE]);
-}
-
-// The rows of the first n places.
-fn rows(table: &[u8], places: &[u32], n: usize) {
-    let mut i = 0;
-    while i < places.len() {
-        if n <= i {
-            return;
-        }
-        place(table, places[i]);
-        i += 1;
-    }
-}
-
-// The board that a line asked for: the rows at the places written, and how many passages are shown.
-pub fn board(line: &[u8], table: &[u8], places: &[u32], written: usize, shown: usize) {
-    boards_words::tell(b"%0%1%2%3%4%5\n", line, b"", b"", b"", &[0]);
-    rows(table, places, written);
-    boards_words::tell(b"END %A %B\n", line, b"", b"", b"", &[written, shown]);
-}
-
+// What the desk has listed: the day's messages, the registered pairs. Each function prints; nothing comes back and nothing is changed.
 // ---- The day's messages.
 
 // What stands behind the plan entries: the updates.
@@ -162,7 +71,7 @@ pub fn messages(line: &[u8], used: &[u8]) {
 // The first of these pairs.
 fn pair(pairs: &[u8]) {
     let sender = script_text::at(pairs, 0) as usize;
-    let owner = kept(script_text::part(pairs, 1, register::PAIR_WIDE));
+    let owner = script_text::before(script_text::part(pairs, 1, register::PAIR_WIDE), 0);
     boards_words::tell(b"%A %x\n", b"", owner, b"", b"", &[sender]);
 }
 

@@ -10,9 +10,9 @@ use lib.ListN.{length}
 use Rattle.lists.specs.Logic.{on}
 use Rattle.script_text.specs.Rules.{wordAt}
 use Rattle.boards_orders.specs.declared.Order.{Order}
-use Rattle.boards_orders.specs.declared.Order.the-variants.{Nothing, Open, Register, Message, Withdraw, Board, Messages, Registered, Save, Load, Bad}
-use Rattle.boards_orders.specs.Orders.{not-to-register, no-owner, no-date, no-time, no-horizon, no-places, no-day, noNumber, numberWord, dateWord, timeWord, placesAt, wants, registerOrder, messageOrder, withdrawOrder, boardOrder, commandOf, isWhole, isOfDay, isSilent, orderBy, commanded, orderIn}
-use Rattle.boards_orders.specs.Claims.{RegisterInRange, BoardInRange, asksDay, NoDayNoneAsked, All}
+use Rattle.boards_orders.specs.declared.Order.the-variants.{Nothing, Open, Register, Message, Withdraw, Board, Messages, Registered, Save, Load, Parts, Bad}
+use Rattle.boards_orders.specs.Orders.{no-sender, not-to-register, no-size, no-owner, no-date, no-time, no-horizon, no-places, no-day, noNumber, numberWord, dateWord, timeWord, placesAt, wants, registerOrder, messageOrder, partsOrder, withdrawOrder, boardOrder, commandOf, isWhole, isOfDay, isSilent, orderBy, commanded, orderIn}
+use Rattle.boards_orders.specs.Claims.{RegisterInRange, PartsInRange, BoardInRange, asksDay, NoDayNoneAsked, All}
 
 -- whether something is asked, and the last number of what is asked
 asks : Order → ℕ
@@ -26,6 +26,7 @@ asks Messages = 1
 asks Registered = 1
 asks Save = 1
 asks Load = 1
+asks (Parts n size) = 1
 asks (Bad k why) = 0
 
 last : Order → ℕ
@@ -39,7 +40,23 @@ last Messages = 0
 last Registered = 0
 last Save = 0
 last Load = 0
+last (Parts n size) = size
 last (Bad k why) = 0
+
+-- and the first
+first : Order → ℕ
+first Nothing = 0
+first Open = 0
+first (Register n) = n
+first (Message n) = n
+first (Withdraw m n) = m
+first (Board d t h n) = d
+first Messages = 0
+first Registered = 0
+first Save = 0
+first Load = 0
+first (Parts n size) = n
+first (Bad k why) = 0
 
 register-in-range : RegisterInRange
 unfolding registerOrder asks last
@@ -63,6 +80,30 @@ register-in-range line n = go (eqb m 0) (ltb 255 m) (ltb 10 (length w)) refl ref
         let b = ltb-false 10 (length w) g in
         let p = eqb-false m 0 e in
         (omega (arith, z, p), omega (arith, z, a), b)
+
+parts-in-range : PartsInRange
+unfolding partsOrder asks first last
+parts-in-range line n size = go (ltb 255 m) (eqb k 0) (ltb 65536 k) refl refl refl
+  where
+    m : ℕ
+    m = numberWord 1 line
+
+    k : ℕ
+    k = numberWord 3 line
+
+    go : (t u v : Bool) → ltb 255 m ≡ t → eqb k 0 ≡ u → ltb 65536 k ≡ v
+        → on t (Bad 1 no-sender) (on u (Bad 3 no-size) (on v (Bad 3 no-size) (Parts m k))) ≡ Parts n size
+        → (n ≤ 255) × (0 < size) × (size ≤ 65536)
+    go true u v e f g q = absurd (omega (arith, ap asks q))
+    go false true v e f g q = absurd (omega (arith, ap asks q))
+    go false false true e f g q = absurd (omega (arith, ap asks q))
+    go false false false e f g q =
+        let y : m ≡ n = ap first q in
+        let z : k ≡ size = ap last q in
+        let a = ltb-false 255 m e in
+        let b = ltb-false 65536 k g in
+        let p = eqb-false k 0 f in
+        (omega (arith, y, a), omega (arith, z, p), omega (arith, z, b))
 
 board-in-range : BoardInRange
 unfolding boardOrder asks last
@@ -100,21 +141,22 @@ flag b = on b 1 0
 -- nor by any command that is not about one
 command-no-day : (c : ℕ) (line : List ℕ) → isOfDay c ≡ false → asksDay (orderBy c line) ≡ false
 unfolding isOfDay orderBy flag
-command-no-day c line = go (eqb c 0) (eqb c 1) (eqb c 2) (eqb c 3) (eqb c 4) (eqb c 5) (eqb c 6) (eqb c 7) (eqb c 8)
+command-no-day c line = go (eqb c 0) (eqb c 1) (eqb c 2) (eqb c 3) (eqb c 4) (eqb c 5) (eqb c 6) (eqb c 7) (eqb c 8) (eqb c 9)
   where
-    go : (t₀ t₁ t₂ t₃ t₄ t₅ t₆ t₇ t₈ : Bool)
-        → on t₂ true (on t₃ true (on t₄ true (on t₅ true (on t₇ true false)))) ≡ false
-        → asksDay (on t₀ Open (on t₁ (registerOrder line) (on t₂ (messageOrder line) (on t₃ (withdrawOrder line) (on t₄ (boardOrder line) (on t₅ Messages (on t₆ Registered (on t₇ Save (on t₈ Load (wants c)))))))))) ≡ false
-    go true t₁ t₂ t₃ t₄ t₅ t₆ t₇ t₈ e = refl
-    go false true t₂ t₃ t₄ t₅ t₆ t₇ t₈ e = register-no-day line
-    go false false true t₃ t₄ t₅ t₆ t₇ t₈ e = absurd (omega (arith, ap flag e))
-    go false false false true t₄ t₅ t₆ t₇ t₈ e = absurd (omega (arith, ap flag e))
-    go false false false false true t₅ t₆ t₇ t₈ e = absurd (omega (arith, ap flag e))
-    go false false false false false true t₆ t₇ t₈ e = absurd (omega (arith, ap flag e))
-    go false false false false false false true t₇ t₈ e = refl
-    go false false false false false false false true t₈ e = absurd (omega (arith, ap flag e))
-    go false false false false false false false false true e = refl
-    go false false false false false false false false false e = refl
+    go : (t₀ t₁ t₂ t₃ t₄ t₅ t₆ t₇ t₈ t₉ : Bool)
+        → on t₂ true (on t₃ true (on t₄ true (on t₅ true (on t₇ true (on t₉ true false))))) ≡ false
+        → asksDay (on t₀ Open (on t₁ (registerOrder line) (on t₂ (messageOrder line) (on t₃ (withdrawOrder line) (on t₄ (boardOrder line) (on t₅ Messages (on t₆ Registered (on t₇ Save (on t₈ Load (on t₉ (partsOrder line) (wants c))))))))))) ≡ false
+    go true t₁ t₂ t₃ t₄ t₅ t₆ t₇ t₈ t₉ e = refl
+    go false true t₂ t₃ t₄ t₅ t₆ t₇ t₈ t₉ e = register-no-day line
+    go false false true t₃ t₄ t₅ t₆ t₇ t₈ t₉ e = absurd (omega (arith, ap flag e))
+    go false false false true t₄ t₅ t₆ t₇ t₈ t₉ e = absurd (omega (arith, ap flag e))
+    go false false false false true t₅ t₆ t₇ t₈ t₉ e = absurd (omega (arith, ap flag e))
+    go false false false false false true t₆ t₇ t₈ t₉ e = absurd (omega (arith, ap flag e))
+    go false false false false false false true t₇ t₈ t₉ e = refl
+    go false false false false false false false true t₈ t₉ e = absurd (omega (arith, ap flag e))
+    go false false false false false false false false true t₉ e = refl
+    go false false false false false false false false false true e = absurd (omega (arith, ap flag e))
+    go false false false false false false false false false false e = refl
 
 no-day-none-asked : NoDayNoneAsked
 unfolding orderIn commanded
@@ -130,4 +172,4 @@ no-day-none-asked line = go (isSilent (wordAt 0 line)) (isWhole c line) (isOfDay
     go false false v e = refl
 
 pub claims : All
-claims = (register-in-range, board-in-range, no-day-none-asked)
+claims = (register-in-range, parts-in-range, board-in-range, no-day-none-asked)

@@ -14,8 +14,8 @@ use Rattle.field_types.specs.Times.{clock}
 use Rattle.field_types.specs.Dates.{date}
 use Rattle.script_text.specs.Rules.{wordAt}
 use Rattle.boards_orders.specs.declared.Order.{Order}
-use Rattle.boards_orders.specs.declared.Order.the-variants.{Nothing, Register, Message, Withdraw, Board, Bad}
-use Rattle.boards_orders.specs.Orders.{commandOf, orNone, noNumber, no-day, no-sender, not-to-register, no-number, no-owner, no-date, no-time, no-horizon, no-places, wants, numberWord, dateWord, timeWord, registerOrder, messageOrder, withdrawOrder, placesAt, boardOrder, hasWords, isWhole, isOfDay, orderBy, commanded, isSilent, orderIn}
+use Rattle.boards_orders.specs.declared.Order.the-variants.{Nothing, Register, Message, Withdraw, Board, Parts, Bad}
+use Rattle.boards_orders.specs.Orders.{commandOf, orNone, noNumber, no-day, no-sender, not-to-register, no-number, no-owner, no-date, no-time, no-horizon, no-places, no-size, wants, numberWord, dateWord, timeWord, registerOrder, messageOrder, partsOrder, withdrawOrder, placesAt, boardOrder, hasWords, isWhole, isOfDay, orderBy, commanded, isSilent, orderIn}
 
 -- ---- numbers
 
@@ -69,6 +69,22 @@ module _ (line : List ℕ) (n : ℕ) (e : n ≡ numberWord 1 line) where
   pub message-good : n ≤ 255 → Message n ≡ messageOrder line
   unfolding messageOrder
   message-good h = rw (← e) (rw (le-ltb 255 n h))
+
+  pub parts-sender : 255 < n → Bad 1 no-sender ≡ partsOrder line
+  unfolding partsOrder
+  parts-sender h = rw (← e) (rw (lt-ltb 255 n h))
+
+  pub parts-zero : (m : ℕ) → m ≡ numberWord 3 line → n ≤ 255 → m ≡ 0 → Bad 3 no-size ≡ partsOrder line
+  unfolding partsOrder
+  parts-zero m f h k = rw (← e, ← f) (rw (le-ltb 255 n h, eq-eqb m 0 k))
+
+  pub parts-large : (m : ℕ) → m ≡ numberWord 3 line → n ≤ 255 → (m ≡ 0 → ⊥) → 65536 < m → Bad 3 no-size ≡ partsOrder line
+  unfolding partsOrder
+  parts-large m f h k l = rw (← e, ← f) (rw (le-ltb 255 n h, ne-eqb m 0 k, lt-ltb 65536 m l))
+
+  pub parts-good : (m : ℕ) → m ≡ numberWord 3 line → n ≤ 255 → (m ≡ 0 → ⊥) → m ≤ 65536 → Parts n m ≡ partsOrder line
+  unfolding partsOrder
+  parts-good m f h k l = rw (← e, ← f) (rw (le-ltb 255 n h, ne-eqb m 0 k, le-ltb 65536 m l))
 
   pub withdraw-none : n ≡ noNumber → Bad 1 no-number ≡ withdrawOrder line
   unfolding withdrawOrder

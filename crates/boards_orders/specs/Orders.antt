@@ -15,11 +15,11 @@ use Rattle.field_types.specs.Times.{clock}
 use Rattle.field_types.specs.Dates.{date}
 use Rattle.script_text.specs.Rules.{wordAt}
 use Rattle.boards_orders.specs.declared.Order.{Order}
-use Rattle.boards_orders.specs.declared.Order.the-variants.{Nothing, Open, Register, Message, Withdraw, Board, Messages, Registered, Save, Load, Bad}
+use Rattle.boards_orders.specs.declared.Order.the-variants.{Nothing, Open, Register, Message, Withdraw, Board, Messages, Registered, Save, Load, Parts, Bad}
 
--- the commands; a command is its place among them, and 9 is none
+-- the commands; a command is its place among them, and 10 is none
 abbrev pub commandNames : List ℕ
-commandNames = bytes "OPEN|REGISTER|MESSAGE|WITHDRAW|BOARD|MESSAGES|REGISTERED|SAVE|LOAD"
+commandNames = bytes "OPEN|REGISTER|MESSAGE|WITHDRAW|BOARD|MESSAGES|REGISTERED|SAVE|LOAD|PARTS"
 
 unfoldable pub commandOf : List ℕ → ℕ
 commandOf w = columnOf w (fields commandNames)
@@ -52,9 +52,12 @@ no-horizon = 10
 abbrev pub no-places : ℕ
 no-places = 11
 
+abbrev pub no-size : ℕ
+no-size = 13
+
 -- command c wants other words, or is none
 abbrev pub wants : ℕ → Order
-wants c = Bad 0 (13 + min c 9)
+wants c = Bad 0 (14 + min c 10)
 
 -- what is no number is out of every range
 abbrev pub noNumber : ℕ
@@ -85,6 +88,13 @@ registerOrder line =
 unfoldable pub messageOrder : List ℕ → Order
 messageOrder line = on (ltb 255 (numberWord 1 line)) (Bad 1 no-sender) (Message (numberWord 1 line))
 
+-- a part has from one byte to as many as a dossier may have
+unfoldable pub partsOrder : List ℕ → Order
+partsOrder line =
+    firstHeld
+    ((ltb 255 (numberWord 1 line), Bad 1 no-sender) ∷ (eqb (numberWord 3 line) 0, Bad 3 no-size) ∷ (ltb 65536 (numberWord 3 line), Bad 3 no-size) ∷ [])
+    (Parts (numberWord 1 line) (numberWord 3 line))
+
 unfoldable pub withdrawOrder : List ℕ → Order
 withdrawOrder line =
     firstHeld
@@ -109,16 +119,16 @@ boardOrder line =
 unfoldable pub hasWords : ℕ → ℕ → List ℕ → Bool
 hasWords k n line = on (eqb (length (wordAt k line)) 0) false (eqb (length (wordAt n line)) 0)
 
--- the line has as many words as its command wants: five or six, none, one, or two
+-- the line has as many words as its command wants: five or six, none, one, three, or two
 unfoldable pub isWhole : ℕ → List ℕ → Bool
 isWhole c line =
     firstHeld
-    ((eqb c 4, hasWords 5 7 line) ∷ (eqb c 5, hasWords 0 1 line) ∷ (eqb c 6, hasWords 0 1 line) ∷ (eqb c 7, hasWords 1 2 line) ∷ (eqb c 8, hasWords 1 2 line) ∷ [])
+    ((eqb c 4, hasWords 5 7 line) ∷ (eqb c 5, hasWords 0 1 line) ∷ (eqb c 6, hasWords 0 1 line) ∷ (eqb c 7, hasWords 1 2 line) ∷ (eqb c 8, hasWords 1 2 line) ∷ (eqb c 9, hasWords 3 4 line) ∷ [])
     (hasWords 2 3 line)
 
 -- the command is about the day that is open
 unfoldable pub isOfDay : ℕ → Bool
-isOfDay c = firstHeld ((eqb c 2, true) ∷ (eqb c 3, true) ∷ (eqb c 4, true) ∷ (eqb c 5, true) ∷ (eqb c 7, true) ∷ []) false
+isOfDay c = firstHeld ((eqb c 2, true) ∷ (eqb c 3, true) ∷ (eqb c 4, true) ∷ (eqb c 5, true) ∷ (eqb c 7, true) ∷ (eqb c 9, true) ∷ []) false
 
 -- by the command
 unfoldable pub orderBy : ℕ → List ℕ → Order
@@ -133,6 +143,7 @@ orderBy c line =
     ∷ (eqb c 6, Registered)
     ∷ (eqb c 7, Save)
     ∷ (eqb c 8, Load)
+    ∷ (eqb c 9, partsOrder line)
     ∷ [])
     (wants c)
 

@@ -1,7 +1,7 @@
 // What a line of the script asks, or what is wrong with it.
 use field_types::Number;
 ghost use mathlib.Core.Path.{_≡_};
-ghost use Rattle.boards_orders.specs.Orders.{commandOf, numberWord, dateWord, timeWord, hasWords, isWhole, isOfDay, isSilent, placesAt, registerOrder, messageOrder, withdrawOrder, boardOrder, wants, orderBy, commanded, orderIn};
+ghost use Rattle.boards_orders.specs.Orders.{commandOf, numberWord, dateWord, timeWord, hasWords, isWhole, isOfDay, isSilent, placesAt, registerOrder, messageOrder, partsOrder, withdrawOrder, boardOrder, wants, orderBy, commanded, orderIn};
 
 // What a line asks, with the numbers in it; its words and files are read when it is done. `Bad` has the place of the word that is wrong, and why.
 pub enum Order {
@@ -15,6 +15,7 @@ pub enum Order {
     Registered,
     Save,
     Load,
+    Parts(u8, usize),
     Bad(usize, usize),
 }
 
@@ -45,8 +46,10 @@ const NO_PLACES: usize = 11;
 
 pub const LONG: usize = 12;
 
+const NO_SIZE: usize = 13;
+
 // From here on, by the command: it wants other words; the last is no command.
-const WORDS: usize = 13;
+const WORDS: usize = 14;
 
 // The commands, by their places among the names in `command`.
 const OPEN: usize = 0;
@@ -67,14 +70,16 @@ const SAVE: usize = 7;
 
 const LOAD: usize = 8;
 
-const NO_COMMAND: usize = 9;
+const PARTS: usize = 9;
+
+const NO_COMMAND: usize = 10;
 
 // Which command w is.
 fn command(w: &[u8]) -> usize
     ensures { λ r. ⌜ r ≡ commandOf (now (w .entry)) ⌝ }
 {
     turbo_labels::column_of(
-        b"OPEN|REGISTER|MESSAGE|WITHDRAW|BOARD|MESSAGES|REGISTERED|SAVE|LOAD",
+        b"OPEN|REGISTER|MESSAGE|WITHDRAW|BOARD|MESSAGES|REGISTERED|SAVE|LOAD|PARTS",
         w,
     )
 }
@@ -118,6 +123,27 @@ fn read_message(line: &[u8]) -> Order
         return Order::Bad(1, NO_SENDER);
     }
     Order::Message(sender as u8)
+}
+
+// A part has at most as many bytes as a dossier may have: a larger one could hold no more.
+const LARGEST_PART: u32 = 65536;
+
+// PARTS sender dossier-file size.
+fn read_parts(line: &[u8]) -> Order
+    ensures { λ r. ⌜ r ≡ partsOrder (now (line .entry)) ⌝ }
+{
+    let sender = number(line, 1);
+    if 255 < sender {
+        return Order::Bad(1, NO_SENDER);
+    }
+    let size = number(line, 3);
+    if size == 0 {
+        return Order::Bad(3, NO_SIZE);
+    }
+    if LARGEST_PART < size {
+        return Order::Bad(3, NO_SIZE);
+    }
+    Order::Parts(sender as u8, size as usize)
 }
 
 // WITHDRAW number sender.
@@ -208,6 +234,7 @@ fn is_whole(line: &[u8], c: usize) -> bool
         REGISTERED => has_words(line, 0, 1),
         SAVE => has_words(line, 1, 2),
         LOAD => has_words(line, 1, 2),
+        PARTS => has_words(line, 3, 4),
         _ => has_words(line, 2, 3),
     }
 }
@@ -222,6 +249,7 @@ fn is_of_day(c: usize) -> bool
         BOARD => true,
         MESSAGES => true,
         SAVE => true,
+        PARTS => true,
         _ => false,
     }
 }
@@ -247,6 +275,7 @@ fn read_by(line: &[u8], c: usize) -> Order
         REGISTERED => Order::Registered,
         SAVE => Order::Save,
         LOAD => Order::Load,
+        PARTS => read_parts(line),
         _ => wants(c),
     }
 }

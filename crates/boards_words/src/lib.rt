@@ -150,6 +150,7 @@ pub fn miss(place: u32, word: &[u8], why: usize) {
         no horizon, seconds in 1 to 9 digits|\
         no number of places, at most 2048|\
         line over 2,048 bytes|\
+        no size of a part, a number from 1 to 65536|\
         wants planning-file calendar-file|\
         wants sender owner|\
         wants sender dossier-file|\
@@ -159,6 +160,7 @@ pub fn miss(place: u32, word: &[u8], why: usize) {
         wants no more words|\
         wants file|\
         wants file|\
+        wants sender dossier-file size|\
         no command";
     let reason = turbo::field_of(all, why);
     tell(
@@ -180,6 +182,7 @@ pub fn usage() {
         OPEN planning-file calendar-file              begins a new day; the register stays\n\
         REGISTER sender owner                         lets the sender send for the owner\n\
         MESSAGE sender dossier-file                   takes a message in, whole or not at all\n\
+        PARTS sender dossier-file size                the same, fed in parts of so many bytes\n\
         WITHDRAW number sender                        takes a message back\n\
         BOARD owner stop date time horizon [places]   prints departures: YYYY-MM-DD, HH:MM:SS, seconds\n\
         MESSAGES                                      lists the day's messages\n\

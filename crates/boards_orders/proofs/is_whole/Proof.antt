@@ -23,6 +23,9 @@ has-words-requires-5 c κs = search needs
 has-words-requires-6 : tie.Need-has-words-requires-6
 has-words-requires-6 c κs = search needs
 
+has-words-requires-7 : tie.Need-has-words-requires-7
+has-words-requires-7 c κs = search needs
+
 returns : tie.Need-returns
 unfolding isWhole
 returns c = rw (c .before .match .keys1) (c .has-words .ensures)
@@ -45,7 +48,11 @@ returns-5 c = rw (c .before .match .keys5) (c .has-words5 .ensures)
 
 returns-6 : tie.Need-returns-6
 unfolding isWhole
-returns-6 c = let r = c .before .match .rest in rw (ne-eqb _ 4 (r .0 .0 .0 .0 .1), ne-eqb _ 5 (r .0 .0 .0 .1), ne-eqb _ 6 (r .0 .0 .1), ne-eqb _ 7 (r .0 .1), ne-eqb _ 8 (r .1)) (c .has-words6 .ensures)
+returns-6 c = rw (c .before .match .keys6) (c .has-words6 .ensures)
+
+returns-7 : tie.Need-returns-7
+unfolding isWhole
+returns-7 c = let r = c .before .match .rest in rw (ne-eqb _ 4 (r .0 .0 .0 .0 .0 .1), ne-eqb _ 5 (r .0 .0 .0 .0 .1), ne-eqb _ 6 (r .0 .0 .0 .1), ne-eqb _ 7 (r .0 .0 .1), ne-eqb _ 8 (r .0 .1), ne-eqb _ 9 (r .1)) (c .has-words7 .ensures)
 
 pub is-whole-spec : {M : Type 1} → statement M
 is-whole-spec =
@@ -57,9 +64,11 @@ is-whole-spec =
     has-words-requires-4
     has-words-requires-5
     has-words-requires-6
+    has-words-requires-7
     returns
     returns-2
     returns-3
     returns-4
     returns-5
-    returns-6)
+    returns-6
+    returns-7)

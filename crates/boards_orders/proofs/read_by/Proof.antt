@@ -17,6 +17,9 @@ read-withdraw-requires c κs = search needs
 read-board-requires : tie.Need-read-board-requires
 read-board-requires c κs = search needs
 
+read-parts-requires : tie.Need-read-parts-requires
+read-parts-requires c κs = search needs
+
 wants-requires : tie.Need-wants-requires
 wants-requires c κs = search needs
 
@@ -58,7 +61,11 @@ returns-9 c = rw (c .match .keys9)
 
 returns-10 : tie.Need-returns-10
 unfolding orderBy
-returns-10 c = let r = c .before .match .rest in rw (ne-eqb _ 0 (r .0 .0 .0 .0 .0 .0 .0 .0 .1), ne-eqb _ 1 (r .0 .0 .0 .0 .0 .0 .0 .1), ne-eqb _ 2 (r .0 .0 .0 .0 .0 .0 .1), ne-eqb _ 3 (r .0 .0 .0 .0 .0 .1), ne-eqb _ 4 (r .0 .0 .0 .0 .1), ne-eqb _ 5 (r .0 .0 .0 .1), ne-eqb _ 6 (r .0 .0 .1), ne-eqb _ 7 (r .0 .1), ne-eqb _ 8 (r .1)) (c .wants .ensures)
+returns-10 c = rw (c .before .match .keys10) (c .read-parts .ensures)
+
+returns-11 : tie.Need-returns-11
+unfolding orderBy
+returns-11 c = let r = c .before .match .rest in rw (ne-eqb _ 0 (r .0 .0 .0 .0 .0 .0 .0 .0 .0 .1), ne-eqb _ 1 (r .0 .0 .0 .0 .0 .0 .0 .0 .1), ne-eqb _ 2 (r .0 .0 .0 .0 .0 .0 .0 .1), ne-eqb _ 3 (r .0 .0 .0 .0 .0 .0 .1), ne-eqb _ 4 (r .0 .0 .0 .0 .0 .1), ne-eqb _ 5 (r .0 .0 .0 .0 .1), ne-eqb _ 6 (r .0 .0 .0 .1), ne-eqb _ 7 (r .0 .0 .1), ne-eqb _ 8 (r .0 .1), ne-eqb _ 9 (r .1)) (c .wants .ensures)
 
 pub read-by-spec : {M : Type 1} → statement M
 read-by-spec =
@@ -68,6 +75,7 @@ read-by-spec =
     read-message-requires
     read-withdraw-requires
     read-board-requires
+    read-parts-requires
     wants-requires
     returns
     returns-2
@@ -78,4 +86,5 @@ read-by-spec =
     returns-7
     returns-8
     returns-9
-    returns-10)
+    returns-10
+    returns-11)
