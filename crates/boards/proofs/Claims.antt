@@ -6,8 +6,10 @@ use Prim.Native.Nat.{ℕ}
 use mathlib.Core.List.{List}
 use Rattle.lists.specs.Logic.{on}
 use Rattle.boards_orders.specs.declared.Order.{Order}
+use Rattle.boards_departures.specs.Shown.{isShown}
 use Rattle.boards_saved.specs.Saved.{dayIn, registerFrom, bookFrom, tableFrom}
-use Rattle.boards.specs.Leaves.{State, notDone, refusedOnce, isShown, LineLeaves}
+use Rattle.boards_deeds.specs.Deeds.{State, notDone, refusedOnce}
+use Rattle.boards.specs.Leaves.{LineLeaves}
 use Rattle.boards.specs.Claims.{Same, BadChangesNothing, BoardChangesNothing, ListsChangeNothing, SaveChangesNothing, UnsoundFileChangesNothing, All}
 
 -- carried along an equation
@@ -39,7 +41,7 @@ bad-changes-nothing : BadChangesNothing
 bad-changes-nothing day line k why s t e p = same-by s t (notDone s) (by _ _ line s t e p) (same-missed s)
 
 board-changes-nothing : BoardChangesNothing
-board-changes-nothing day line date second horizon most s t e p = same-by s t _ (by _ _ line s t e p) (go (isShown line date second horizon s))
+board-changes-nothing day line date second horizon most s t e p = same-by s t _ (by _ _ line s t e p) (go (isShown line date second horizon (s .held .counts .rows) (s .table)))
   where
     go : (b : Bool) → Same s (on b s (refusedOnce s))
     go true = same-same s

@@ -6,7 +6,8 @@ use mathlib.Core.List.{List}
 use Rattle.boards_orders.specs.declared.Order.the-variants.{Board, Messages, Registered, Save, Bad}
 use Rattle.boards_orders.specs.Orders.{orderIn}
 use Rattle.boards_saved.specs.Saved.{isDay}
-use Rattle.boards.specs.Leaves.{State, loadedFrom, LineLeaves}
+use Rattle.boards_deeds.specs.Deeds.{State, loadedFrom}
+use Rattle.boards.specs.Leaves.{LineLeaves}
 
 -- register, book, table, and what is held of them are as they were
 pub record Same (s t : State) : Type 0 where

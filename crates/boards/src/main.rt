@@ -2,8 +2,8 @@
 mod files;
 mod script;
 
+use boards_deeds::Held;
 use files::Line;
-use script::Held;
 
 // A byte order mark, which some editors put before a text, is no part of the first line.
 fn without_mark<'a>(line: &'a [u8]) -> &'a [u8] {
@@ -24,7 +24,49 @@ fn line_behind<'a>(line: &'a [u8], others: u32) -> &'a [u8] {
     line
 }
 
-// The lines of a script, each done as it is read.
+// What is held behind a line, and whether the script goes on.
+struct Behind {
+    held: Held,
+    more: bool,
+}
+
+// The next line of a script, done as it is read.
+fn turn(
+    fd: i32,
+    paper: &mut [u8],
+    register: &mut [u8],
+    book: &mut [u8],
+    table: &mut [u8],
+    held: Held,
+) -> Behind {
+    match files::read_line(fd, paper) {
+        Line::Whole(n) => {
+            let text = line_behind(script_text::front(paper, n), held.line);
+            let h = script::line(text, register, book, table, held);
+            Behind {
+                held: h,
+                more: true,
+            }
+        }
+        Line::Long => {
+            let h = boards_deeds::long(held);
+            Behind {
+                held: h,
+                more: true,
+            }
+        }
+        Line::End => Behind { held, more: false },
+        Line::Failed => {
+            let h = boards_deeds::unread(held);
+            Behind {
+                held: h,
+                more: false,
+            }
+        }
+    }
+}
+
+// The lines of a script, one after the other.
 fn lines(
     fd: i32,
     paper: &mut [u8],
@@ -37,16 +79,10 @@ fn lines(
     let mut left: u32 = 4294967295;
     while 0 < left {
         left -= 1;
-        match files::read_line(fd, paper) {
-            Line::Whole(n) => {
-                let text = line_behind(script_text::front(paper, n), h.line);
-                h = script::line(text, register, book, table, h);
-            }
-            Line::Long => {
-                h = script::long(h);
-            }
-            Line::End => return h,
-            Line::Failed => return script::unread(h),
+        let t = turn(fd, paper, register, book, table, h);
+        h = t.held;
+        if t.more {} else {
+            return h;
         }
     }
     h

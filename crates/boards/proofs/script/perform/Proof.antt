@@ -67,6 +67,12 @@ load-day-requires c κs = search needs
 enum-known-order-5 : tie.Need-enum-known-order-5
 enum-known-order-5 c = search needs
 
+send-requires-2 : tie.Need-send-requires-2
+send-requires-2 c κs = search needs
+
+enum-known-order-6 : tie.Need-enum-known-order-6
+enum-known-order-6 c = search needs
+
 bad-requires : tie.Need-bad-requires
 bad-requires c κs = search needs
 
@@ -151,8 +157,20 @@ same-length-17 c = search needs
 returns-10 : tie.Need-returns-10
 returns-10 c = let a = c .before .before .before .before .before .before .before .before .before .before .before .before .before .before .before .before .args in leaves-by (a .order) _ (a .line .now) (state (a .held) (a .register .now) (a .book .now) (a .table .now)) _ (c .before .before .before .before .before .before .before .before .before .before .enum-told6 .given .1) (c .before .before .before .before .before .before .load-day .ensures)
 
+same-length-18 : tie.Need-same-length-18
+same-length-18 c = search needs
+
+same-length-19 : tie.Need-same-length-19
+same-length-19 c = search needs
+
+same-length-20 : tie.Need-same-length-20
+same-length-20 c = search needs
+
 returns-11 : tie.Need-returns-11
-returns-11 c = let a = c .before .before .before .before .before .before .before .before .args in leaves-by (a .order) _ (a .line .now) (state (a .held) (a .register .now) (a .book .now) (a .table .now)) _ (c .before .before .order5 .given .1) (held-is _ _ _ _ _ (c .bad .ensures))
+returns-11 c = let a = c .before .before .before .before .before .before .before .before .before .before .before .before .before .before .before .args in leaves-by (a .order) _ (a .line .now) (state (a .held) (a .register .now) (a .book .now) (a .table .now)) _ (c .before .before .before .before .before .before .before .before .before .order5 .given .1) (c .before .before .before .before .send2 .ensures)
+
+returns-12 : tie.Need-returns-12
+returns-12 c = let a = c .before .before .before .before .before .before .before .before .args in leaves-by (a .order) _ (a .line .now) (state (a .held) (a .register .now) (a .book .now) (a .table .now)) _ (c .before .before .order6 .given .1) (held-is _ _ _ _ _ (c .bad .ensures))
 
 pub perform-spec : {M : Type 1} → statement M
 perform-spec =
@@ -178,6 +196,8 @@ perform-spec =
     enum-told-6
     load-day-requires
     enum-known-order-5
+    send-requires-2
+    enum-known-order-6
     bad-requires
     returns
     same-length
@@ -206,4 +226,8 @@ perform-spec =
     same-length-16
     same-length-17
     returns-10
-    returns-11)
+    same-length-18
+    same-length-19
+    same-length-20
+    returns-11
+    returns-12)

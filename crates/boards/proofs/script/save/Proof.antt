@@ -41,11 +41,8 @@ front-requires-3 c κs = search needs
 store-requires : tie.Need-store-requires
 store-requires c κs = search needs
 
-slice-aggregate-tell-day : tie.Need-slice-aggregate-tell-day
-slice-aggregate-tell-day c = search needs
-
-tell-day-requires : tie.Need-tell-day-requires
-tell-day-requires c κs = search needs
+saved-requires : tie.Need-saved-requires
+saved-requires c κs = search needs
 
 returns : tie.Need-returns
 returns c = inl refl
@@ -72,8 +69,7 @@ save-spec =
     mul-front
     front-requires-3
     store-requires
-    slice-aggregate-tell-day
-    tell-day-requires
+    saved-requires
     returns
     bad-requires
     returns-2)

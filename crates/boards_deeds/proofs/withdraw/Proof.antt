@@ -1,10 +1,10 @@
--- `script::withdraw` meets its contract. Assumes nothing.
+-- `withdraw` meets its contract. Assumes nothing.
 use mathlib.Core.Path.{refl}
-use Rattle.boards.specs.Leaves.{state}
-use Rattle.boards.proofs.LeavesLaws.{left-is}
+use Rattle.boards_deeds.specs.Deeds.{state}
+use Rattle.boards_deeds.proofs.DeedLaws.{left-is}
 use borrow.Author.Needs.{needs}
-use Rattle.boards.proofs.script.withdraw.Statement.{statement}
-use Rattle.boards.proofs.script.withdraw.Tie as tie
+use Rattle.boards_deeds.proofs.withdraw.Statement.{statement}
+use Rattle.boards_deeds.proofs.withdraw.Tie as tie
 
 withdraw-requires : tie.Need-withdraw-requires
 withdraw-requires c κs = search needs

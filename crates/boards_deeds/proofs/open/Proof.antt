@@ -1,10 +1,10 @@
--- `script::open_on` meets its contract. Assumes nothing.
+-- `open` meets its contract. Assumes nothing.
 use mathlib.Core.Path.{refl}
-use Rattle.boards.specs.Leaves.{state}
-use Rattle.boards.proofs.LeavesLaws.{left-is}
+use Rattle.boards_deeds.specs.Deeds.{state}
+use Rattle.boards_deeds.proofs.DeedLaws.{left-is}
 use borrow.Author.Needs.{needs}
-use Rattle.boards.proofs.script.open_on.Statement.{statement}
-use Rattle.boards.proofs.script.open_on.Tie as tie
+use Rattle.boards_deeds.proofs.open.Statement.{statement}
+use Rattle.boards_deeds.proofs.open.Tie as tie
 
 open-requires : tie.Need-open-requires
 open-requires c κs = search needs
@@ -24,8 +24,8 @@ same-length-2 c = search needs
 returns : tie.Need-returns
 returns c = let a = c .before .before .before .before .before .before .before .before .before .before .before .before .before .before .before .args in let o = c .before .before .before .before .before .before .«open» in λ register. left-is (o .result) _ _ _ (a .held) (c .told .result) (state (a .held) register (a .book .now) (a .table .now)) refl (c .told .ensures) (o .ensures .0)
 
-pub open-on-spec : {M : Type 1} → statement M
-open-on-spec =
+pub open-spec : {M : Type 1} → statement M
+open-spec =
     tie.close
     (tie.spec
     open-requires

@@ -1,8 +1,8 @@
--- `script::told` meets its contract. Assumes nothing.
-use Rattle.boards.proofs.LeavesLaws.{told-accepted, told-refused}
+-- `told` meets its contract. Assumes nothing.
+use Rattle.boards_deeds.proofs.DeedLaws.{told-accepted, told-refused}
 use borrow.Author.Needs.{needs}
-use Rattle.boards.proofs.script.told.Statement.{statement}
-use Rattle.boards.proofs.script.told.Tie as tie
+use Rattle.boards_deeds.proofs.told.Statement.{statement}
+use Rattle.boards_deeds.proofs.told.Tie as tie
 
 numbers-requires : tie.Need-numbers-requires
 numbers-requires c κs = search needs

@@ -1,8 +1,8 @@
--- `script::miss` meets its contract. Assumes nothing.
-use Rattle.boards.proofs.LeavesLaws.{missed-is}
+-- `miss` meets its contract. Assumes nothing.
+use Rattle.boards_deeds.proofs.DeedLaws.{missed-is}
 use borrow.Author.Needs.{needs}
-use Rattle.boards.proofs.script.miss.Statement.{statement}
-use Rattle.boards.proofs.script.miss.Tie as tie
+use Rattle.boards_deeds.proofs.miss.Statement.{statement}
+use Rattle.boards_deeds.proofs.miss.Tie as tie
 
 miss-requires : tie.Need-miss-requires
 miss-requires c κs = search needs

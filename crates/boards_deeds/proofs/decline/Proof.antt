@@ -1,8 +1,8 @@
--- `script::decline` meets its contract. Assumes nothing.
-use Rattle.boards.proofs.LeavesLaws.{declined-is}
+-- `decline` meets its contract. Assumes nothing.
+use Rattle.boards_deeds.proofs.DeedLaws.{declined-is}
 use borrow.Author.Needs.{needs}
-use Rattle.boards.proofs.script.decline.Statement.{statement}
-use Rattle.boards.proofs.script.decline.Tie as tie
+use Rattle.boards_deeds.proofs.decline.Statement.{statement}
+use Rattle.boards_deeds.proofs.decline.Tie as tie
 
 wrapping-add-u32-requires : tie.Need-wrapping-add-u32-requires
 wrapping-add-u32-requires c κs = search needs

@@ -1,8 +1,8 @@
--- `script::next` meets its contract. Assumes nothing.
-use Rattle.boards.proofs.LeavesLaws.{next-is}
+-- `next` meets its contract. Assumes nothing.
+use Rattle.boards_deeds.proofs.DeedLaws.{next-is}
 use borrow.Author.Needs.{needs}
-use Rattle.boards.proofs.script.next.Statement.{statement}
-use Rattle.boards.proofs.script.next.Tie as tie
+use Rattle.boards_deeds.proofs.next.Statement.{statement}
+use Rattle.boards_deeds.proofs.next.Tie as tie
 
 wrapping-add-u32-requires : tie.Need-wrapping-add-u32-requires
 wrapping-add-u32-requires c κs = search needs

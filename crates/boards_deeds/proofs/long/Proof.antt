@@ -1,9 +1,9 @@
--- `script::long` meets its contract. Assumes nothing.
+-- `long` meets its contract. Assumes nothing.
 use mathlib.Core.Path.{ap, _∙_}
-use Rattle.boards.specs.Leaves.{missed}
+use Rattle.boards_deeds.specs.Deeds.{missed}
 use borrow.Author.Needs.{needs}
-use Rattle.boards.proofs.script.long.Statement.{statement}
-use Rattle.boards.proofs.script.long.Tie as tie
+use Rattle.boards_deeds.proofs.long.Statement.{statement}
+use Rattle.boards_deeds.proofs.long.Tie as tie
 
 slice-aggregate-miss : tie.Need-slice-aggregate-miss
 slice-aggregate-miss c = search needs

@@ -1,0 +1,2 @@
+pub mod DeedLaws
+pub mod Determined
