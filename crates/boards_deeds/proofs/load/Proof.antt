@@ -23,7 +23,7 @@ returns : tie.Need-returns
 returns c =
     let a = c .before .before .before .before .before .before .before .before .before .before .before .before .before .before .before .before .args in
     let l = c .before .before .before .before .before .before .before .load in
-    let h = c .before .before .before .before .before .before .hold-day in
+    let h = c .hold-day in
     loaded-is (a .file .now) (l .result) (a .held) (h .result) (a .register .now) _ (a .book .now) _ (a .table .now) _ (l .ensures .0) (l .ensures .1 .0) (l .ensures .1 .1 .0) (l .ensures .1 .1 .1) (h .ensures)
 
 pub load-spec : {M : Type 1} → statement M

@@ -1,6 +1,6 @@
 -- `script::load_from` meets its contract. Assumes nothing.
 use mathlib.Core.Logic.{inl, inr}
-use Rattle.boards.proofs.LeavesLaws.{held-is}
+use Rattle.boards_deeds.proofs.DeedLaws.{held-is}
 use borrow.Author.Needs.{needs}
 use Rattle.boards.proofs.script.load_from.Statement.{statement}
 use Rattle.boards.proofs.script.load_from.Tie as tie
@@ -23,8 +23,8 @@ returns c = inl (held-is _ _ _ _ _ (c .bad .ensures))
 front-requires : tie.Need-front-requires
 front-requires c κs = search needs
 
-take-day-requires : tie.Need-take-day-requires
-take-day-requires c κs = search needs
+load-requires-2 : tie.Need-load-requires-2
+load-requires-2 c κs = search needs
 
 same-length : tie.Need-same-length
 same-length c = search needs
@@ -36,7 +36,7 @@ same-length-3 : tie.Need-same-length-3
 same-length-3 c = search needs
 
 returns-2 : tie.Need-returns-2
-returns-2 c = inr (c .before .before .before .before .before .before .before .before .before .before .front .result .now, c .before .before .before .before .before .before .take-day .ensures)
+returns-2 c = inr (c .before .before .before .before .before .before .before .before .before .before .front .result .now, c .before .before .before .before .before .before .load2 .ensures)
 
 pub load-from-spec : {M : Type 1} → statement M
 load-from-spec =
@@ -48,7 +48,7 @@ load-from-spec =
     bad-requires
     returns
     front-requires
-    take-day-requires
+    load-requires-2
     same-length
     same-length-2
     same-length-3

@@ -1,6 +1,6 @@
 -- `script::open_from` meets its contract. Assumes nothing.
 use mathlib.Core.Logic.{inl, inr}
-use Rattle.boards.proofs.LeavesLaws.{held-is}
+use Rattle.boards_deeds.proofs.DeedLaws.{held-is}
 use borrow.Author.Needs.{needs}
 use Rattle.boards.proofs.script.open_from.Statement.{statement}
 use Rattle.boards.proofs.script.open_from.Tie as tie
@@ -41,8 +41,8 @@ front-requires c κs = search needs
 front-requires-2 : tie.Need-front-requires-2
 front-requires-2 c κs = search needs
 
-open-on-requires : tie.Need-open-on-requires
-open-on-requires c κs = search needs
+open-requires : tie.Need-open-requires
+open-requires c κs = search needs
 
 same-length : tie.Need-same-length
 same-length c = search needs
@@ -51,7 +51,7 @@ same-length-2 : tie.Need-same-length-2
 same-length-2 c = search needs
 
 returns-3 : tie.Need-returns-3
-returns-3 c = λ register. inr (c .before .before .before .before .before .before .before .before .before .before .front .result .now, c .before .before .before .before .before .before .before .front2 .result .now, c .before .before .before .before .open-on .ensures register)
+returns-3 c = λ register. inr (c .before .before .before .before .before .before .before .before .before .before .front .result .now, c .before .before .before .before .before .before .before .front2 .result .now, c .before .before .before .before .open .ensures register)
 
 pub open-from-spec : {M : Type 1} → statement M
 open-from-spec =
@@ -69,7 +69,7 @@ open-from-spec =
     returns-2
     front-requires
     front-requires-2
-    open-on-requires
+    open-requires
     same-length
     same-length-2
     returns-3)

@@ -1,8 +1,9 @@
 -- `script::perform` meets its contract. Assumes nothing.
 use mathlib.Core.Path.{refl}
 use mathlib.Core.Logic.{inl, inr, ⊎-elim}
-use Rattle.boards.specs.Leaves.{state}
-use Rattle.boards.proofs.LeavesLaws.{state-is, held-is, leaves-by}
+use Rattle.boards_deeds.specs.Deeds.{state}
+use Rattle.boards_deeds.proofs.DeedLaws.{state-is, held-is}
+use Rattle.boards.proofs.LeavesLaws.{leaves-by}
 use borrow.Author.Needs.{needs}
 use Rattle.boards.proofs.script.perform.Statement.{statement}
 use Rattle.boards.proofs.script.perform.Tie as tie
@@ -37,8 +38,8 @@ withdraw-requires c κs = search needs
 enum-known-order-4 : tie.Need-enum-known-order-4
 enum-known-order-4 c = search needs
 
-board-requires : tie.Need-board-requires
-board-requires c κs = search needs
+ask-requires : tie.Need-ask-requires
+ask-requires c κs = search needs
 
 enum-told-3 : tie.Need-enum-told-3
 enum-told-3 c = search needs
@@ -119,7 +120,7 @@ same-length-9 : tie.Need-same-length-9
 same-length-9 c = search needs
 
 returns-6 : tie.Need-returns-6
-returns-6 c = let a = c .before .before .before .before .before .before .before .before .before .args in leaves-by (a .order) _ (a .line .now) (state (a .held) (a .register .now) (a .book .now) (a .table .now)) _ (c .before .before .before .order4 .given .1) (c .board .ensures (a .register .now) (a .book .now))
+returns-6 c = let a = c .before .before .before .before .before .before .before .before .before .args in leaves-by (a .order) _ (a .line .now) (state (a .held) (a .register .now) (a .book .now) (a .table .now)) _ (c .before .before .before .order4 .given .1) (c .ask .ensures (a .register .now) (a .book .now))
 
 same-length-10 : tie.Need-same-length-10
 same-length-10 c = search needs
@@ -186,7 +187,7 @@ perform-spec =
     enum-known-order-3
     withdraw-requires
     enum-known-order-4
-    board-requires
+    ask-requires
     enum-told-3
     list-messages-requires
     enum-told-4

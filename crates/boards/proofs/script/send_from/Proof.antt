@@ -1,6 +1,6 @@
 -- `script::send_from` meets its contract. Assumes nothing.
 use mathlib.Core.Logic.{inl, inr}
-use Rattle.boards.proofs.LeavesLaws.{held-is}
+use Rattle.boards_deeds.proofs.DeedLaws.{held-is}
 use borrow.Author.Needs.{needs}
 use Rattle.boards.proofs.script.send_from.Statement.{statement}
 use Rattle.boards.proofs.script.send_from.Tie as tie
@@ -23,8 +23,8 @@ returns c = inl (held-is _ _ _ _ _ (c .bad .ensures))
 front-requires : tie.Need-front-requires
 front-requires c κs = search needs
 
-send-on-requires : tie.Need-send-on-requires
-send-on-requires c κs = search needs
+send-requires : tie.Need-send-requires
+send-requires c κs = search needs
 
 same-length : tie.Need-same-length
 same-length c = search needs
@@ -33,7 +33,7 @@ same-length-2 : tie.Need-same-length-2
 same-length-2 c = search needs
 
 returns-2 : tie.Need-returns-2
-returns-2 c = inr (c .before .before .before .before .before .before .before .front .result .now, c .before .before .before .before .send-on .ensures)
+returns-2 c = inr (c .before .before .before .before .before .before .before .front .result .now, c .before .before .before .before .send .ensures)
 
 pub send-from-spec : {M : Type 1} → statement M
 send-from-spec =
@@ -45,7 +45,7 @@ send-from-spec =
     bad-requires
     returns
     front-requires
-    send-on-requires
+    send-requires
     same-length
     same-length-2
     returns-2)
