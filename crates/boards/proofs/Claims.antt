@@ -10,7 +10,7 @@ use Rattle.boards_departures.specs.Shown.{isShown}
 use Rattle.boards_saved.specs.Saved.{dayIn, registerFrom, bookFrom, tableFrom}
 use Rattle.boards_deeds.specs.Deeds.{State, notDone, refusedOnce}
 use Rattle.boards.specs.Leaves.{LineLeaves}
-use Rattle.boards.specs.Claims.{Same, BadChangesNothing, BoardChangesNothing, ListsChangeNothing, SaveChangesNothing, UnsoundFileChangesNothing, All}
+use Rattle.boards.specs.Claims.{Same, BadChangesNothing, BoardChangesNothing, ListsChangeNothing, SaveChangesNothing, UnsoundFileChangesNothing, PartsAsMessage, All}
 
 -- carried along an equation
 same-by : (s t u : State) → t ≡ u → Same s u → Same s t
@@ -57,5 +57,8 @@ unsound-file-changes-nothing : UnsoundFileChangesNothing
 unfolding dayIn registerFrom bookFrom tableFrom
 unsound-file-changes-nothing file s e = rw e (same-refused s)
 
+parts-as-message : PartsAsMessage
+parts-as-message sender size line s t = (λ p. p, λ p. p)
+
 pub claims : All
-claims = (bad-changes-nothing, board-changes-nothing, lists-change-nothing, save-changes-nothing, unsound-file-changes-nothing)
+claims = (bad-changes-nothing, board-changes-nothing, lists-change-nothing, save-changes-nothing, unsound-file-changes-nothing, parts-as-message)

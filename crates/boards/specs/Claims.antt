@@ -3,7 +3,8 @@ use Prim.Native.Nat.{ℕ}
 use mathlib.Core.Path.{_≡_}
 use mathlib.Core.Bool.{Bool, false}
 use mathlib.Core.List.{List}
-use Rattle.boards_orders.specs.declared.Order.the-variants.{Board, Messages, Registered, Save, Bad}
+use mathlib.Core.Logic.{_↔_}
+use Rattle.boards_orders.specs.declared.Order.the-variants.{Message, Board, Messages, Registered, Save, Parts, Bad}
 use Rattle.boards_orders.specs.Orders.{orderIn}
 use Rattle.boards_saved.specs.Saved.{isDay}
 use Rattle.boards_deeds.specs.Deeds.{State, loadedFrom}
@@ -45,6 +46,10 @@ SaveChangesNothing = (day : Bool) (line : List ℕ) (s t : State) → orderIn da
 abbrev pub UnsoundFileChangesNothing : Type 0
 UnsoundFileChangesNothing = (file : List ℕ) (s : State) → isDay file ≡ false → Same s (loadedFrom file s)
 
+-- what a message fed in parts may leave, of whatever size, is what a whole message may leave: the rule of the one call on the bytes that the file gave
+abbrev pub PartsAsMessage : Type 0
+PartsAsMessage = (sender size : ℕ) (line : List ℕ) (s t : State) → LineLeaves (Parts sender size) line s t ↔ LineLeaves (Message sender) line s t
+
 -- all of these
 abbrev pub All : Type 0
-All = BadChangesNothing × BoardChangesNothing × ListsChangeNothing × SaveChangesNothing × UnsoundFileChangesNothing
+All = BadChangesNothing × BoardChangesNothing × ListsChangeNothing × SaveChangesNothing × UnsoundFileChangesNothing × PartsAsMessage

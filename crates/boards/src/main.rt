@@ -99,22 +99,19 @@ fn done(name: &[u8], held: Held) {
     );
 }
 
-// The lines of the script that a name gives; - is standard input.
-fn lines_named(
-    name: &[u8],
-    paper: &mut [u8],
-    register: &mut [u8],
-    book: &mut [u8],
-    table: &mut [u8],
-    held: Held,
-) -> Held {
+// The script that a name gives; - is standard input.
+fn opened(name: &[u8]) -> i32 {
     if lists::same_bytes(name, b"-") {
-        return lines(libc::STDIN_FILENO, paper, register, book, table, held);
+        return libc::STDIN_FILENO;
     }
-    let fd = os::open_read(name);
-    let h = lines(fd, paper, register, book, table, held);
-    libc::close(fd);
-    h
+    os::open_read(name)
+}
+
+// Standard input stays open: it may be named once more.
+fn shut(fd: i32) {
+    if fd != libc::STDIN_FILENO {
+        libc::close(fd);
+    }
 }
 
 // A script, on the day that the one before left, and its closing line.
@@ -126,8 +123,9 @@ fn script_named(
     table: &mut [u8],
     held: Held,
 ) -> Held {
-    let begun = script::begun(held);
-    let h = lines_named(name, paper, register, book, table, begun);
+    let fd = opened(name);
+    let h = lines(fd, paper, register, book, table, script::begun(held));
+    shut(fd);
     done(name, h);
     h
 }
@@ -137,15 +135,39 @@ const PAPER: usize = 2049;
 
 const TABLE: usize = table::MOST_ROWS * passage::ROW_WIDE;
 
-// The scripts that the arguments name, one after the other.
+// How many scripts the arguments name; where they name none, standard input is the one.
+fn count_of(words: usize) -> usize {
+    if words < 2 {
+        return 1;
+    }
+    words - 1
+}
+
+// The i-th of them to `name`; how long it is.
+fn name_of(words: usize, i: usize, name: &mut [u8]) -> usize {
+    if words < 2 {
+        return script_text::append(name, 0, b"-");
+    }
+    os::arg(i, name)
+}
+
+// The scripts, one after the other.
 fn scripts(words: usize, paper: &mut [u8], register: &mut [u8], book: &mut [u8], table: &mut [u8]) {
     let mut h = script::nothing();
-    let mut i = 1;
-    while i < words {
-        let mut name = io::buffer();
-        let n = os::arg(i, &mut name);
-        h = script_named(&name[..n], paper, register, book, table, h);
+    let count = count_of(words);
+    let mut i = 0;
+    while i < count {
         i += 1;
+        let mut name = io::buffer();
+        let n = name_of(words, i, &mut name);
+        h = script_named(
+            script_text::front(&name, n),
+            paper,
+            register,
+            book,
+            table,
+            h,
+        );
     }
 }
 
@@ -169,10 +191,6 @@ fn run(
     let words = os::arg_count();
     if asks_usage(words) {
         boards_words::usage();
-        return;
-    }
-    if words < 2 {
-        script_named(b"-", paper, register, book, table, script::nothing());
         return;
     }
     scripts(words, paper, register, book, table);

@@ -23,7 +23,7 @@ fn plain(place: u32, line: &[u8], f: Four) {
         message already withdrawn|\
         message of another sender||\
         no room in the staging area|\
-        line %C has more than 4,096 bytes";
+        more than 4,096 bytes in line %C";
     let words = turbo::field_of(all, f.number as usize);
     boards_words::refuse(
         line,

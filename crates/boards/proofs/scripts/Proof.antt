@@ -8,37 +8,40 @@ use Rattle.boards.proofs.scripts.Statement.{statement}
 use Rattle.boards.proofs.scripts.Tie as tie
 
 abbrev Inv-loop : tie.InvT-loop
-Inv-loop words paper₀ register₀ book₀ table₀ h₀ i₀ paper register book table h i = (words < 18446744073709551616) × (length paper ≡ length paper₀) × (length register ≡ length register₀) × (length book ≡ length book₀) × (length table ≡ length table₀)
+Inv-loop words paper₀ register₀ book₀ table₀ h₀ count i₀ paper register book table h i = (count < 18446744073709551616) × (length paper ≡ length paper₀) × (length register ≡ length register₀) × (length book ≡ length book₀) × (length table ≡ length table₀)
 
 abbrev μ-loop : tie.MeasureT-loop
-μ-loop words paper₀ register₀ book₀ table₀ h₀ i₀ paper register book table h i = words - i
+μ-loop words paper₀ register₀ book₀ table₀ h₀ count i₀ paper register book table h i = count - i
 
 nothing-requires : tie.Need-nothing-requires Inv-loop μ-loop
 nothing-requires c κs = tt
 
+count-of-requires : tie.Need-count-of-requires Inv-loop μ-loop
+count-of-requires c κs = tt
+
 loop-holds : tie.Need-loop-holds Inv-loop μ-loop
 loop-holds c = omega arith
+
+add-i : tie.Need-add-i Inv-loop μ-loop
+add-i c = omega arith
 
 buffer-requires : tie.Need-buffer-requires Inv-loop μ-loop
 buffer-requires c κs = tt
 
-slice-aggregate-arg : tie.Need-slice-aggregate-arg Inv-loop μ-loop
-slice-aggregate-arg c = search needs
+slice-aggregate-name-of : tie.Need-slice-aggregate-name-of Inv-loop μ-loop
+slice-aggregate-name-of c = search needs
 
-arg-requires : tie.Need-arg-requires Inv-loop μ-loop
-arg-requires c κs = tt
+name-of-requires : tie.Need-name-of-requires Inv-loop μ-loop
+name-of-requires c κs = tt
 
-array-share-prefix-name : tie.Need-array-share-prefix-name Inv-loop μ-loop
-array-share-prefix-name c = search needs
+slice-aggregate-front : tie.Need-slice-aggregate-front Inv-loop μ-loop
+slice-aggregate-front c = search needs
 
-slice-aggregate-script-named : tie.Need-slice-aggregate-script-named Inv-loop μ-loop
-slice-aggregate-script-named c = search needs
+front-requires : tie.Need-front-requires Inv-loop μ-loop
+front-requires c κs = tt
 
 script-named-requires : tie.Need-script-named-requires Inv-loop μ-loop
 script-named-requires c κs = tt
-
-add-i : tie.Need-add-i Inv-loop μ-loop
-add-i c = omega arith
 
 loop-less : tie.Need-loop-less Inv-loop μ-loop
 loop-less c = omega arith
@@ -68,14 +71,15 @@ scripts-spec =
     Inv-loop
     μ-loop
     nothing-requires
+    count-of-requires
     loop-holds
-    buffer-requires
-    slice-aggregate-arg
-    arg-requires
-    array-share-prefix-name
-    slice-aggregate-script-named
-    script-named-requires
     add-i
+    buffer-requires
+    slice-aggregate-name-of
+    name-of-requires
+    slice-aggregate-front
+    front-requires
+    script-named-requires
     loop-less
     loop-again
     same-length
