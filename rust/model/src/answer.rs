@@ -16,6 +16,8 @@ pub enum Refusal {
     AlreadyWithdrawn,
     OtherSender,
     OutOfRange,
+    StagingShort,
+    LineLong { line: usize },
 }
 
 impl Refusal {
@@ -35,6 +37,8 @@ impl Refusal {
             Refusal::AlreadyWithdrawn => [11, 0, 0],
             Refusal::OtherSender => [12, 0, 0],
             Refusal::OutOfRange => [13, 0, 0],
+            Refusal::StagingShort => [14, 0, 0],
+            Refusal::LineLong { line } => [15, line as u64, 0],
         }
     }
 }

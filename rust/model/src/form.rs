@@ -1,5 +1,7 @@
 //! Section 1: the dossier's form.
 
+use std::ops::Range;
+
 /// 1.2: what kind of line it is.
 #[derive(Clone, Copy, Debug, PartialEq, Eq)]
 pub enum Mark {
@@ -9,28 +11,39 @@ pub enum Mark {
     Data,
 }
 
-/// 1.3: a line with its fields, raw. 1.2: lines are counted from 1.
+/// 1.3: a line with its fields, raw. 1.2: lines are counted from 1. Its bytes in the dossier, with its mark and its CR LF.
 #[derive(Clone, Debug, PartialEq, Eq)]
 pub struct Line<'a> {
     pub number: usize,
     pub mark: Mark,
     pub fields: Vec<&'a [u8]>,
+    pub bytes: Range<usize>,
 }
 
-/// 1.1 to 1.6: the lines of a well-formed dossier, or the offset of its syntax fault. What stands before `at` has always been the
-/// beginning of some well-formed dossier, so the fault lies at the first byte that cannot go on from there, or at the length.
-pub fn lines(dossier: &[u8]) -> Result<Vec<Line<'_>>, usize> {
+/// 1.1 to 1.6: the lines of a dossier before that of its syntax fault, and the fault's offset; all lines of a well-formed one. What stands
+/// before `at` has always been the beginning of some well-formed dossier, so the fault lies at the first byte that cannot go on from there,
+/// or at the length.
+pub fn lines(dossier: &[u8]) -> (Vec<Line<'_>>, Option<usize>) {
     let mut lines = Vec::new();
     let mut before = None;
     let mut at = 0;
     while at < dossier.len() || before.is_none() || before == Some(Mark::Table) {
-        let (mark, start) = read_mark(dossier, at, before)?;
-        let (fields, end) = read_fields(dossier, start)?;
-        lines.push(Line { number: lines.len() + 1, mark, fields });
+        let (mark, fields, end) = match read_line(dossier, at, before) {
+            Ok(line) => line,
+            Err(offset) => return (lines, Some(offset)),
+        };
+        lines.push(Line { number: lines.len() + 1, mark, fields, bytes: at..end });
         before = Some(mark);
         at = end;
     }
-    Ok(lines)
+    (lines, None)
+}
+
+/// 1.2, 1.3: the line that begins here: its mark, its fields, and where the next begins.
+fn read_line(dossier: &[u8], at: usize, before: Option<Mark>) -> Result<(Mark, Vec<&[u8]>, usize), usize> {
+    let (mark, start) = read_mark(dossier, at, before)?;
+    let (fields, end) = read_fields(dossier, start)?;
+    Ok((mark, fields, end))
 }
 
 /// 1.2: which marks may stand where: first the group line, then only `\T`, after a `\T` line only `\L`, and in a table data lines or the

@@ -2,6 +2,10 @@
 
 /// 5.1: the most bytes of a dossier.
 pub const DOSSIER_BYTES: usize = 65_536;
+/// 1.8: the most bytes of a line, with its CR LF.
+pub const LINE_BYTES: usize = 4_096;
+/// 7.6: the numbers that are lent to a message in parts.
+pub const FEED_NUMBERS: usize = 48;
 /// 4.3: the most bytes that are used of a book.
 pub const BOOK_BYTES: usize = 294_912;
 /// 4.2: the most rows of a table.

@@ -12,6 +12,7 @@ mod board;
 mod columns;
 mod dates;
 mod day;
+mod feed;
 mod form;
 mod layout;
 mod message;
@@ -23,6 +24,7 @@ mod types;
 mod withdraw;
 
 pub use board::board;
+pub use feed::{feed, feed_begin, feed_end};
 pub use message::message;
 pub use open::open;
 pub use withdraw::withdraw;

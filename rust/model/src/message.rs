@@ -20,13 +20,14 @@ pub fn message(
     used: u64,
     rows: u64,
 ) -> [u64; 6] {
-    let outcome = taken(dossier, sender, register, book, table, used, rows);
+    let outcome = taken(|| said(dossier, sender, register), sender, register, book, table, used, rows);
     numbers_of_day(outcome.map_err(|refusal| (refusal, 0)), used, rows)
 }
 
-/// 7.1: 1, then 2 to 6, then 7, then 8. A message without rows is accepted as number 0, from anybody, and changes nothing.
-fn taken(
-    dossier: &[u8],
+/// 7.1: 1, then what `said` refuses or the rows that it gives, then 7, then 8. A message without rows is accepted as number 0, from anybody,
+/// and changes nothing.
+pub fn taken(
+    said: impl Fn() -> Result<Vec<Body>, Refusal>,
     sender: u8,
     register: &[u8],
     book: &mut [u8],
@@ -39,7 +40,7 @@ fn taken(
     }
     let mut entries = sound_book(book, used).ok_or(Refusal::Unsound)?;
     let mut passages = sound_table(table, rows).ok_or(Refusal::Unsound)?;
-    let bodies = said(dossier, sender, register)?;
+    let bodies = said()?;
     let number = if bodies.is_empty() { 0 } else { 1 + entries.updates.last().map_or(0, |last| last.number) };
     for body in &bodies {
         entries.updates.push(Update { kind: STANDING, number, sender, body: *body });
@@ -57,7 +58,7 @@ fn taken(
     Ok(Accepted { value: number, used, rows })
 }
 
-/// Refusals 2 to 5, and 5.4, refusal 6: the first line whose owner is not registered for the sender; else what the rows say.
+/// Refusals 2 to 5 and 15, and 5.4, refusal 6: the first line whose owner is not registered for the sender; else what the rows say.
 fn said(dossier: &[u8], sender: u8, register: &[u8]) -> Result<Vec<Body>, Refusal> {
     let rows = read(dossier, &MESSAGE)?;
     match rows.iter().find(|row| !registered(register, sender, &row.text("DataOwnerCode"))) {
@@ -67,7 +68,7 @@ fn said(dossier: &[u8], sender: u8, register: &[u8]) -> Result<Vec<Body>, Refusa
 }
 
 /// 3.3: the body of an update. An optional that is absent or has no content is kept as 255, a missing time as 16,777,215 (3.4).
-fn update_body(row: &Read) -> Body {
+pub fn update_body(row: &Read) -> Body {
     Body {
         key: Key {
             owner: row.text("DataOwnerCode"),

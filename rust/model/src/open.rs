@@ -14,7 +14,7 @@ pub fn open(planning: &[u8], calendar: &[u8], book: &mut [u8], table: &mut [u8],
     numbers_of_day(opened(planning, calendar, book, table), used, rows)
 }
 
-/// 7.1: the planning through 2 to 5, the calendar through 2 to 5, then 7, 9, 8.
+/// 7.1: the planning through 2, 3, 15, 4 and 5, the calendar through the same, then 7, 9, 8.
 fn opened(planning: &[u8], calendar: &[u8], book: &mut [u8], table: &mut [u8]) -> Result<Accepted, (Refusal, u64)> {
     let pass_times = read(planning, &PLANNING).map_err(|refusal| (refusal, 1))?;
     let validities = read(calendar, &CALENDAR).map_err(|refusal| (refusal, 2))?;

@@ -1,16 +1,18 @@
-//! Sections 3 and 5: the rows of a dossier, or refusals 2 to 5.
+//! Sections 3 and 5: the rows of a dossier, or refusals 2 to 5 and 15.
 
 use std::collections::BTreeMap;
 
 use crate::answer::Refusal;
 use crate::columns::{cell, Cell, Wanted};
 use crate::form::{lines, Line, Mark};
-use crate::layout::DOSSIER_BYTES;
+use crate::layout::{DOSSIER_BYTES, LINE_BYTES};
 use crate::passage::Text;
 
 /// What a data line of a wanted table gives: its cells by the names of their columns. An optional column that is absent has none.
 pub struct Read {
     pub line: usize,
+    /// Where the line's last byte stands in the dossier, its LF.
+    pub last: usize,
     cells: BTreeMap<&'static str, Cell>,
 }
 
@@ -43,12 +45,18 @@ struct Table<'a> {
     data: &'a [Line<'a>],
 }
 
-/// Refusals 2 to 5 (5.1 to 5.3), each looked for over the whole dossier before the next (5.5); else the rows in order.
+/// Refusals 2, 3, 15, 4 and 5 (5.1 to 5.3), each looked for over the whole dossier before the next (5.5); else the rows in order.
 pub fn read(dossier: &[u8], wanted: &Wanted) -> Result<Vec<Read>, Refusal> {
     if dossier.len() > DOSSIER_BYTES {
         return Err(Refusal::TooLong);
     }
-    let lines = lines(dossier).map_err(|offset| Refusal::Syntax { offset })?;
+    let (lines, fault) = lines(dossier);
+    if let Some(offset) = fault {
+        return Err(Refusal::Syntax { offset });
+    }
+    if let Some(line) = first_long(&lines) {
+        return Err(Refusal::LineLong { line });
+    }
     let tables = wanted_tables(&lines, wanted);
     for table in &tables {
         check_form(table, wanted)?;
@@ -62,14 +70,39 @@ pub fn read(dossier: &[u8], wanted: &Wanted) -> Result<Vec<Read>, Refusal> {
     Ok(rows)
 }
 
+/// 7.6: the rows before the first line at fault, by 3, 15, 4 or 5, of what has come of a dossier. A line that has not ended gives none.
+pub fn read_before_fault(dossier: &[u8], wanted: &Wanted) -> Vec<Read> {
+    let (mut lines, _) = lines(dossier);
+    if let Some(line) = first_long(&lines) {
+        lines.truncate(line - 1);
+    }
+    let at_fault = wanted_tables(&lines, wanted).iter().find_map(|table| match check_form(table, wanted) {
+        Err(Refusal::Form { line }) => Some(line),
+        _ => None,
+    });
+    if let Some(line) = at_fault {
+        lines.truncate(line - 1);
+    }
+    let tables = wanted_tables(&lines, wanted);
+    let data = tables.iter().flat_map(|table| table.data.iter().map(|line| read_line(table.label, line, wanted)));
+    data.map_while(Result::ok).collect()
+}
+
+/// 1.8, 5.2: the first line of more than 4,096 bytes with its CR LF, whatever it is.
+fn first_long(lines: &[Line]) -> Option<usize> {
+    lines.iter().find(|line| line.bytes.len() > LINE_BYTES).map(|line| line.number)
+}
+
 /// 3.1, 1.7: the tables whose raw name is the wanted one; each has its label line next and then data lines.
 fn wanted_tables<'a>(lines: &'a [Line<'a>], wanted: &Wanted) -> Vec<Table<'a>> {
     let mut tables = Vec::new();
     for (place, line) in lines.iter().enumerate() {
         if line.mark == Mark::Table && line.fields[0] == wanted.table.as_bytes() {
-            let behind = &lines[place + 2..];
-            let data = behind.iter().take_while(|line| line.mark == Mark::Data).count();
-            tables.push(Table { label: &lines[place + 1], data: &behind[..data] });
+            // Of a dossier that has not come whole, the label line may be missing yet.
+            if let [label, behind @ ..] = &lines[place + 1..] {
+                let data = behind.iter().take_while(|line| line.mark == Mark::Data).count();
+                tables.push(Table { label, data: &behind[..data] });
+            }
         }
     }
     tables
@@ -99,5 +132,5 @@ fn read_line(label: &Line, line: &Line, wanted: &Wanted) -> Result<Read, Refusal
             cells.insert(column.name, cell(column, line.fields[place], stop_type).ok_or(fault)?);
         }
     }
-    Ok(Read { line: line.number, cells })
+    Ok(Read { line: line.number, last: line.bytes.end - 1, cells })
 }
