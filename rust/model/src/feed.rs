@@ -26,6 +26,13 @@ struct Part {
     room: usize,
 }
 
+/// A row that came with a part, and whether the staging area had room for it.
+struct Row {
+    part: usize,
+    fitted: bool,
+    body: Body,
+}
+
 /// What a feed was told.
 #[derive(Clone)]
 struct Told {
@@ -81,9 +88,8 @@ pub fn feed(
     // A row comes with its line's LF: a part without one brings none.
     if part.contains(&b'\n') {
         let last = told.parts.len() - 1;
-        let staged = told.staged().into_iter().enumerate();
-        for (place, (_, body)) in staged.filter(|(_, (part, _))| *part == last) {
-            staging[place * BODY_BYTES..][..BODY_BYTES].copy_from_slice(&body.bytes());
+        for (place, row) in told.rows().iter().enumerate().filter(|(_, row)| row.part == last && row.fitted) {
+            staging[place * BODY_BYTES..][..BODY_BYTES].copy_from_slice(&row.body.bytes());
         }
     }
     keep(told, feed);
@@ -132,15 +138,23 @@ impl Told {
         registered(&self.parts[self.part_of(row)].register, self.sender, &row.text("DataOwnerCode"))
     }
 
-    /// The rows before the first line at fault (3 to 6, 15) within the first 65,536 bytes, as many as fit: up to the first for which there
-    /// was no room when it came. Each with the part that it came with.
-    fn staged(&self) -> Vec<(usize, Body)> {
+    /// The rows before the first line at fault (3 to 6, 15) within the first 65,536 bytes. Each has its own place in the staging area, one
+    /// behind the other, and fitted where there was room up to there when it came.
+    fn rows(&self) -> Vec<Row> {
         let dossier = self.dossier();
         let within = &dossier[..dossier.len().min(DOSSIER_BYTES)];
         let read = read_before_fault(within, &MESSAGE);
         let right = read.iter().take_while(|row| self.was_registered(row));
-        let came = right.map(|row| (self.part_of(row), update_body(row))).enumerate();
-        came.take_while(|(place, (part, _))| *place < self.parts[*part].room).map(|(_, row)| row).collect()
+        let row = |(place, row): (usize, &Read)| {
+            let part = self.part_of(row);
+            Row { part, fitted: place < self.parts[part].room, body: update_body(row) }
+        };
+        right.enumerate().map(row).collect()
+    }
+
+    /// How many rows lie in the staging area: those before the first that did not fit.
+    fn staged(&self) -> usize {
+        self.rows().iter().take_while(|row| row.fitted).count()
     }
 
     /// The end's order: 1, 2, 3, 15, 4, 5, 6, 14, 7, 8.
@@ -161,7 +175,7 @@ impl Told {
     /// rows; else the staged rows as they are now.
     fn said(&self, register: &[u8], staging: &[u8]) -> Result<Vec<Body>, Refusal> {
         let rows_now = staging.chunks_exact(BODY_BYTES).map(Body::read);
-        let staged: Vec<Body> = rows_now.take(self.staged().len()).collect();
+        let staged: Vec<Body> = rows_now.take(self.staged()).collect();
         if !staged.iter().all(Body::is_update) {
             return Err(Refusal::Unsound);
         }
