@@ -9,7 +9,8 @@
 //! answer 0 2 0 0 211 1
 //! ```
 //!
-//! with the files `dossier`, `register`, `book` and `table`. The answer is what all sides gave when the case was kept.
+//! with the files `dossier`, `register`, `book` and `table`. The answer is what all sides gave when the case was kept. A feed has a line for
+//! each of its steps, as `step-03 1 66`, and files as `step-03-bytes` and `step-03-register`.
 
 use std::collections::BTreeMap;
 use std::fs;
@@ -17,6 +18,7 @@ use std::io;
 use std::path::{Path, PathBuf};
 
 use crate::call::{Call, Job};
+use crate::feeding::{Feeding, Step};
 use crate::worlds::state::State;
 
 #[derive(Clone, Debug, PartialEq, Eq)]
@@ -55,6 +57,13 @@ impl Case {
         match call {
             Call::Open { .. } => {}
             Call::Message { sender, .. } => line("sender", &[u64::from(*sender)]),
+            Call::Feed(feeding) => {
+                line("sender", &[u64::from(feeding.sender)]);
+                line("fill", &[u64::from(feeding.fill)]);
+                for (place, step) in feeding.steps.iter().enumerate() {
+                    line(&step_name(place), &step_numbers(step));
+                }
+            }
             Call::Withdraw { number, sender } => {
                 line("number", &[u64::from(*number)]);
                 line("sender", &[u64::from(*sender)]);
@@ -76,6 +85,13 @@ impl Case {
         for (name, bytes) in pieces(&self.job) {
             fs::write(folder.join(name), bytes)?;
         }
+        if let Call::Feed(feeding) = &self.job.call {
+            for (place, step) in feeding.steps.iter().enumerate() {
+                for (name, bytes) in step_pieces(step) {
+                    fs::write(folder.join(format!("{}-{name}", step_name(place))), bytes)?;
+                }
+            }
+        }
         Ok(())
     }
 
@@ -88,6 +104,16 @@ impl Case {
             "message" => {
                 let sender = words.number("sender")? as u8;
                 Call::Message { dossier: bytes("dossier")?, sender, register: bytes("register")? }
+            }
+            "feed_end" => {
+                let sender = words.number("sender")? as u8;
+                let fill = words.number("fill")? as u8;
+                let mut steps = Vec::new();
+                while let Ok(numbers) = words.take(&step_name(steps.len())) {
+                    let name = step_name(steps.len());
+                    steps.push(step_of(&numbers, |piece| bytes(&format!("{name}-{piece}")))?);
+                }
+                Call::Feed(Feeding { sender, staging: bytes("staging")?, fill, steps })
             }
             "withdraw" => {
                 Call::Withdraw { number: words.number("number")? as u32, sender: words.number("sender")? as u8 }
@@ -120,6 +146,7 @@ fn pieces(job: &Job) -> Vec<(&'static str, &[u8])> {
     let mut pieces: Vec<(&str, &[u8])> = match &job.call {
         Call::Open { planning, calendar } => vec![("planning", planning), ("calendar", calendar)],
         Call::Message { dossier, register, .. } => vec![("dossier", dossier), ("register", register)],
+        Call::Feed(feeding) => vec![("staging", &feeding.staging)],
         Call::Withdraw { .. } => Vec::new(),
         Call::Board { owner, stop, .. } => vec![("owner", owner), ("stop", stop)],
     };
@@ -128,6 +155,45 @@ fn pieces(job: &Job) -> Vec<(&'static str, &[u8])> {
     }
     pieces.push(("table", &lent.table));
     pieces
+}
+
+fn step_name(place: usize) -> String {
+    format!("step-{place:02}")
+}
+
+/// A step's kind, and its numbers.
+fn step_numbers(step: &Step) -> Vec<u64> {
+    match step {
+        Step::Begin => vec![0],
+        Step::Part { staging, .. } => vec![1, *staging as u64],
+        Step::End { staging, less, .. } => vec![2, *staging as u64, less[0] as u64, less[1] as u64],
+        Step::Tamper { at, .. } => vec![3, *at as u64],
+        Step::Clear => vec![4],
+        Step::Damage { at, add } => vec![5, *at as u64, *add],
+    }
+}
+
+fn step_pieces(step: &Step) -> Vec<(&'static str, &[u8])> {
+    match step {
+        Step::Part { bytes, register, .. } => vec![("bytes", bytes), ("register", register)],
+        Step::End { register, .. } => vec![("register", register)],
+        Step::Tamper { bytes, .. } => vec![("bytes", bytes)],
+        Step::Begin | Step::Clear | Step::Damage { .. } => Vec::new(),
+    }
+}
+
+fn step_of(numbers: &[u64], piece: impl Fn(&str) -> io::Result<Vec<u8>>) -> io::Result<Step> {
+    Ok(match *numbers {
+        [0] => Step::Begin,
+        [1, staging] => Step::Part { bytes: piece("bytes")?, register: piece("register")?, staging: staging as usize },
+        [2, staging, book, table] => {
+            Step::End { register: piece("register")?, staging: staging as usize, less: [book as usize, table as usize] }
+        }
+        [3, at] => Step::Tamper { at: at as usize, bytes: piece("bytes")? },
+        [4] => Step::Clear,
+        [5, at, add] => Step::Damage { at: at as usize, add },
+        _ => return Err(wrong(format!("no step has the numbers {numbers:?}"))),
+    })
 }
 
 /// The lines behind the first: a name, and numbers.

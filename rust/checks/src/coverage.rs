@@ -9,6 +9,7 @@ use crate::worlds::calendar::{day_of_number, number_of_day};
 
 mod boards;
 mod dossiers;
+mod feeds;
 mod least;
 mod updates;
 
@@ -38,6 +39,10 @@ impl Coverage {
             Call::Message { dossier, sender, register } => {
                 self.dossier(dossier, outcome, "message");
                 self.sent(job, outcome, *sender, register);
+            }
+            Call::Feed(feeding) => {
+                self.fed(job, feeding, outcome);
+                return;
             }
             Call::Withdraw { number, sender } => self.withdrawn(job, outcome, *number, *sender),
             Call::Board { .. } if accepted => self.shown(job, outcome),

@@ -5,19 +5,36 @@ use std::panic::{catch_unwind, AssertUnwindSafe};
 
 use layout::{field_in_book, field_in_row};
 
-use crate::call::{Job, Outcome};
+use crate::call::{Call, Job, Outcome};
+use crate::feeding::{Feeding, Step};
 use crate::sides::Judge;
 
 /// A side's name and what it made of a job: an outcome, or the words of a panic.
 pub type Seen = (&'static str, Result<Outcome, String>);
 
-/// Gives the job to each judge.
+/// The judges that a job is for. Where numbers or line of a feed were changed, these are the sides that take any; if there are none, the
+/// first, to which nothing is changed.
+fn judges_of(job: &Job, judges: &[Judge]) -> Vec<Judge> {
+    let damaged = matches!(&job.call, Call::Feed(feeding) if feeding.damaged());
+    if !damaged {
+        return judges.to_vec();
+    }
+    let taking: Vec<Judge> = judges.iter().filter(|judge| judge.takes_any_feed).copied().collect();
+    if taking.is_empty() {
+        judges[..1].to_vec()
+    } else {
+        taking
+    }
+}
+
+/// Gives the job to each judge that it is for.
 pub fn see(job: &Job, judges: &[Judge]) -> Vec<Seen> {
-    judges.iter().map(|judge| (judge.name, attempt(|| (judge.perform)(job)))).collect()
+    judges_of(job, judges).iter().map(|judge| (judge.name, attempt(|| (judge.perform)(job)))).collect()
 }
 
 /// What the first judge leaves, where nothing is wrong with it and all others leave the same; else what is wrong.
 pub fn agreed(job: &Job, judges: &[Judge]) -> Result<Outcome, String> {
+    let judges = &judges_of(job, judges)[..];
     let first = attempt(|| (judges[0].perform)(job));
     if let Ok(outcome) = &first {
         let same = |judge: &Judge| attempt(|| (judge.agrees)(job, outcome)) == Ok(true);
@@ -70,6 +87,10 @@ fn between(job: &Job, one: (&str, &Outcome), other: (&str, &Outcome)) -> Option<
     }
     let told =
         |what: String, ours: u64, theirs: u64| Some(format!("{what}: {ours} by {name}, {theirs} by {other_name}"));
+    if let (Call::Feed(feeding), Some(step)) = (&job.call, first_different(&ours.steps, &theirs.steps)) {
+        let (what, ours, theirs) = step_seen(feeding, step, ours, theirs);
+        return Some(format!("{what}: {ours} by {name}, {theirs} by {other_name}"));
+    }
     if let Some(place) = first_different(&ours.answer, &theirs.answer) {
         let what = format!("answers {:?} and {:?} differ in their {}", ours.answer, theirs.answer, NAMES[place]);
         return told(what, ours.answer[place], theirs.answer[place]);
@@ -87,6 +108,27 @@ fn between(job: &Job, one: (&str, &Outcome), other: (&str, &Outcome)) -> Option<
         return told(what, ours.places[place].into(), theirs.places[place].into());
     }
     Some(format!("{name} and {other_name} leave different lengths"))
+}
+
+/// What two sides do not agree on in a step of a feed, by its place among the steps.
+fn step_seen(feeding: &Feeding, step: usize, ours: &Outcome, theirs: &Outcome) -> (String, String, String) {
+    let what = match feeding.steps[step] {
+        Step::Begin => "a beginning",
+        Step::Part { .. } => "a part",
+        Step::End { .. } => "an end",
+        Step::Tamper { .. } | Step::Clear | Step::Damage { .. } => "no call",
+    };
+    let (ours, theirs) = (&ours.steps[step], &theirs.steps[step]);
+    if ours.answer != theirs.answer {
+        let what = format!("step {step}, {what}, is answered with");
+        return (what, format!("{:?}", ours.answer), format!("{:?}", theirs.answer));
+    }
+    let told = |at: usize, written: &[u8]| match written {
+        [] => "nothing".to_string(),
+        _ => format!("bytes {at} to {} (rows from {})", at + written.len() - 1, at / layout::BODY_WIDE),
+    };
+    let what = format!("step {step}, {what}, writes into the staging area");
+    (what, told(ours.at, &ours.written), told(theirs.at, &theirs.written))
 }
 
 fn first_different<T: PartialEq>(one: &[T], other: &[T]) -> Option<usize> {

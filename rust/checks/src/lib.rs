@@ -9,6 +9,7 @@ pub mod case;
 pub mod compare;
 pub mod coverage;
 pub mod difference;
+pub mod feeding;
 pub mod lend;
 pub mod lines;
 pub mod pages;

@@ -67,11 +67,16 @@ impl Plain for u32 {
     const BESIDE: u32 = 0xa5a5_a5a5;
 }
 
+impl Plain for u64 {
+    const BESIDE: u64 = 0xa5a5_a5a5_a5a5_a5a5;
+}
+
 /// Nobody else can say of a type that it is plain.
 mod kinds {
     pub trait Kind {}
     impl Kind for u8 {}
     impl Kind for u32 {}
+    impl Kind for u64 {}
 }
 
 impl Drop for Pages {

@@ -2,6 +2,7 @@
 
 use crate::call::{Call, Job, Outcome};
 use crate::difference::{difference, see};
+use crate::feeding::Feeding;
 use crate::sides::{Judge, JUDGES};
 use crate::worlds::state::State;
 
@@ -90,6 +91,11 @@ impl<'a> Day<'a> {
 
     pub fn message(&mut self, dossier: Vec<u8>, sender: u8, register: &[u8]) -> [u64; 6] {
         self.ask(Call::Message { dossier, sender, register: register.to_vec() }).answer
+    }
+
+    /// A message in parts. Its answer is that of the last accepted end, or else of the last.
+    pub fn feed(&mut self, feeding: Feeding) -> Outcome {
+        self.ask(Call::Feed(feeding))
     }
 
     pub fn withdraw(&mut self, number: u32, sender: u8) -> [u64; 6] {

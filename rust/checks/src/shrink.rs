@@ -5,6 +5,7 @@ use std::collections::BTreeMap;
 use layout::{entry_wide, KIND_AT, KIND_PLAN, NUMBER_AT, PAIR, ROW};
 
 use crate::call::{Call, Job};
+use crate::feeding::Step;
 
 /// Cuts the job down as long as `holds` is true of what is left, with at most so many tries.
 pub fn shrink(job: Job, tries: usize, holds: impl FnMut(&Job) -> bool) -> Job {
@@ -21,7 +22,8 @@ pub fn shrink(job: Job, tries: usize, holds: impl FnMut(&Job) -> bool) -> Job {
 fn size(job: &Job) -> usize {
     let texts: usize = texts(&mut job.call.clone()).iter().map(|text| text.len()).sum();
     let places = if let Call::Board { places, .. } = &job.call { places.len() } else { 0 };
-    texts + places + job.lent.book.len() + job.lent.table.len() + job.shift
+    let steps = if let Call::Feed(feeding) = &job.call { feeding.steps.len() + usize::from(feeding.fill) } else { 0 };
+    texts + places + steps + job.lent.book.len() + job.lent.table.len() + job.shift
 }
 
 struct Shrinker<F> {
@@ -35,6 +37,18 @@ fn texts(call: &mut Call) -> Vec<&mut Vec<u8>> {
     match call {
         Call::Open { planning, calendar } => vec![planning, calendar],
         Call::Message { dossier, register, .. } => vec![dossier, register],
+        Call::Feed(feeding) => {
+            let mut texts = vec![&mut feeding.staging];
+            for step in &mut feeding.steps {
+                match step {
+                    Step::Part { bytes, register, .. } => texts.extend([bytes, register]),
+                    Step::End { register, .. } => texts.push(register),
+                    Step::Tamper { bytes, .. } => texts.push(bytes),
+                    Step::Begin | Step::Clear | Step::Damage { .. } => {}
+                }
+            }
+            texts
+        }
         Call::Withdraw { .. } => Vec::new(),
         Call::Board { owner, stop, .. } => vec![owner, stop],
     }
@@ -45,6 +59,9 @@ type Pieces = Vec<Vec<u8>>;
 impl<F: FnMut(&Job) -> bool> Shrinker<F> {
     fn once(&mut self) {
         self.change(|job| job.shift = 0);
+        self.cut_steps();
+        self.join_parts();
+        self.change(set_fill);
         self.change(|job| (job.lent.used, job.lent.rows) = (0, 0));
         self.cut(table_rows, set_table_rows);
         self.cut(book_entries, set_messages);
@@ -78,6 +95,33 @@ impl<F: FnMut(&Job) -> bool> Shrinker<F> {
         let mut changed = self.job.clone();
         change(&mut changed);
         self.take(changed);
+    }
+
+    /// Leaves steps of a feed out.
+    fn cut_steps(&mut self) {
+        let Call::Feed(feeding) = &self.job.call else { return };
+        let all = feeding.steps.clone();
+        let places: Pieces = (0..all.len() as u32).map(|place| place.to_be_bytes().to_vec()).collect();
+        let step =
+            |piece: &Vec<u8>| all[u32::from_be_bytes(piece[..].try_into().expect("four bytes")) as usize].clone();
+        self.cut(
+            |_| places.clone(),
+            |job, left| {
+                if let Call::Feed(feeding) = &mut job.call {
+                    feeding.steps = left.iter().map(step).collect();
+                }
+            },
+        );
+    }
+
+    /// Makes one part of two that follow each other.
+    fn join_parts(&mut self) {
+        let mut at = 0;
+        while let Some(joined) = joined_at(&self.job, at) {
+            if !joined.is_some_and(|job| self.take(job)) {
+                at += 1;
+            }
+        }
     }
 
     /// Leaves pieces out, many at a time and then fewer.
@@ -178,6 +222,31 @@ fn set_messages(job: &mut Job, mut entries: Pieces) {
         *number = numbers.get(number).copied().unwrap_or(*number);
     }
     set_book_entries(job, entries);
+}
+
+fn set_fill(job: &mut Job) {
+    if let Call::Feed(feeding) = &mut job.call {
+        feeding.fill = 0;
+    }
+}
+
+/// The job with a part and the next one in one, where they are parts; nothing behind the last step.
+fn joined_at(job: &Job, at: usize) -> Option<Option<Job>> {
+    let Call::Feed(feeding) = &job.call else { return None };
+    if at + 1 >= feeding.steps.len() {
+        return None;
+    }
+    let mut joined = job.clone();
+    let Call::Feed(feeding) = &mut joined.call else { unreachable!("a feed") };
+    let next = feeding.steps[at + 1].clone();
+    match (&mut feeding.steps[at], next) {
+        (Step::Part { bytes, .. }, Step::Part { bytes: more, .. }) => {
+            bytes.extend(more);
+            feeding.steps.remove(at + 1);
+            Some(Some(joined))
+        }
+        _ => Some(None),
+    }
 }
 
 fn places(job: &Job) -> Pieces {

@@ -1,6 +1,8 @@
 //! The implementations behind one name, so that each can stand in for the others.
 
-use zhemdurak::{Counts, Date, Day, Dossier, MessageNumber, Question, Refusal, Register, Sender};
+use zhemdurak::{Counts, Date, Day, Dossier, Feed, Kept, MessageNumber, Question, Refusal, Register, Sender};
+
+use layout::{FEED, LINE};
 
 use crate::call::{agrees, perform, Job, Outcome};
 
@@ -13,6 +15,10 @@ macro_rules! calls {
                 -> [u64; 6];
             fn message(dossier: &[u8], sender: u8, register: &[u8], book: &mut [u8], table: &mut [u8], used: u64, rows: u64)
                 -> [u64; 6];
+            fn feed_begin(sender: u8, feed: &mut [u64; FEED]) -> u32;
+            fn feed(part: &[u8], register: &[u8], staging: &mut [u8], line: &mut [u8; LINE], feed: &mut [u64; FEED]) -> u32;
+            fn feed_end(register: &[u8], staging: &[u8], book: &mut [u8], table: &mut [u8], used: u64, rows: u64,
+                feed: &mut [u64; FEED]) -> [u64; 6];
             fn withdraw(number: u32, sender: u8, book: &mut [u8], table: &mut [u8], used: u64, rows: u64) -> [u64; 6];
             fn board(owner: &[u8], stop: &[u8], date: u32, second: u32, horizon: u32, table: &[u8], rows: u64,
                 places: &mut [u32]) -> [u64; 3];
@@ -25,6 +31,9 @@ macro_rules! declare {
         /// An implementation of the calls, with the answers of the C face.
         pub trait Side {
             const NAME: &'static str;
+            /// It takes any numbers and any line for a feed, and its memory of a feed is the same however the dossier was cut. Another
+            /// side keeps of a feed what it likes, and is lent what it wrote.
+            const TAKES_ANY_FEED: bool = false;
             $(#[allow(clippy::too_many_arguments)]
             fn $call($($part: $kind),*) -> $answer;)*
         }
@@ -33,9 +42,10 @@ macro_rules! declare {
 
 /// A side that is a crate with functions of these names.
 macro_rules! forward {
-    ($side:ident $name:literal = $module:ident $(fn $call:ident($($part:ident: $kind:ty),*) -> $answer:ty;)*) => {
+    ($side:ident $name:literal $(takes any feed: $any:literal)? = $module:ident $(fn $call:ident($($part:ident: $kind:ty),*) -> $answer:ty;)*) => {
         impl Side for $side {
             const NAME: &'static str = $name;
+            $(const TAKES_ANY_FEED: bool = $any;)?
             $(fn $call($($part: $kind),*) -> $answer {
                 $module::$call($($part),*)
             })*
@@ -53,7 +63,7 @@ pub struct Rival;
 pub struct Model;
 
 calls!(declare! {});
-calls!(forward! { Proved "proved" = raw });
+calls!(forward! { Proved "proved" takes any feed: true = raw });
 calls!(forward! { Rival "rival" = rival });
 calls!(forward! { Model "model" = model });
 
@@ -66,10 +76,12 @@ pub struct Judge {
     pub agrees: fn(&Job, &Outcome) -> bool,
     /// It judges one call in so many.
     pub every: u64,
+    /// It takes any numbers and any line for a feed.
+    pub takes_any_feed: bool,
 }
 
 pub const fn judge<S: Side>(every: u64) -> Judge {
-    Judge { name: S::NAME, perform: perform::<S>, agrees: agrees::<S>, every }
+    Judge { name: S::NAME, perform: perform::<S>, agrees: agrees::<S>, every, takes_any_feed: S::TAKES_ANY_FEED }
 }
 
 /// Every side. The first is the one that a run goes on from; the others are compared with it.
@@ -116,6 +128,45 @@ impl Side for Typed {
         let mut day = Day::resumed(book, table, Counts { used, rows });
         let done = day.message(dossier, Sender(sender), &Register::from_bytes(register));
         on_the_day(done.map(|number| number.map_or(0, |number| number.0.into())), &day)
+    }
+
+    fn feed_begin(sender: u8, feed: &mut [u64; FEED]) -> u32 {
+        let (kept, _) = Feed::lent(Sender(sender), &mut [][..]).into_parts();
+        *feed = kept.numbers;
+        0
+    }
+
+    fn feed(part: &[u8], register: &[u8], staging: &mut [u8], line: &mut [u8; LINE], feed: &mut [u64; FEED]) -> u32 {
+        let mut resumed = Feed::resumed(Box::new(Kept { numbers: *feed, line: *line }), staging);
+        let done = resumed.part(part, &Register::from_bytes(register));
+        let (kept, _) = resumed.into_parts();
+        (*feed, *line) = (kept.numbers, kept.line);
+        done.map_or_else(|refusal| refusal.number(), |()| 0)
+    }
+
+    fn feed_end(
+        register: &[u8],
+        staging: &[u8],
+        book: &mut [u8],
+        table: &mut [u8],
+        used: u64,
+        rows: u64,
+        feed: &mut [u64; FEED],
+    ) -> [u64; 6] {
+        let mut day = Day::resumed(book, table, Counts { used, rows });
+        let resumed = Feed::resumed(Box::new(Kept { numbers: *feed, line: [0; LINE] }), staging.to_vec());
+        let done = match resumed.end(&mut day, &Register::from_bytes(register)) {
+            // The feed is gone, so that its numbers are nobody's.
+            Ok(number) => {
+                *feed = [0; FEED];
+                Ok(number.map_or(0, |number| number.0.into()))
+            }
+            Err(not_ended) => {
+                *feed = not_ended.feed.into_parts().0.numbers;
+                Err(not_ended.refusal)
+            }
+        };
+        on_the_day(done, &day)
     }
 
     fn withdraw(number: u32, sender: u8, book: &mut [u8], table: &mut [u8], used: u64, rows: u64) -> [u64; 6] {

@@ -18,6 +18,9 @@ pub struct Tally {
     dossiers: BTreeMap<(u64, u64), u64>,
     /// Accepted messages without rows.
     rowless: u64,
+    /// Messages in parts, each begun, fed and ended in one job, and those of which an end was accepted.
+    fed: u64,
+    taken: u64,
     /// Boards that showed something, those that showed two or more, and those cut by the places lent.
     shown: u64,
     several: u64,
@@ -30,13 +33,19 @@ impl Tally {
     pub fn count(&mut self, job: &Job, outcome: &Outcome) {
         self.coverage.count(job, outcome);
         let [number, value, second, dossier, ..] = outcome.answer;
-        *self.numbers.entry((job.call.kind(), number)).or_default() += 1;
+        for met in outcome.numbers(job) {
+            *self.numbers.entry(met).or_default() += 1;
+        }
         self.total += 1;
         if dossier != 0 {
             *self.dossiers.entry((number, dossier)).or_default() += 1;
         }
         match job.call {
             Call::Message { .. } => self.rowless += u64::from(number == 0 && value == 0),
+            Call::Feed(_) => {
+                self.fed += 1;
+                self.taken += u64::from(number == 0);
+            }
             Call::Board { .. } if number == 0 => {
                 self.shown += u64::from(second > 0);
                 self.several += u64::from(second > 1);
@@ -55,6 +64,8 @@ impl Tally {
             *self.dossiers.entry(key).or_default() += count;
         }
         self.rowless += other.rowless;
+        self.fed += other.fed;
+        self.taken += other.taken;
         self.shown += other.shown;
         self.several += other.several;
         self.cut += other.cut;
@@ -109,6 +120,7 @@ impl fmt::Display for Tally {
             writeln!(f, "open, number {number} ({name}), dossier {dossier}: {count}")?;
         }
         writeln!(f, "accepted messages without rows: {}", self.rowless)?;
+        writeln!(f, "messages in parts: {}, accepted: {}", self.fed, self.taken)?;
         writeln!(
             f,
             "boards that show something: {}, two or more: {}, cut by their places: {}",

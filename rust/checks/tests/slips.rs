@@ -1,16 +1,28 @@
 //! The comparison itself: sides with a slip in them are found out, the first byte is named, and the call is cut down.
 //! What comes out depends on the seed alone.
 
+use std::cell::RefCell;
+
 use checks::call::{perform, Call, Job, Outcome};
 use checks::compare::{job_at, Task};
 use checks::difference::{difference, see};
+use checks::feeding::Step;
 use checks::shrink::shrink;
-use checks::sides::{Judge, Rival, JUDGES};
+use checks::sides::{judge, Judge, Rival, Side, JUDGES};
 
 /// The rival, and the rival with a slip in what it leaves.
 macro_rules! slipping {
     ($slip:ident) => {
-        [JUDGES[1], Judge { name: "slip", perform: $slip, agrees: |job, other| $slip(job) == *other, every: 1 }]
+        [
+            JUDGES[1],
+            Judge {
+                name: "slip",
+                perform: $slip,
+                agrees: |job, other| $slip(job) == *other,
+                every: 1,
+                takes_any_feed: false,
+            },
+        ]
     };
 }
 
@@ -44,6 +56,113 @@ fn forgets(job: &Job) -> Outcome {
         outcome.book[used - layout::UPDATE_WIDE] = job.lent.book[used - layout::UPDATE_WIDE];
     }
     outcome
+}
+
+/// The rival with a slip in its feeds.
+struct Feeds<const SLIP: u8>;
+
+/// An LF with which a part begins is lost.
+const LOST_LF: u8 = 0;
+/// The staging area counts for a byte less.
+const BYTE_LESS: u8 = 1;
+/// An accepted end leaves the numbers as they were.
+const NOT_CLEARED: u8 = 2;
+/// A refused end leaves them zero.
+const CLEARED: u8 = 3;
+/// Lines are counted from the last part's first.
+const LINES_OF_PART: u8 = 4;
+/// A part makes the staging area's last byte zero.
+const LATER_BYTE: u8 = 5;
+/// A part of no begun feed begins one.
+const BEGINS: u8 = 6;
+/// The register that is lent at the end is not looked at.
+const OLD_REGISTER: u8 = 7;
+
+thread_local! {
+    /// The LFs of all parts but the last, those of the last, and the last part's register.
+    static FED: RefCell<(u64, u64, Vec<u8>)> = RefCell::default();
+}
+
+impl<const SLIP: u8> Side for Feeds<SLIP> {
+    const NAME: &'static str = "slip";
+
+    fn open(planning: &[u8], calendar: &[u8], book: &mut [u8], table: &mut [u8], used: u64, rows: u64) -> [u64; 6] {
+        Rival::open(planning, calendar, book, table, used, rows)
+    }
+
+    fn message(
+        dossier: &[u8],
+        sender: u8,
+        register: &[u8],
+        book: &mut [u8],
+        table: &mut [u8],
+        used: u64,
+        rows: u64,
+    ) -> [u64; 6] {
+        Rival::message(dossier, sender, register, book, table, used, rows)
+    }
+
+    fn feed_begin(sender: u8, feed: &mut [u64; 48]) -> u32 {
+        FED.take();
+        Rival::feed_begin(sender, feed)
+    }
+
+    fn feed(part: &[u8], register: &[u8], staging: &mut [u8], line: &mut [u8; 4_096], feed: &mut [u64; 48]) -> u32 {
+        let lines = part.iter().filter(|&&byte| byte == b'\n').count() as u64;
+        FED.with_borrow_mut(|(before, last, kept)| {
+            (*before, *last) = (*before + *last, lines);
+            *kept = register.to_vec();
+        });
+        let part = if SLIP == LOST_LF { part.strip_prefix(b"\n").unwrap_or(part) } else { part };
+        if SLIP == BEGINS && *feed == [0; 48] {
+            Rival::feed_begin(7, feed);
+        }
+        let room = staging.len() - usize::from(SLIP == BYTE_LESS && !staging.is_empty());
+        let number = Rival::feed(part, register, &mut staging[..room], line, feed);
+        if let (LATER_BYTE, [.., last]) = (SLIP, staging) {
+            *last = 0;
+        }
+        number
+    }
+
+    fn feed_end(
+        register: &[u8],
+        staging: &[u8],
+        book: &mut [u8],
+        table: &mut [u8],
+        used: u64,
+        rows: u64,
+        feed: &mut [u64; 48],
+    ) -> [u64; 6] {
+        let (before, _, kept) = FED.with_borrow(|fed| fed.clone());
+        let register = if SLIP == OLD_REGISTER { &kept } else { register };
+        let numbers = *feed;
+        let mut answer = Rival::feed_end(register, staging, book, table, used, rows, feed);
+        match SLIP {
+            NOT_CLEARED if answer[0] == 0 => *feed = numbers,
+            CLEARED if answer[0] != 0 => *feed = [0; 48],
+            LINES_OF_PART if matches!(answer[0], 4..=6 | 15) => answer[1] = answer[1].saturating_sub(before),
+            _ => {}
+        }
+        answer
+    }
+
+    fn withdraw(number: u32, sender: u8, book: &mut [u8], table: &mut [u8], used: u64, rows: u64) -> [u64; 6] {
+        Rival::withdraw(number, sender, book, table, used, rows)
+    }
+
+    fn board(
+        owner: &[u8],
+        stop: &[u8],
+        date: u32,
+        second: u32,
+        horizon: u32,
+        table: &[u8],
+        rows: u64,
+        places: &mut [u32],
+    ) -> [u64; 3] {
+        Rival::board(owner, stop, date, second, horizon, table, rows, places)
+    }
 }
 
 fn first_difference(judges: &[Judge], threads: usize) -> (u64, Job, String) {
@@ -89,6 +208,51 @@ fn an_entry_of_the_book_is_named() {
     let (job, words) = cut_down(&slipping!(forgets));
     assert_eq!(words, "withdraw: books differ first at byte 0 (entry 0, its kind): 3 by rival, 2 by slip");
     assert_eq!((job.lent.used, job.lent.book.len()), (72, 72));
+}
+
+/// What is said of a slip in feeds, and the steps that are left of its job.
+fn cut_down_feed<const SLIP: u8>() -> (Vec<Step>, String) {
+    let (job, words) = cut_down(&[JUDGES[1], judge::<Feeds<SLIP>>(1)]);
+    let Call::Feed(feeding) = job.call else { panic!("a feed") };
+    (feeding.steps, words)
+}
+
+#[test]
+fn slips_of_feeds_are_seen() {
+    let (steps, words) = cut_down_feed::<LOST_LF>();
+    assert_eq!(words, "feed_end: slip: the end's answer is not that of the one call");
+    assert!(matches!(&steps[..], [Step::Begin, Step::Part { .. }, Step::End { .. }]), "{steps:?}");
+    let (steps, words) = cut_down_feed::<BYTE_LESS>();
+    assert!(
+        words.ends_with("writes into the staging area: bytes 0 to 65 (rows from 0) by rival, nothing by slip"),
+        "{words}"
+    );
+    assert!(matches!(&steps[..], [Step::Begin, Step::Part { .. }]), "{steps:?}");
+    let (_, words) = cut_down_feed::<NOT_CLEARED>();
+    assert_eq!(words, "feed_end: slip: an accepted end leaves numbers that are not zero");
+    let (steps, words) = cut_down_feed::<CLEARED>();
+    assert_eq!(words, "feed_end: slip: a refused end changed the feed");
+    assert!(matches!(&steps[..], [.., Step::End { .. }]), "{steps:?}");
+    let (_, words) = cut_down_feed::<LINES_OF_PART>();
+    assert_eq!(words, "feed_end: slip: the end's answer is not that of the one call");
+    let (_, words) = cut_down_feed::<LATER_BYTE>();
+    assert!(words.starts_with("feed_end: step 0, a part") || words.contains("a refused part changed"), "{words}");
+    let (steps, words) = cut_down_feed::<BEGINS>();
+    assert!(words.ends_with("a part, is answered with: [1, 0, 0, 0, 0, 0] by rival, [0, 0, 0, 0, 0, 0] by slip"));
+    assert!(matches!(&steps[..], [Step::Part { .. }]), "{steps:?}");
+    let (_, words) = cut_down_feed::<OLD_REGISTER>();
+    assert!(words.contains("an end, is answered with: [") || words.ends_with("not that of the one call"), "{words}");
+}
+
+/// A side by itself: what it makes of a dossier in parts is held against its own one call.
+#[test]
+fn a_feed_is_held_against_the_one_call() {
+    let words = |judge: Judge| first_difference(&[judge], 1).2;
+    let other_answer = "feed_end: slip: the end's answer is not that of the one call";
+    assert_eq!(words(judge::<Feeds<LOST_LF>>(1)), other_answer);
+    assert_eq!(words(judge::<Feeds<LINES_OF_PART>>(1)), other_answer);
+    let by_rows = "feed_end: slip: 14 goes by something else than the rows of the dossier";
+    assert_eq!(words(judge::<Feeds<BYTE_LESS>>(1)), by_rows);
 }
 
 #[test]

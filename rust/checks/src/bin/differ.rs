@@ -18,7 +18,7 @@ use std::path::{Path, PathBuf};
 use std::process::ExitCode;
 use std::time::{Duration, Instant, SystemTime, UNIX_EPOCH};
 
-use checks::call::Job;
+use checks::call::{Job, Outcome};
 use checks::case::Case;
 use checks::compare::{job_at, Found, Task};
 use checks::difference::{difference, see, trying, Seen};
@@ -206,25 +206,25 @@ fn keep(folder: &Path, seed: u64, index: u64) -> io::Result<bool> {
         return Ok(tell(&small, &see(&small, JUDGES)));
     }
     let answer = (JUDGES[0].perform)(&job).answer;
-    keep_small(folder, job, |other| other[..3] == answer[..3])?;
+    keep_small(folder, job, |_, outcome| outcome.answer[..3] == answer[..3])?;
     println!("{}", folder.display());
     Ok(true)
 }
 
 /// Cuts a call down on which all sides agree, and keeps it with its answer.
-fn keep_small(folder: &Path, job: Job, holds: impl Fn(&[u64; 6]) -> bool) -> io::Result<()> {
+fn keep_small(folder: &Path, job: Job, holds: impl Fn(&Job, &Outcome) -> bool) -> io::Result<()> {
     let small = shrink(job, TRIES, |job| {
         let seen = see(job, JUDGES);
         let agreed = difference(job, &seen).is_none();
-        agreed && seen[0].1.as_ref().is_ok_and(|outcome| holds(&outcome.answer))
+        agreed && seen[0].1.as_ref().is_ok_and(|outcome| holds(job, outcome))
     });
     let answer = (JUDGES[0].perform)(&small).answer;
     Case { job: small, answer: Some(answer) }.write(folder)
 }
 
-/// A case for each call and number, named by both, where the folder has none yet.
+/// A case for each call and number, named by both, where the folder has none yet. A feed is begun in each case of its end.
 fn gather(folder: &Path, seed: u64) -> io::Result<bool> {
-    for (call, name) in layout::CALLS {
+    for (call, name) in layout::CALLS.into_iter().filter(|(call, _)| *call != layout::Call::FeedBegin) {
         for number in layout::numbers_of(call) {
             let folder = folder.join(format!("{name}-{number}"));
             if folder.exists() {
@@ -234,9 +234,12 @@ fn gather(folder: &Path, seed: u64) -> io::Result<bool> {
                 println!("{name}: number {number} was not met");
                 continue;
             };
-            keep_small(&folder, job, |other| {
+            keep_small(&folder, job, |job, outcome| {
+                let other = outcome.answer;
                 // An acceptance is to do something still.
-                other[0] == answer[0] && (1..6).all(|place| number != 0 || (other[place] > 0) == (answer[place] > 0))
+                let does = other[0] == answer[0]
+                    && (1..6).all(|place| number != 0 || (other[place] > 0) == (answer[place] > 0));
+                does && outcome.numbers(job).contains(&(call, number.into()))
             })?;
             println!("{}", folder.display());
         }
@@ -247,9 +250,14 @@ fn gather(folder: &Path, seed: u64) -> io::Result<bool> {
 /// The first call of a seed with this number; of acceptances, one that does something.
 fn first_with(seed: u64, call: layout::Call, number: u64) -> Option<(Job, [u64; 6])> {
     (0..200_000).map(|index| job_at(seed, index, JUDGES[0])).find_map(|job| {
-        let wanted = job.call.kind() == call;
-        let answer = if wanted { (JUDGES[0].perform)(&job).answer } else { [u64::MAX; 6] };
-        let telling = number != 0 || answer[1] + answer[2] > 0 || call != layout::Call::Message && answer[5] > 1;
-        (answer[0] == number && telling).then_some((job, answer))
+        let of_feed = call == layout::Call::Feed && job.call.kind() == layout::Call::FeedEnd;
+        if job.call.kind() != call && !of_feed {
+            return None;
+        }
+        let outcome = (JUDGES[0].perform)(&job);
+        let answer = outcome.answer;
+        let taking = matches!(call, layout::Call::Message | layout::Call::FeedEnd);
+        let telling = number != 0 || answer[1] + answer[2] > 0 || !taking && answer[5] > 1;
+        (outcome.numbers(&job).contains(&(call, number)) && telling).then_some((job, answer))
     })
 }

@@ -1,4 +1,4 @@
-//! Refusals 2 to 5 by what caused them, and the sizes of dossiers.
+//! Refusals 2 to 5 and 15 by what caused them, and the sizes of dossiers and lines.
 
 use super::Coverage;
 use crate::call::Outcome;
@@ -13,8 +13,25 @@ impl Coverage {
             3 => self.syntax(dossier, outcome.answer[1] as usize, which),
             4 => self.form(dossier, outcome.answer[1] as usize, which),
             5 => self.field(dossier, outcome.answer[1] as usize, outcome.answer[2] as usize, which),
+            15 => self.long(dossier, outcome.answer[1] as usize, which),
             _ => {}
         }
+        if dossier.len() >= 4_096 && outcome.answer[0] == 0 {
+            let longest = dossier.split_inclusive(|&byte| byte == b'\n').map(<[u8]>::len).max();
+            self.meet_where(longest == Some(4_096), "a line of 4,096 bytes is read");
+        }
+    }
+
+    fn long(&mut self, dossier: &[u8], line: usize, which: &str) {
+        let bytes = dossier.split_inclusive(|&byte| byte == b'\n').nth(line - 1).expect("the line is there");
+        let what = match bytes {
+            [b'\\', b'G', ..] => "the group line",
+            [b'\\', b'T', ..] => "a table's name",
+            [b'\\', b'L', ..] => "a label line",
+            _ => "a data line",
+        };
+        self.meet(format!("15: {which}, {what}"));
+        self.meet_where(bytes.len() == 4_097, "15: a line of 4,097 bytes");
     }
 
     fn syntax(&mut self, dossier: &[u8], at: usize, which: &str) {

@@ -75,8 +75,8 @@ impl Coverage {
         }
     }
 
-    /// An accepted message with rows.
-    fn taken(&mut self, job: &Job, outcome: &Outcome) {
+    /// An accepted message with rows, whole or in parts.
+    pub(super) fn taken(&mut self, job: &Job, outcome: &Outcome) {
         self.room("message", job, outcome);
         let entries: Vec<&[u8]> = outcome.book[job.lent.used as usize..outcome.answer[4] as usize].chunks(72).collect();
         self.meet_where(entries.len() > 700, "message: over 700 rows");

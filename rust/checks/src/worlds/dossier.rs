@@ -92,6 +92,9 @@ const UNWANTED_NAMES: [&str; 12] = [
     "Ünwanted",
 ];
 
+/// More columns than these are many.
+const MANY: usize = 150;
+
 const UNWANTED_FIELDS: [&str; 12] =
     ["", r"\0", "1", "UNKNOWN", "ALGEMEEN", "24:13:00", r"a\pb\i", r"\r\n", "-", "ü", "ffffff", "NONE"];
 
@@ -113,8 +116,10 @@ pub fn columns(form: &Form, layout: Layout, random: &mut Random) -> Vec<Column> 
             1 => random.range(1_000, 2_000),
             _ => random.range(1, 8),
         };
+        // So many have short names: else the label line would be too long for a line.
+        let names: &[&str] = if unwanted > MANY && !random.one_in(8) { &["", "", "x"] } else { &UNWANTED_NAMES };
         for _ in 0..unwanted {
-            let name = random.pick(&UNWANTED_NAMES).as_bytes().to_vec();
+            let name = random.pick(names).as_bytes().to_vec();
             columns.insert(random.below(columns.len() + 1), Column { name, kind: None });
         }
     }
@@ -139,7 +144,10 @@ pub struct Line<'a> {
 /// A wanted table with these lines.
 pub fn table(form: &Form, layout: Layout, lines: &[Line], random: &mut Random) -> Table {
     let columns = columns(form, layout, random);
-    let rows = lines.iter().map(|line| columns.iter().map(|column| field(column, line, random)).collect()).collect();
+    // Among many columns those of no interest are short, too, so that the line is not too long.
+    let short = columns.len() > MANY && !random.one_in(8);
+    let rows = lines.iter().map(|line| columns.iter().map(|column| field(column, line, short, random)).collect());
+    let rows = rows.collect();
     Table { title: title(form.name, random), columns, rows }
 }
 
@@ -149,9 +157,10 @@ pub fn title(name: &str, random: &mut Random) -> Field {
     format!("{name}{rest}").into_bytes()
 }
 
-fn field(column: &Column, line: &Line, random: &mut Random) -> Field {
+fn field(column: &Column, line: &Line, short: bool, random: &mut Random) -> Field {
     if column.kind.is_none() {
-        return random.pick(&UNWANTED_FIELDS).as_bytes().to_vec();
+        let fields: &[&str] = if short { &["", "", "1"] } else { &UNWANTED_FIELDS };
+        return random.pick(fields).as_bytes().to_vec();
     }
     let passage = line.passage;
     let key = &passage.key;

@@ -6,6 +6,7 @@ pub mod columns;
 pub mod damage;
 pub mod dossier;
 pub mod faults;
+pub mod feeds;
 pub mod fields;
 pub mod passage;
 pub mod perturb;

@@ -100,7 +100,8 @@ fn near_ends(count: usize, random: &mut Random) -> Option<usize> {
     }
 }
 
-fn set_edge(body: &mut [u8], which: usize, random: &mut Random) {
+/// Sets a field of a body to a value at its edges.
+pub fn set_edge(body: &mut [u8], which: usize, random: &mut Random) {
     let (place, edges) = (FIELDS[which], EDGES[which]);
     let field = &mut body[place.at..place.at + place.wide];
     if edges.is_empty() {

@@ -3,9 +3,10 @@
 
 use super::calendar::{day_of_number, DAY_SECONDS};
 use super::columns::{Form, CALENDAR, MESSAGE, PLANNING};
-use super::damage::{damage, grow};
+use super::damage::{damage, grow, lengthen};
 use super::dossier::{dossier, Line};
 use super::faults::{spoil, spoil_field};
+use super::feeds::{feeding, Told};
 use super::passage::*;
 use super::perturb::{disagree, unsettle};
 use super::plan::Plan;
@@ -57,8 +58,10 @@ impl Run {
             _ if !self.ready => self.open(true),
             0..=15 => self.open(false),
             16 => self.open(true),
-            17..=44 => self.message(),
-            45..=59 if !self.world.busy => self.message(),
+            17..=34 => self.message(),
+            35..=44 => self.feed(),
+            45..=55 if !self.world.busy => self.message(),
+            56..=59 if !self.world.busy => self.feed(),
             60..=79 if !self.world.busy || self.random.one_in(2) => self.withdraw(),
             _ => self.board(),
         };
@@ -112,6 +115,21 @@ impl Run {
     // Message
 
     fn message(&mut self) -> Job {
+        let Told { dossier, sender, register, .. } = self.told();
+        let lent = self.state.clone();
+        self.job(Call::Message { dossier, sender, register }, lent, true)
+    }
+
+    /// A message in parts.
+    fn feed(&mut self) -> Job {
+        let told = self.told();
+        let feeding = feeding(told, &self.world, &mut self.random);
+        let (lent, keep) = (self.state.clone(), !feeding.damaged());
+        self.job(Call::Feed(feeding), lent, keep)
+    }
+
+    /// What a message is to say, from whom.
+    fn told(&mut self) -> Told {
         let passages = self.updates();
         let random = &mut self.random;
         let level = padded(b"L");
@@ -122,9 +140,7 @@ impl Run {
             _ => *random.pick(&self.world.senders),
         };
         let dossier = finish(&MESSAGE, &lines, 32, random);
-        let register = register(&self.world, sender, random);
-        let lent = self.state.clone();
-        self.job(Call::Message { dossier, sender, register }, lent, true)
+        Told { dossier, sender, register: register(&self.world, sender, random), rows: lines.len() }
     }
 
     /// The rows of a message: of passages held, of ones already in this message, and of new ones.
@@ -316,6 +332,9 @@ fn finish(form: &Form, lines: &[Line], share: usize, random: &mut Random) -> Vec
     let mut bytes = dossier.bytes();
     if matches!(fault, 6..=9) {
         damage(&mut bytes, random);
+    }
+    if random.one_in(60) {
+        lengthen(&mut bytes, random);
     }
     if random.one_in(400) {
         grow(&mut bytes, random);
