@@ -1,5 +1,6 @@
 //! Dossiers line by line, each line its fields by the names of their columns.
 
+use crate::worlds::damage::unwanted_table;
 use crate::worlds::passage::padded;
 
 /// A data line: names and raw fields.
@@ -123,10 +124,19 @@ pub fn calendar(lines: &[Line]) -> Vec<u8> {
     dossier("LOCALSERVICEGROUPVALIDITY", Line::validity(), lines)
 }
 
-/// The same dossier with its group line widened to this size.
+/// The same dossier made as long as this, by a table of no interest behind its group line.
 pub fn widened(mut dossier: Vec<u8>, size: usize) -> Vec<u8> {
+    let behind = 1 + dossier.iter().position(|&byte| byte == b'\n').expect("a group line");
     let more = size - dossier.len();
-    dossier.splice(2..2, std::iter::repeat_n(b'x', more));
+    dossier.splice(behind..behind, unwanted_table(more, b'x'));
+    assert_eq!(dossier.len(), size);
+    dossier
+}
+
+/// The same dossier with its group line widened to this size, its CR LF counted.
+pub fn with_group_line(mut dossier: Vec<u8>, size: usize) -> Vec<u8> {
+    let end = dossier.iter().position(|&byte| byte == b'\r').expect("a group line");
+    dossier.splice(end..end, std::iter::repeat_n(b'x', size - end - 2));
     dossier
 }
 

@@ -9,6 +9,11 @@ fn boards() {
 }
 
 #[test]
+fn feeds() {
+    run_part(CHECKS, "feeds::");
+}
+
+#[test]
 fn fields() {
     run_part(CHECKS, "fields::");
 }

@@ -1,5 +1,7 @@
 //! The cases that are kept in `cases/`: every side answers as when they were kept, and all leave the same bytes.
 
+use std::collections::BTreeSet;
+
 use checks::case::{kept, Case};
 use checks::difference::{difference, see};
 use checks::sides::JUDGES;
@@ -20,10 +22,12 @@ fn every_side_answers_as_kept() {
 #[test]
 fn every_number_of_every_call_is_kept() {
     let cases = kept().expect("cases that can be read");
+    // A feed is several calls, and each of them has its number.
+    let met: BTreeSet<(layout::Call, u64)> =
+        cases.iter().flat_map(|(_, case)| (JUDGES[0].perform)(&case.job).numbers(&case.job)).collect();
     for (call, name) in layout::CALLS {
         for number in layout::numbers_of(call) {
-            let of = |case: &Case| case.job.call.kind() == call && case.answer.is_some_and(|a| a[0] == number.into());
-            assert!(cases.iter().any(|(_, case)| of(case)), "{name}: number {number}");
+            assert!(met.contains(&(call, number.into())), "{name}: number {number}");
         }
     }
 }

@@ -2,6 +2,7 @@
 //! here.
 
 pub mod boards;
+pub mod feeds;
 pub mod fields;
 pub mod refusals;
 pub mod rows;
@@ -12,10 +13,11 @@ use crate::panel::listed;
 
 listed! {
     boards: show_rule, horizon, question, question_dates, months, order, full_table;
+    feeds: cuts, end_causes, staging, sizes, tampered, register, again, memory;
     fields: texts, numbers, words, times, no_content, absent, months, stamps, one_byte, every_day;
     refusals: message_causes, open_causes, withdraw_causes, owners, forms, first_field, syntax, far_faults, far_lines, joins, joined;
     rows: status, optionals, new_rows, close, disagreeing, entries;
-    sizes: dossier, register, full_book, book_room, table_room, counts, open_room, most_lines, many_columns, areas, many_messages,
+    sizes: dossier, long_lines, register, full_book, book_room, table_room, counts, open_room, most_lines, many_columns, areas, many_messages,
         withdrawal_room;
     sound: numbers, dates, times, codes, texts, one_byte, rising, messages, lent_only;
 }

@@ -12,15 +12,20 @@ fn has(set: u32, cause: u32) -> bool {
     set >> cause & 1 == 1
 }
 
-/// A dossier with the causes of 2, 3, 4 and 5 that a set's four bits say. The lines are right but for the last two.
+/// A dossier with the causes of 2, 3, 15, 4 and 5 that a set's five bits say. The lines are right but for the last three.
 fn spoiled(build: fn(&[Line]) -> Vec<u8>, line: Line, wrong: &'static str, set: u32) -> Vec<u8> {
     let mut lines = vec![line.clone()];
-    if has(set, 3) {
+    if has(set, 4) {
         lines.push(line.clone().with(wrong, ""));
     }
     let mut dossier = build(&lines);
-    if has(set, 2) {
+    if has(set, 3) {
         dossier.extend(b"one field\r\n");
+    }
+    if has(set, 2) {
+        dossier.extend(b"\\TLINE\r\n\\Lx\r\n");
+        dossier.extend(vec![b'x'; LINE - 1]);
+        dossier.extend(b"\r\n");
     }
     if has(set, 1) {
         dossier.extend(b"\\x");
@@ -31,63 +36,71 @@ fn spoiled(build: fn(&[Line]) -> Vec<u8>, line: Line, wrong: &'static str, set: 
     dossier
 }
 
-/// A message with every set of the causes of 1 to 8: the first in order is answered.
+/// The line of a set's cause of 15: behind the lines of other causes, and two of its own table.
+fn long_line(set: u32) -> u64 {
+    7 + u64::from(has(set, 3)) + u64::from(has(set, 4))
+}
+
+/// A message with every set of the causes of 1 to 8 and 15: the first in order is answered.
 pub fn message_causes(panel: &Panel) {
-    for set in 0..256_u32 {
-        let dossier = spoiled(message, Line::update(), "Monitored", set >> 1 & 15);
-        let mut register = pair(if has(set, 5) { 8 } else { 7 }, b"CXX");
+    for set in 0..512_u32 {
+        let dossier = spoiled(message, Line::update(), "Monitored", set >> 1 & 31);
+        let mut register = pair(if has(set, 6) { 8 } else { 7 }, b"CXX");
         if has(set, 0) {
             register.push(0);
         }
-        let mut day = Day::new(panel, if has(set, 6) { 71 } else { 144 }, if has(set, 7) { 66 } else { 67 });
+        let mut day = Day::new(panel, if has(set, 7) { 71 } else { 144 }, if has(set, 8) { 66 } else { 67 });
         let answer = day.message(dossier.clone(), 7, &register);
         let syntax = dossier.len() as u64 - 1;
-        let form = if has(set, 4) { 6 } else { 5 };
+        let form = if has(set, 5) { 6 } else { 5 };
         let expected = match set.trailing_zeros() {
             0 => [1, 0, 0],
             1 => [2, 0, 0],
             2 => [3, syntax, 0],
-            3 => [4, form, 0],
-            4 => [5, 5, 16],
-            5 => [6, 4, 0],
-            6 => [7, 0, 0],
-            7 => [8, 0, 0],
+            3 => [15, long_line(set >> 1), 0],
+            4 => [4, form, 0],
+            5 => [5, 5, 16],
+            6 => [6, 4, 0],
+            7 => [7, 0, 0],
+            8 => [8, 0, 0],
             _ => [0, 1, 0],
         };
-        assert_eq!(answer[..3], expected, "causes {set:08b}");
+        assert_eq!(answer[..3], expected, "causes {set:09b}");
     }
 }
 
-/// Open with every set of the causes of 2 to 5 in either dossier, then 7, 9 and 8.
+/// Open with every set of the causes of 2 to 5 and 15 in either dossier, then 7, 9 and 8.
 pub fn open_causes(panel: &Panel) {
-    for set in 0..2_048_u32 {
-        let planned = spoiled(planning, Line::pass_time(), "ShowFlexibleTrip", set & 15);
-        let mut valid = spoiled(calendar, Line::validity(), "OperationDate", set >> 4 & 15);
-        let twice = has(set, 9);
-        if twice && set & 0xf0 == 0 {
+    for set in 0..8_192_u32 {
+        let planned = spoiled(planning, Line::pass_time(), "ShowFlexibleTrip", set & 31);
+        let mut valid = spoiled(calendar, Line::validity(), "OperationDate", set >> 5 & 31);
+        let twice = has(set, 11);
+        if twice && set >> 5 & 31 == 0 {
             valid = calendar(&[Line::validity(), Line::validity()]);
         }
         let pairs = if twice { 2 } else { 1 };
         let short = |bit: u32| if has(set, bit) { 1 } else { 0 };
-        let mut day = Day::new(panel, pairs * 67 - short(8), pairs * 67 - short(10));
+        let mut day = Day::new(panel, pairs * 67 - short(10), pairs * 67 - short(12));
         let (planning_fault, calendar_fault) = (planned.len() as u64 - 1, valid.len() as u64 - 1);
         let answer = day.open(planned, valid);
         let line = |bits: u32| if has(set, bits) { 6 } else { 5 };
         let expected = match set.trailing_zeros() {
             0 => [2, 0, 0, 1],
             1 => [3, planning_fault, 0, 1],
-            2 => [4, line(3), 0, 1],
-            3 => [5, 5, 12, 1],
-            4 => [2, 0, 0, 2],
-            5 => [3, calendar_fault, 0, 2],
-            6 => [4, line(7), 0, 2],
-            7 => [5, 5, 3, 2],
-            8 => [7, 0, 0, 0],
-            9 => [9, 0, 0, 0],
-            10 => [8, 0, 0, 0],
+            2 => [15, long_line(set), 0, 1],
+            3 => [4, line(4), 0, 1],
+            4 => [5, 5, 12, 1],
+            5 => [2, 0, 0, 2],
+            6 => [3, calendar_fault, 0, 2],
+            7 => [15, long_line(set >> 5), 0, 2],
+            8 => [4, line(9), 0, 2],
+            9 => [5, 5, 3, 2],
+            10 => [7, 0, 0, 0],
+            11 => [9, 0, 0, 0],
+            12 => [8, 0, 0, 0],
             _ => [0, 0, 0, 0],
         };
-        assert_eq!(answer[..4], expected, "causes {set:011b}");
+        assert_eq!(answer[..4], expected, "causes {set:013b}");
     }
 }
 
@@ -228,7 +241,7 @@ pub fn far_lines(panel: &Panel) {
 }
 
 /// Small dossiers, and where each is at fault, or at none.
-const FORMS: [(&str, Option<u64>); 46] = [
+pub const FORMS: [(&str, Option<u64>); 46] = [
     ("", Some(0)),
     ("\\", Some(1)),
     ("\\G", Some(2)),

@@ -45,6 +45,41 @@ pub fn dossier(panel: &Panel) {
     }
 }
 
+/// 1.8: a line of 4,096 bytes with its CR LF is read, one of 4,097 gets 15, whatever it is: the group line, a line with a table's name, a
+/// label line and a data line, wanted or not. The last line's end counts, and a fault of syntax anywhere goes before.
+pub fn long_lines(panel: &Panel) {
+    let names = Line::update().names().join("|");
+    let fields = String::from_utf8(Line::update().fields().join(&b'|')).expect("plain");
+    let plain = [
+        "\\G".to_string(),
+        "\\TLINE|".to_string(),
+        "\\L".to_string(),
+        String::new(),
+        "\\TDATEDPASSTIME|".to_string(),
+        format!("\\L{names}|x"),
+        format!("{fields}|"),
+    ];
+    for (which, line) in plain.iter().enumerate() {
+        for size in [4_000, 4_095, 4_096, 4_097, 4_098, 8_000] {
+            let mut lines = plain.clone();
+            lines[which] = format!("{line}{}", "x".repeat(size - 2 - line.len()));
+            let dossier = format!("{}\r\n", lines.join("\r\n")).into_bytes();
+            let expected = if size > 4_096 { [15, which as u64 + 1, 0] } else { [0, 1, 0] };
+            let answer = Day::new(panel, 72, 67).message(dossier.clone(), 7, &one_pair());
+            assert_eq!(answer[..3], expected, "line {} of {size} bytes", which + 1);
+            let opened = Day::new(panel, 67, 67).open(dossier.clone(), calendar(&[]));
+            assert_eq!(opened[..4], if size > 4_096 { [15, which as u64 + 1, 0, 1] } else { [0; 4] });
+            let opened = Day::new(panel, 67, 67).open(planning(&[]), dossier.clone());
+            assert_eq!(opened[..4], if size > 4_096 { [15, which as u64 + 1, 0, 2] } else { [0; 4] });
+            let unended = dossier[..dossier.len() - 1].to_vec();
+            let answer = Day::new(panel, 72, 67).message(unended, 7, &one_pair());
+            assert_eq!(answer[..2], [3, dossier.len() as u64 - 1], "a fault of syntax goes before");
+        }
+    }
+    let two = with_group_line(message(&[Line::update(), Line::update().with("Monitored", "2")]), 4_097);
+    assert_eq!(Day::new(panel, 500, 500).message(two, 7, &one_pair())[..3], [15, 1, 0], "15 before 5");
+}
+
 /// 4.4, 4.6: 64 pairs are sound and the last of them grants, 65 are not; a part of a pair is not.
 pub fn register(panel: &Panel) {
     for pairs in [0, 1, 2, 63, 64, 65] {
@@ -292,9 +327,9 @@ pub fn most_lines(panel: &Panel) {
     }
 }
 
-/// A label line of a thousand columns and more; each wanted one at its far end; a fault's column beyond a byte.
+/// A label line of a thousand columns and more, up to a line's bytes; each wanted one at its far end; a fault's column beyond a byte.
 pub fn many_columns(panel: &Panel) {
-    for others in [0, 1, 7, 47, 48, 49, 239, 240, 241, 984, 1_000, 2_000] {
+    for others in [0, 1, 7, 47, 48, 49, 239, 240, 241, 984, 1_000, 1_890] {
         for wanted_first in [true, false] {
             let mut names: Vec<&str> = vec!["x"; others];
             let mut fields: Vec<Vec<u8>> = vec![b"".to_vec(); others];

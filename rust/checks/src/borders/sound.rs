@@ -49,7 +49,7 @@ impl Kind {
 }
 
 /// Whether every call takes these bytes for sound: a message and a withdrawal both, a board the table.
-fn is_sound(panel: &Panel, book: &[u8], table: &[u8]) -> bool {
+pub fn is_sound(panel: &Panel, book: &[u8], table: &[u8]) -> bool {
     let (used, rows) = (book.len() as u64, (table.len() / ROW) as u64);
     let mut day = Day::of(panel, State { book: book.to_vec(), table: table.to_vec(), used, rows });
     let question = Question { owner: b"CXX", stop: b"S1", date: 20_160_301, second: 0, horizon: 86_400 };

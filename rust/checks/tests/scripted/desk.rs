@@ -103,6 +103,15 @@ impl<S: Side> Desk<S> {
         self.done(before, a)
     }
 
+    /// The end of a feed, with the counts kept and the feed looked at.
+    pub fn end(&mut self, feed: &mut Feed<S>, register: &[u8], staging: usize) -> [u64; 6] {
+        let (before, numbers) = (self.clone(), feed.numbers);
+        let lent = &feed.staging[..staging];
+        let a = S::feed_end(register, lent, &mut self.book, &mut self.table, self.used, self.rows, &mut feed.numbers);
+        assert_eq!(feed.numbers, if a[0] == 0 { [0; 48] } else { numbers });
+        self.done(before, a)
+    }
+
     pub fn send(&mut self, rows: &[String]) -> [u64; 6] {
         self.message(&updates(rows), 7, &pair(7, "CXX"))
     }
@@ -127,6 +136,35 @@ impl<S: Side> Desk<S> {
 
     pub fn status(&self, place: usize) -> u8 {
         self.row(place)[55]
+    }
+}
+
+/// The memory of a feed.
+pub struct Feed<S> {
+    pub numbers: [u64; 48],
+    pub line: [u8; 4_096],
+    pub staging: Vec<u8>,
+    side: PhantomData<S>,
+}
+
+impl<S: Side> Feed<S> {
+    /// A feed that has begun, with so many bytes to stage rows in.
+    pub fn begun(sender: u8, staging: usize) -> Feed<S> {
+        let mut feed = Feed { numbers: [9; 48], line: [9; 4_096], staging: vec![0xCC; staging], side: PhantomData };
+        feed.begin(sender);
+        feed
+    }
+
+    pub fn begin(&mut self, sender: u8) {
+        assert_eq!(S::feed_begin(sender, &mut self.numbers), 0);
+    }
+
+    /// A part; a refused one changes nothing.
+    pub fn part(&mut self, bytes: &[u8], register: &[u8]) -> u32 {
+        let before = (self.numbers, self.line, self.staging.clone());
+        let number = S::feed(bytes, register, &mut self.staging, &mut self.line, &mut self.numbers);
+        assert!(number == 0 || (self.numbers, self.line, self.staging.clone()) == before);
+        number
     }
 }
 

@@ -2,5 +2,6 @@
 
 mod cases;
 mod desk;
+mod feeds;
 mod random;
 mod refusals;

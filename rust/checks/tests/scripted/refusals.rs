@@ -18,6 +18,7 @@ on_every_side! {
     board_refusals
     what_a_board_shows
     dossiers_at_the_limit
+    lines_at_the_limit
     book_and_table_at_the_limit
 }
 
@@ -362,9 +363,11 @@ fn dossiers_at_the_limit<S: Side>() {
     let mut full = updates(&rows);
     // An unwanted table fills the dossier to the last byte.
     full.extend(b"\\Tx\r\n\\Lx\r\n");
-    let rest = 65_536 - full.len() - 2;
-    full.extend(vec![b'z'; rest]);
-    full.extend(b"\r\n");
+    while full.len() < 65_536 {
+        let rest = (65_536 - full.len()).min(1_000);
+        full.extend(vec![b'z'; rest - 2]);
+        full.extend(b"\r\n");
+    }
     assert_eq!(full.len(), 65_536);
     let n = rows.len() as u64;
     assert_eq!(desk.message(&full, 7, &cxx()), [0, 1, 0, 0, n * 72, n]);
@@ -375,31 +378,53 @@ fn dossiers_at_the_limit<S: Side>() {
     assert_eq!(desk.message(&cut, 7, &cxx())[..2], [3, 65_536]);
     full.push(b'z');
     assert_eq!(desk.message(&full, 7, &cxx())[..2], [2, 0]);
-    let group = [b"\\G", &vec![b'|'; 65_532][..], b"\r\n"].concat();
-    assert_eq!(desk.message(&group, 7, &cxx())[..2], [0, 0]);
     // Label and data lines of very many columns.
     let wide = [
         b"\\G\r\n\\TDATEDPASSTIME\r\n\\L",
         LABELS.as_bytes(),
-        &vec![b'|'; 30_000],
+        &vec![b'|'; 3_000],
         b"\r\n",
         row(1, "PLAN").as_bytes(),
-        &vec![b'|'; 30_000],
+        &vec![b'|'; 3_000],
         b"\r\n",
     ]
     .concat();
     assert_eq!(desk.message(&wide, 7, &cxx())[..3], [5, 4, 10]);
     let last = [
         b"\\G\r\n\\TDATEDPASSTIME\r\n\\L",
-        &vec![b'|'; 30_000][..],
+        &vec![b'|'; 3_000][..],
         LABELS.as_bytes(),
         b"\r\n",
-        &vec![b'|'; 30_000],
+        &vec![b'|'; 3_000],
         row(1, "PLAN").as_bytes(),
         b"\r\n",
     ]
     .concat();
-    assert_eq!(desk.message(&last, 7, &cxx())[..3], [5, 4, 30_010]);
+    assert_eq!(desk.message(&last, 7, &cxx())[..3], [5, 4, 3_010]);
+}
+
+fn lines_at_the_limit<S: Side>() {
+    let group = |bytes: usize| [b"\\G", &vec![b'|'; bytes - 4][..], b"\r\n"].concat();
+    let mut desk = planned::<S>();
+    for (bytes, wanted) in [(4, [0, 0]), (4_095, [0, 0]), (4_096, [0, 0]), (4_097, [15, 1]), (65_536, [15, 1])] {
+        assert_eq!(desk.message(&group(bytes), 7, &cxx())[..2], wanted);
+        assert_eq!(desk.open(&group(bytes), b"")[..4], if wanted[0] == 0 { [3, 0, 0, 2] } else { [15, 1, 0, 1] });
+        let unended = &group(bytes)[..bytes - 1];
+        assert_eq!(desk.open(b"\\G\r\n", unended)[..4], [3, bytes as u64 - 1, 0, 2]);
+    }
+    assert_eq!(desk.message(&group(65_537), 7, &cxx())[..2], [2, 0]);
+    // 3 anywhere, then 15, then 4: a line too long behind a line of one field, and a fault of form behind both.
+    let mut long = updates(&["one".to_string()]);
+    long.extend(&b"\\Tx\r\n\\Lx\r\n"[..]);
+    long.extend(vec![b'z'; 4_095]);
+    long.extend(b"\r\n");
+    assert_eq!(desk.message(&long, 7, &cxx())[..3], [15, 7, 0]);
+    long.pop();
+    assert_eq!(desk.message(&long, 7, &cxx())[..2], [3, long.len() as u64]);
+    // The calendar's line too long comes behind all that is wrong with the planning.
+    let bad = planning(&["x".into()]);
+    assert_eq!(desk.open(&bad, &group(5_000))[..4], [4, 4, 0, 1]);
+    assert_eq!(desk.open(&planning(&[]), &group(5_000))[..4], [15, 1, 0, 2]);
 }
 
 fn book_and_table_at_the_limit<S: Side>() {
