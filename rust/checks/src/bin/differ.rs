@@ -10,6 +10,7 @@
 //!
 //! Before these, `--threads N` sets how many threads work; as many as there are processors unless told. Each call goes
 //! to every side with separate copies of the same lent bytes; answers and all lent bytes afterwards are compared whole.
+//! A message in parts is one call here, from its beginning to its last end.
 //! The exit code is 1 on a difference, and when some number that the layout lists was met too seldom for the run to say
 //! much about it, or one that it does not list was met.
 
