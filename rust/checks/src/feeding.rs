@@ -162,7 +162,9 @@ impl Rooms {
         if let Some(whole) = feeding.whole().filter(|_| outcome.stray.is_none()) {
             outcome.stray = self.unlike_one_call::<S>(job, &whole, &outcome);
             if S::TAKES_ANY_FEED && whole.parts > 0 && outcome.stray.is_none() {
-                outcome.stray = self.unlike_one_part::<S>(feeding, &whole, fed.before_end.expect("it has an end"));
+                let before_end = fed.before_end.expect("it has an end");
+                outcome.stray = other_line(&whole, &outcome, &before_end.1);
+                outcome.stray = outcome.stray.or_else(|| unlike_one_part::<S>(feeding, &whole, before_end));
             }
         }
         outcome
@@ -363,21 +365,34 @@ impl Rooms {
             ended[0] != 0 || !whole.last || outcome.book[..book.len()] == book && outcome.table[..table.len()] == table;
         (!same).then_some("the end leaves another day than the one call")
     }
+}
 
-    /// A feed's memory is the same to the byte however the dossier was cut.
-    fn unlike_one_part<S: Side>(
-        &mut self,
-        feeding: &Feeding,
-        whole: &Whole,
-        (staging, line, numbers): (Vec<u8>, Vec<u8>, Vec<u64>),
-    ) -> Option<&'static str> {
-        let (mut own_staging, mut own_line, mut own_numbers) = (feeding.staging.clone(), [0; LINE], [0; FEED]);
-        let lent = whole.staging.min(own_staging.len());
-        S::feed_begin(feeding.sender, &mut own_numbers);
-        S::feed(&whole.dossier, &whole.register, &mut own_staging[..lent], &mut own_line, &mut own_numbers);
-        let same = own_staging == staging && own_line[..] == line && own_numbers[..] == numbers;
-        (!same).then_some("a feed's memory depends on the cuts")
+/// A feed's memory is the same to the byte however the dossier was cut.
+fn unlike_one_part<S: Side>(
+    feeding: &Feeding,
+    whole: &Whole,
+    (staging, line, numbers): (Vec<u8>, Vec<u8>, Vec<u64>),
+) -> Option<&'static str> {
+    let (mut own_staging, mut own_line, mut own_numbers) = (feeding.staging.clone(), [0; LINE], [0; FEED]);
+    let lent = whole.staging.min(own_staging.len());
+    S::feed_begin(feeding.sender, &mut own_numbers);
+    S::feed(&whole.dossier, &whole.register, &mut own_staging[..lent], &mut own_line, &mut own_numbers);
+    let same = own_staging == staging && own_line[..] == line && own_numbers[..] == numbers;
+    (!same).then_some("a feed's memory depends on the cuts")
+}
+
+/// The line has the bytes of the line that is cut, and zeros behind them: where the end tells of no fault of syntax within the bytes that
+/// came, and the line is not too long by then.
+fn other_line(whole: &Whole, outcome: &Outcome, line: &[u8]) -> Option<&'static str> {
+    let answer = outcome.steps[whole.end].answer;
+    let faulty = matches!(answer[0], 1 | 2) || answer[0] == 3 && answer[1] != whole.dossier.len() as u64;
+    let begins = whole.dossier.iter().rposition(|&byte| byte == b'\n').map_or(0, |at| at + 1);
+    let cut = &whole.dossier[begins..];
+    if faulty || cut.len() > LINE {
+        return None;
     }
+    let same = line.starts_with(cut) && line[cut.len()..].iter().all(|&byte| byte == 0);
+    (!same).then_some("the line has other bytes than those of the line that is cut")
 }
 
 /// Whether a withdrawal takes book and table for sound.

@@ -3,6 +3,7 @@
 
 use std::collections::BTreeMap;
 
+use crate::feeding::Feeding;
 use crate::lines::pair;
 use crate::panel::{listed, Day, Panel, Question};
 use crate::worlds::columns::{Form, CALENDAR, MESSAGE, PLANNING};
@@ -111,8 +112,15 @@ impl<'a> Told<'a> {
         let sender = *self.random.pick(&[1, 7, 128, 255]);
         let sent = Sent { dossier, sender, bodies, standing: true };
         let number = self.sent.len() as u64 + 1;
-        let answer = self.day.message(sent.dossier.clone(), sent.sender, &self.register(sent.sender));
-        assert_eq!(answer[..2], [0, number], "a message of right rows is accepted");
+        let register = self.register(sent.sender);
+        let answer = if self.random.one_in(3) {
+            let wide = self.random.range(1, sent.dossier.len());
+            let parts: Vec<&[u8]> = sent.dossier.chunks(wide.max(sent.dossier.len() / 20)).collect();
+            self.day.feed(Feeding::of(sent.sender, &parts, &register, sent.bodies.len() * 66)).answer
+        } else {
+            self.day.message(sent.dossier.clone(), sent.sender, &register)
+        };
+        assert_eq!(answer[..2], [0, number], "a message of right rows is accepted, whole or in parts");
         self.sent.push(sent);
         number as u32
     }

@@ -3,6 +3,7 @@
 
 use std::cell::RefCell;
 use std::collections::BTreeMap;
+use std::rc::Rc;
 
 use crate::answer::{numbers_of_day, Accepted, Refusal};
 use crate::columns::MESSAGE;
@@ -19,7 +20,6 @@ const BEGUN: u64 = 0x6265_6775_6e20_6665;
 const REMEMBERED: u64 = 1_000;
 
 /// A part, with what was lent with it: the register, and how many rows the staging area had room for.
-#[derive(Clone)]
 struct Part {
     bytes: Vec<u8>,
     register: Vec<u8>,
@@ -37,7 +37,7 @@ struct Row {
 #[derive(Clone)]
 struct Told {
     sender: u8,
-    parts: Vec<Part>,
+    parts: Vec<Rc<Part>>,
 }
 
 /// What feeds of this thread were told by then, by number, and the next number: a feed has another number after each part, so that its
@@ -84,7 +84,8 @@ pub fn feed(
     feed: &mut [u64; FEED_NUMBERS],
 ) -> u32 {
     let Some(mut told) = told(feed) else { return 1 };
-    told.parts.push(Part { bytes: part.to_vec(), register: register.to_vec(), room: staging.len() / BODY_BYTES });
+    let room = staging.len() / BODY_BYTES;
+    told.parts.push(Rc::new(Part { bytes: part.to_vec(), register: register.to_vec(), room }));
     // A row comes with its line's LF: a part without one brings none.
     if part.contains(&b'\n') {
         let last = told.parts.len() - 1;
@@ -126,7 +127,7 @@ impl Told {
     /// Which part ended a row's line: with it the row came.
     fn part_of(&self, row: &Read) -> usize {
         let mut fed = 0;
-        let ended_it = |part: &Part| {
+        let ended_it = |part: &Rc<Part>| {
             fed += part.bytes.len();
             row.last < fed
         };

@@ -10,7 +10,7 @@ use crate::feeding::{Feeding, Step};
 const LONG: usize = 6_000;
 
 /// More parts than these are not made.
-const MOST_PARTS: usize = 64;
+const MOST_PARTS: usize = 40;
 
 /// What a message is to say, from whom, and about how many rows it has.
 pub struct Told {
