@@ -19,7 +19,7 @@ fn main() {
     println!("cargo:rerun-if-changed={}", archive.display());
     if !archive.is_file() {
         eprintln!(
-            "there is no {}.\nRun `tools/native-archive desk`, which proves the library and writes it, or set DESK_ARCHIVE_DIR to the folder of another libdesk.a.",
+            "there is no {}.\nRun `tools/native-archive`, which proves the library and writes it, or set DESK_ARCHIVE_DIR to the folder of another libdesk.a.",
             archive.display()
         );
         exit(1);
