@@ -216,7 +216,7 @@ uint32_t desk_withdraw(uint32_t number, uint8_t sender,
 /* The board of a stop: which rows depart from `second` (0 to 86,399) of `date` (YYYYMMDD as a number) to `horizon` (0 to 86,400) seconds later.
    Owner and stop are 1 to 10 bytes, not padded. `places` gets the rows' places in the table, from 0, by departure, then key, as many as fit; its
    length counts places. Places behind those written keep their contents. Row p begins at byte p * DESK_ROW of the table. Places are good for this table
-   only: after a message, a withdrawal or an open, ask again. */
+   only: after a message, a withdrawal or an open, ask again. A row whose fortify number is above 0 is shown only where its DESK_HEARD_AT is 1. */
 uint32_t desk_board(const uint8_t *owner, size_t owner_len,
                     const uint8_t *stop, size_t stop_len,
                     uint32_t date, uint32_t second, uint32_t horizon,

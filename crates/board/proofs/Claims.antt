@@ -17,10 +17,10 @@ use Rattle.lists.proofs.TextLaws.{same-equal, same-refl}
 use Rattle.lists.proofs.OverLaws.{getD-after}
 use Rattle.lists.proofs.RowLaws.{row-at, length-rowsOf}
 use Rattle.texts.specs.Texts.{padded}
-use Rattle.passage.specs.Layout.{ownerOf, stopOf, statusOf, stopTypeOf, showCancelledOf, flexibleOf, monitoredOf, row-wide}
+use Rattle.passage.specs.Layout.{ownerOf, fortifyOf, stopOf, statusOf, stopTypeOf, showCancelledOf, flexibleOf, monitoredOf, heardOf, row-wide}
 use Rattle.table.specs.Rules.{rows}
 use Rattle.board_show.specs.Ask.{Question, nowOf, endOf}
-use Rattle.board_show.specs.Show.{departs, atStop, cancelShown, flexibleShown, mayShow, shows}
+use Rattle.board_show.specs.Show.{departs, atStop, cancelShown, flexibleShown, reliefShown, mayShow, shows}
 use Rattle.board.specs.Rules.{momentIn, listed, boardOf, Board, boardLeaves}
 use Rattle.board.specs.Claims.{All, ShowFacts, ShowsExactly, ListsExactly, InOrder, PlacesRiseAsKeys, CutOnlyWhereFull, RefusesExactly, times, rowAt}
 use Rattle.board.proofs.FirstLaws.{keys-rise}
@@ -60,6 +60,14 @@ module _ (q : Question) (r : List ℕ) where
       (λ h. inr (rw (eq-eqb (flexibleOf r) 3 (h .0), eq-eqb (monitoredOf r) 1 (h .1))))
       f)
 
+  relief-facts : reliefShown r ≡ true → (fortifyOf r ≡ 0) ⊎ (heardOf r ≡ 1)
+  relief-facts e = ⊎-elim (λ f. inl (eqb-true _ _ f)) (λ f. inr (eqb-true _ _ f)) (or-pass (eqb (fortifyOf r) 0) (eqb (heardOf r) 1) e)
+
+  facts-relief : (fortifyOf r ≡ 0) ⊎ (heardOf r ≡ 1) → reliefShown r ≡ true
+  facts-relief f =
+      pass-or (eqb (fortifyOf r) 0) (eqb (heardOf r) 1)
+      (⊎-elim (λ h. inl (eq-eqb (fortifyOf r) 0 h)) (λ h. inr (eq-eqb (heardOf r) 1 h)) f)
+
   show-facts : shows q r ≡ true → ShowFacts q r
   unfolding shows atStop mayShow
   show-facts e =
@@ -67,7 +75,7 @@ module _ (q : Question) (r : List ℕ) where
       let w = and-pass (same (ownerOf r) (padded (q .owner))) (same (stopOf r) (padded (q .stop))) (p .0) in
       let a =
       all-pass (not (eqb (stopTypeOf r) 2))
-      (not (eqb (statusOf r) 5) ∷ within (nowOf q .0) (endOf q .0) (departs r .0) ∷ cancelShown r ∷ flexibleShown r ∷ [])
+      (not (eqb (statusOf r) 5) ∷ within (nowOf q .0) (endOf q .0) (departs r .0) ∷ cancelShown r ∷ flexibleShown r ∷ reliefShown r ∷ [])
       (p .1) in
       let t = within-true (nowOf q .0) (endOf q .0) (departs r .0) (a 2) in
       record {
@@ -79,6 +87,7 @@ module _ (q : Question) (r : List ℕ) where
         to-horizon = t .1;
         cancel-shown = cancel-facts (a 3);
         flexible-shown = flexible-facts (a 4);
+        relief-heard = relief-facts (a 5);
       }
 
   facts-show : ShowFacts q r → shows q r ≡ true
@@ -93,8 +102,9 @@ module _ (q : Question) (r : List ℕ) where
         ne-eqb (statusOf r) 5 (f .not-passed),
         in-range (nowOf q .0) (endOf q .0) (departs r .0) (f .from-now) (f .to-horizon),
         facts-cancel (f .cancel-shown),
+        facts-flexible (f .flexible-shown),
       )
-      (facts-flexible (f .flexible-shown))
+      (facts-relief (f .relief-heard))
 
 shows-exactly : ShowsExactly
 shows-exactly q r = (show-facts q r, facts-show q r)

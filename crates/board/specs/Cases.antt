@@ -13,14 +13,14 @@ use Rattle.board_show.specs.Ask.{asked}
 use Rattle.board_show.specs.Show.{departs, atStop, mayShow, shows}
 use Rattle.board.specs.Rules.{placeIn, listFrom, listed}
 
--- a passage of CXX at S1, of a date and a departure: stop type, status, show cancelled, flexible, monitored
-abbrev pub passage : ℕ → ℕ → ℕ → ℕ → ℕ → ℕ → ℕ → List ℕ
-passage date departure stopType status showCancelled flexible monitored =
+-- a passage of CXX at S1: fortify number and heard; date and departure; stop type, status, show cancelled, flexible, monitored
+abbrev pub passing : ℕ → ℕ → ℕ → ℕ → ℕ → ℕ → ℕ → ℕ → ℕ → List ℕ
+passing fortify heard date departure stopType status showCancelled flexible monitored =
     padded (bytes "CXX")
     ++ spelled 4 date
     ++ padded (bytes "A031")
     ++ spelled 4 1
-    ++ 0
+    ++ fortify
     ∷ padded (bytes "S1")
     ++ spelled 2 1
     ++ padded (bytes "CIOS")
@@ -32,8 +32,12 @@ passage date departure stopType status showCancelled flexible monitored =
     ∷ showCancelled
     ∷ flexible
     ∷ monitored
-    ∷ 0
+    ∷ heard
     ∷ []
+
+-- one that the plan alone has told of
+abbrev pub passage : ℕ → ℕ → ℕ → ℕ → ℕ → ℕ → ℕ → List ℕ
+passage = passing 0 0
 
 -- 24:10:00 on 2016-03-01, 00:05:00 on 2016-03-02, 23:55:00 on 2016-03-01
 abbrev pub late : List ℕ
@@ -89,3 +93,11 @@ pub the-others :
     ∷ []
 unfolding listed listFrom placeIn shows atStop mayShow same part number spelled dayCount monthStart daysIn
 the-others = refl
+
+-- a passage with a fortify number above 0 is shown only where it has been heard of
+abbrev pub relief : ℕ → ℕ → List ℕ
+relief fortify heard = passing fortify heard 20160301 87000 1 0 1 0 0
+
+pub reliefs : listed (shownFor 1800) (relief 0 0 ∷ relief 0 1 ∷ relief 1 0 ∷ relief 1 1 ∷ relief 99 0 ∷ relief 99 1 ∷ []) ≡ 0 ∷ 1 ∷ 3 ∷ 5 ∷ []
+unfolding listed listFrom placeIn shows atStop mayShow same part number spelled dayCount monthStart daysIn
+reliefs = refl

@@ -10,7 +10,7 @@ use Rattle.lists.specs.Logic.{on}
 use Rattle.lists.specs.Part.{part}
 use Rattle.clock.specs.Moment.{dayCount}
 use Rattle.texts.specs.Texts.{padded}
-use Rattle.passage.specs.Layout.{keyOf, ownerOf, dateOf, stopOf, statusOf, departureOf, stopTypeOf, showCancelledOf, flexibleOf, monitoredOf, row-wide}
+use Rattle.passage.specs.Layout.{keyOf, ownerOf, dateOf, fortifyOf, stopOf, statusOf, departureOf, stopTypeOf, showCancelledOf, flexibleOf, monitoredOf, heardOf, row-wide}
 use Rattle.keys.specs.declared.Order.the-variants.{Less}
 use Rattle.keys.specs.Keys.{cmp}
 use Rattle.table.specs.Rules.{tableSound}
@@ -29,7 +29,7 @@ momentAt date second = dayCount date * 86400 + second
 abbrev pub departsAt : List ℕ → ℕ
 departsAt r = momentAt (dateOf r) (departureOf r)
 
--- document 01's conditions, each by name
+-- the show rule's conditions, each by name
 pub record ShowFacts (q : Question) (r : List ℕ) : Type 0 where
   pub owner-equal : ownerOf r ≡ padded (q .owner)
   pub stop-equal : stopOf r ≡ padded (q .stop)
@@ -39,6 +39,7 @@ pub record ShowFacts (q : Question) (r : List ℕ) : Type 0 where
   pub to-horizon : departsAt r ≤ momentAt (q .date) (q .second) + q .horizon
   pub cancel-shown : statusOf r ≡ 1 → showCancelledOf r ≡ 1
   pub flexible-shown : (flexibleOf r ≤ 1) ⊎ ((flexibleOf r ≡ 3) × (monitoredOf r ≡ 1))
+  pub relief-heard : (fortifyOf r ≡ 0) ⊎ (heardOf r ≡ 1)
 
 -- a row is shown exactly where they all hold
 abbrev pub ShowsExactly : Type 0

@@ -8,7 +8,7 @@ use Rattle.lists.specs.Text.{same}
 use Rattle.clock.specs.declared.ClockSeconds.{ClockSeconds}
 use Rattle.clock.specs.Moment.{momentOf}
 use Rattle.texts.specs.Texts.{padded}
-use Rattle.passage.specs.Layout.{ownerOf, stopOf, dateOf, departureOf, statusOf, stopTypeOf, showCancelledOf, flexibleOf, monitoredOf}
+use Rattle.passage.specs.Layout.{ownerOf, stopOf, dateOf, fortifyOf, departureOf, statusOf, stopTypeOf, showCancelledOf, flexibleOf, monitoredOf, heardOf}
 use Rattle.board_show.specs.Ask.{Question, nowOf, endOf}
 
 -- the moment at which a passage departs: its operating-day time, joined with the clock through its date
@@ -27,10 +27,14 @@ cancelShown r = not (eqb (statusOf r) 1) || eqb (showCancelledOf r) 1
 abbrev pub flexibleShown : List ℕ → Bool
 flexibleShown r = within 0 1 (flexibleOf r) || (eqb (flexibleOf r) 3 && eqb (monitoredOf r) 1)
 
--- the show rule but for the stop: not LAST, 2; not PASSED, 5; departure from `from` to `till`, both ends included; and the two above
+-- a relief journey, whose fortify number is above 0, runs only once a message has told of it: heard is 1
+abbrev pub reliefShown : List ℕ → Bool
+reliefShown r = eqb (fortifyOf r) 0 || eqb (heardOf r) 1
+
+-- the show rule but for the stop: not LAST, 2; not PASSED, 5; departure from `from` to `till`, both ends included; and the three above
 unfoldable pub mayShow : ClockSeconds → ClockSeconds → List ℕ → Bool
 mayShow from till r =
-    not (eqb (stopTypeOf r) 2) && not (eqb (statusOf r) 5) && within (from .0) (till .0) (departs r .0) && cancelShown r && flexibleShown r
+    not (eqb (stopTypeOf r) 2) && not (eqb (statusOf r) 5) && within (from .0) (till .0) (departs r .0) && cancelShown r && flexibleShown r && reliefShown r
 
 -- the show rule
 unfoldable pub shows : Question → List ℕ → Bool

@@ -49,13 +49,16 @@ fn may_be(
     show: u8,
     flexible: u8,
     monitored: u8,
+    fortify: u8,
+    heard: u8,
 ) -> bool
-    ensures { λ r. ⌜ r ≡ mayBe from till moment status show flexible monitored ⌝ }
+    ensures { λ r. ⌜ r ≡ mayBe from till moment status show flexible monitored fortify heard ⌝ }
 {
     (status != 5)
         & ((from.0 <= moment.0) & (moment.0 <= till.0))
         & ((status != 1) | (show == 1))
         & ((flexible <= 1) | (flexible == 3) & (monitored == 1))
+        & ((fortify == 0) | (heard == 1))
 }
 
 // Whether the row from `at` on, which is of this owner, is shown, and if so its departure moment.
@@ -83,6 +86,8 @@ pub fn shown_at(
         let show_cancelled = table[at + passage::SHOW_CANCELLED_AT];
         let flexible = table[at + passage::FLEXIBLE_AT];
         let monitored = table[at + passage::MONITORED_AT];
+        let fortify = table[at + passage::FORTIFY_AT];
+        let heard = table[at + passage::HEARD_AT];
         let may = may_be(
             from,
             till,
@@ -91,6 +96,8 @@ pub fn shown_at(
             show_cancelled,
             flexible,
             monitored,
+            fortify,
+            heard,
         );
         if may {
             Shown::At(moment)

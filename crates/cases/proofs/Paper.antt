@@ -76,5 +76,5 @@ p11 register book table sender c s =
 
 pub cases : All
 cases =
-    let (p6, p7, p8, p9, two-rows) = through-the-calls in
-    (Fields.P1, Fields.P2, Fields.P3, (Turbo.P4, Syntax.P4), p5, p6, p7, p8, p9, two-rows, p10, p11)
+    let (p6, p7, p8, p9, two-rows, relief) = through-the-calls in
+    (Fields.P1, Fields.P2, Fields.P3, (Turbo.P4, Syntax.P4), p5, p6, p7, p8, p9, two-rows, relief, p10, p11)

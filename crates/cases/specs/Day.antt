@@ -18,23 +18,32 @@ abbrev pub dossier : List (List ℕ) → List ℕ
 dossier [] = []
 dossier (line ∷ lines) = line ++ 13 ∷ 10 ∷ dossier lines
 
--- line A031 of CXX, journey 1, calls at S1 at 24:10:00, as its first call there, on days of level L
-abbrev pub planning : List ℕ
-planning =
+-- line A031 of CXX, journey 1 with a fortify number, calls at S1 at 24:10:00, as its first call there, on days of level L
+abbrev pub planned : String → List ℕ
+planned fortify = bytes "CXX|L|A031|1|" ++ bytes fortify ++ bytes "|S1|1|CIOS|24:10:00|24:10:00|INTERMEDIATE"
+
+abbrev pub planningOf : List (List ℕ) → List ℕ
+planningOf lines =
     dossier
     (bytes "\\GKV7planning" ∷ bytes "\\TLOCALSERVICEGROUPPASSTIME"
     ∷ bytes "\\LDataOwnerCode|LocalServiceLevelCode|LinePlanningNumber|VehicleJourneyNumber|FortifyOrderNumber|UserStopCode|UserStopOrderNumber|DestinationCode|TargetArrivalTime|TargetDepartureTime|JourneyStopType"
-    ∷ bytes "CXX|L|A031|1|0|S1|1|CIOS|24:10:00|24:10:00|INTERMEDIATE"
-    ∷ [])
+    ∷ lines)
+
+-- the journey itself, with no relief
+abbrev pub planning : List ℕ
+planning = planningOf (planned "0" ∷ [])
 
 -- 2016-03-01 is such a day
 abbrev pub calendar : List ℕ
 calendar = dossier (bytes "\\GKV7calendar" ∷ bytes "\\TLOCALSERVICEGROUPVALIDITY" ∷ bytes "\\LDataOwnerCode|LocalServiceLevelCode|OperationDate" ∷ bytes "CXX|L|2016-03-01" ∷ [])
 
--- what a line of a message says of that journey's call at S1 with an order number
+-- what a line of a message says of that journey's call at S1, by its fortify number and its order number
+abbrev pub saysOf : String → String → String → List ℕ
+saysOf fortify order status =
+    bytes "CXX|2016-03-01|A031|1|" ++ bytes fortify ++ bytes "|S1|" ++ bytes order ++ bytes "|CIOS|2016-03-01T15:15:30+01:00|" ++ bytes status ++ bytes "|24:10:00|24:10:00|INTERMEDIATE"
+
 abbrev pub says : String → String → List ℕ
-says order status =
-    bytes "CXX|2016-03-01|A031|1|0|S1|" ++ bytes order ++ bytes "|CIOS|2016-03-01T15:15:30+01:00|" ++ bytes status ++ bytes "|24:10:00|24:10:00|INTERMEDIATE"
+says = saysOf "0"
 
 abbrev pub message : List (List ℕ) → List ℕ
 message lines =
@@ -53,6 +62,10 @@ register = 1 ∷ bytes "CXX" ++ replicate 7 0
 abbrev pub day : Day
 day = opened planning calendar (replicate (plan-wide + 3 * entry-wide) 0) (replicate (3 * row-wide) 0) (countsOf 0 0)
 
+-- the same with a relief journey in the plan
+abbrev pub reliefDay : Day
+reliefDay = opened (planningOf (planned "0" ∷ planned "1" ∷ [])) calendar (replicate (2 * plan-wide + entry-wide) 0) (replicate (2 * row-wide) 0) (countsOf 0 0)
+
 -- a message of sender 1 with these lines
 abbrev pub sent : List (List ℕ) → Call
 sent lines = Call.message (message lines) 1 register
@@ -64,6 +77,10 @@ withdrawn n = Call.withdraw n 1
 -- at S1 of CXX at 23:50:00 on 2016-03-01, for a number of seconds, with room for three
 abbrev pub board : ℕ → Call
 board horizon = Call.look (asked (bytes "CXX") (bytes "S1") 20160301 85800 horizon) (9 ∷ 9 ∷ 9 ∷ [])
+
+-- the board of the day with the relief journey, after these calls
+abbrev pub reliefBoard : List Call → Reply
+reliefBoard calls = replyTo (board 1200) (dayAfter calls reliefDay)
 
 -- the status of each passage after these calls, and its order number
 abbrev pub statuses : List Call → List ℕ

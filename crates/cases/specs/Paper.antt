@@ -20,7 +20,7 @@ use Rattle.calls.specs.Message.{messageSound, messageAnswer}
 use Rattle.board.specs.declared.Listing.the-variants.{Listed}
 use Rattle.board.specs.Rules.{boardWith}
 use Rattle.runs.specs.Runs.{Reply}
-use Rattle.cases.specs.Day.{says, sent, withdrawn, board, statuses, orders, optionals, replyAfter}
+use Rattle.cases.specs.Day.{says, saysOf, sent, withdrawn, board, reliefBoard, statuses, orders, optionals, replyAfter}
 
 -- P1: 31:59:59 is 115,199; 32:00:00 is refused
 abbrev pub P1 : Type 0
@@ -74,6 +74,13 @@ TwoRows =
     × (statuses (sent (says "1" "CANCEL" ∷ says "2" "DRIVING" ∷ []) ∷ withdrawn 1 ∷ []) ≡ 0 ∷ [])
     × (optionals [] ≡ (1 ∷ 0 ∷ 0 ∷ []) ∷ [])
 
+-- a relief journey in the plan is shown once a message has told of it, and no more when that is withdrawn
+abbrev pub Relief : Type 0
+Relief =
+    (reliefBoard [] ≡ Reply.showed (boardWith (Listed 1 1) (0 ∷ 9 ∷ 9 ∷ [])))
+    × (reliefBoard (sent (saysOf "1" "1" "DRIVING" ∷ []) ∷ []) ≡ Reply.showed (boardWith (Listed 2 2) (0 ∷ 1 ∷ 9 ∷ [])))
+    × (reliefBoard (sent (saysOf "1" "1" "DRIVING" ∷ []) ∷ withdrawn 1 ∷ []) ≡ Reply.showed (boardWith (Listed 1 1) (0 ∷ 9 ∷ 9 ∷ [])))
+
 -- what a message of these bytes gets, whoever sends it, where all that it is lent is sound
 abbrev pub Gets : List ℕ → ℕ × ℕ × ℕ × ℕ → Type 0
 Gets d n = (register book table : List ℕ) (sender : ℕ) (c : Counts) → messageSound register book table c ≡ true → numbers (messageAnswer d sender register book table c) ≡ n
@@ -87,4 +94,4 @@ abbrev pub P11 : Type 0
 P11 = Gets (bytes "\\G" ++ 13 ∷ 10 ∷ []) (0, 0, 0, 0)
 
 abbrev pub All : Type 0
-All = P1 × P2 × P3 × P4 × P5 × P6 × P7 × P8 × P9 × TwoRows × P10 × P11
+All = P1 × P2 × P3 × P4 × P5 × P6 × P7 × P8 × P9 × TwoRows × Relief × P10 × P11

@@ -83,4 +83,5 @@ fn is_shown(row: &Row, question: &Question) -> bool {
         && (body.flexible == FLEXIBLE_NOT_SAID
             || body.flexible == FLEXIBLE_TRUE
             || body.flexible == FLEXIBLE_REALTIME && body.monitored == 1)
+        && (body.key.fortify == 0 || row.heard == 1)
 }

@@ -61,7 +61,8 @@ fn may_show(row: &Row) -> bool {
         _ => false,
     };
     let cancel = row[STATUS] != CANCEL || row[SHOW_CANCELLED] == 1;
-    row[STOP_TYPE] != LAST && row[STATUS] != PASSED && cancel && flexible
+    let running = row[FORTIFY] == 0 || row[HEARD] == 1;
+    row[STOP_TYPE] != LAST && row[STATUS] != PASSED && cancel && flexible && running
 }
 
 #[allow(clippy::too_many_arguments)]

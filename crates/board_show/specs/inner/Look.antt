@@ -24,9 +24,10 @@ unfoldable pub shownAt : List ℕ → List ℕ → ClockSeconds → ClockSeconds
 shownAt owner stop from till r = on (showing owner stop from till r) (At (departs r)) Hidden
 
 -- the show rule but for stop and stop type, over the numbers that it looks at
-unfoldable pub mayBe : ClockSeconds → ClockSeconds → ClockSeconds → ℕ → ℕ → ℕ → ℕ → Bool
-mayBe from till moment status showCancelled flexible monitored =
+unfoldable pub mayBe : ClockSeconds → ClockSeconds → ClockSeconds → ℕ → ℕ → ℕ → ℕ → ℕ → ℕ → Bool
+mayBe from till moment status showCancelled flexible monitored fortify heard =
     not (eqb status 5)
     && within (from .0) (till .0) (moment .0)
     && (not (eqb status 1) || eqb showCancelled 1)
     && (within 0 1 flexible || (eqb flexible 3 && eqb monitored 1))
+    && (eqb fortify 0 || eqb heard 1)

@@ -22,8 +22,16 @@ fn day_of<'a>(panel: &'a Panel, rows: &[Vec<u8>]) -> Day<'a> {
 
 const QUESTION: Question = Question { owner: b"CXX", stop: b"S1", date: 20_160_301, second: 36_000, horizon: 600 };
 
-/// 8.2: every combination of the conditions, each as often decisive alone as it can be.
+/// 8.2: every combination of the conditions, each as often decisive alone as it can be; for relief journeys and others, heard of or not.
 pub fn show_rule(panel: &Panel) {
+    for fortify in [0, 1, 2, 99] {
+        for heard in [0, 1] {
+            show_rule_of(panel, fortify, heard);
+        }
+    }
+}
+
+fn show_rule_of(panel: &Panel, fortify: u8, heard: u8) {
     let mut rows = Vec::new();
     let mut expected = Vec::new();
     for status in 0..6_u8 {
@@ -32,13 +40,16 @@ pub fn show_rule(panel: &Panel) {
                 let (cancelled, monitored, flexible) = (flags & 1, flags >> 1 & 1, flags >> 2);
                 for departure in [35_999, 36_000, 36_300, 36_600, 36_601] {
                     let mut made = row(rows.len() as u32, 20_160_301, departure);
+                    (made[28], made[66]) = (fortify, heard);
+                    made[51..55].copy_from_slice(&(u32::from(heard) * 1_456_841_730).to_be_bytes());
                     (made[55], made[62], made[63], made[64], made[65]) =
                         (status, stop_type, cancelled, flexible, monitored);
                     let shown = stop_type != 2
                         && status != 5
                         && (36_000..=36_600).contains(&departure)
                         && (status != 1 || cancelled == 1)
-                        && (flexible == 0 || flexible == 1 || flexible == 3 && monitored == 1);
+                        && (flexible == 0 || flexible == 1 || flexible == 3 && monitored == 1)
+                        && (fortify == 0 || heard == 1);
                     if shown {
                         expected.push((departure, rows.len() as u32));
                     }
@@ -51,7 +62,8 @@ pub fn show_rule(panel: &Panel) {
     let places: Vec<u32> = expected.iter().map(|(_, place)| *place).collect();
     let mut day = day_of(panel, &rows);
     assert_eq!(day.board(&QUESTION, 2_000).0, places);
-    assert_eq!(day.board(&QUESTION, 7), (places[..7].to_vec(), [0, 7, places.len() as u64]));
+    let written = places.len().min(7);
+    assert_eq!(day.board(&QUESTION, 7), (places[..written].to_vec(), [0, written as u64, places.len() as u64]));
     for (owner, stop) in
         [(&b"CXY"[..], &b"S1"[..]), (b"CX", b"S1"), (b"CXX ", b"S1"), (b"CXX", b"S"), (b"CXX", b"S2"), (b"CXX", b"S11")]
     {

@@ -135,14 +135,17 @@ pub fn close(panel: &Panel) {
     }
 }
 
-/// A board at the named passage's stop, for a time that both would be shown at, shows it, and the other only where owner and stop are equal.
+/// A board at the named passage's stop, for a time that both would be shown at, shows it, and the other only where owner and stop are equal
+/// and it is no relief journey that nobody told of.
 fn shown_alone(day: &mut Day, named: &[u8], place: u32, low: &[u8], high: &[u8]) {
     let key = Key::read(named);
     let (owner, stop) = (text(&key.owner), text(&key.stop));
     let question = Question { owner: &owner, stop: &stop, date: key.date, second: 0, horizon: 86_400 };
     let same_stop = low[..10] == high[..10] && low[29..39] == high[29..39] && low[10..14] == high[10..14];
+    let other = &day.state.table[(1 - place as usize) * 67..][..67];
+    let both = same_stop && (other[28] == 0 || other[66] == 1);
     let (places, _) = day.board(&question, 3);
-    assert_eq!(places, if same_stop { vec![0, 1] } else { vec![place] });
+    assert_eq!(places, if both { vec![0, 1] } else { vec![place] });
 }
 
 /// Without a plan the named passage leaves on a withdrawal, and the other stays with every byte.

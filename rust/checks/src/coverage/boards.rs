@@ -4,8 +4,8 @@ use super::{number, Coverage};
 use crate::call::{Call, Job, Outcome};
 use crate::worlds::calendar::day_of_number;
 
-const CONDITIONS: [&str; 8] =
-    ["owner", "stop", "LAST", "PASSED", "before now", "behind the horizon", "CANCEL", "flexible"];
+const CONDITIONS: [&str; 9] =
+    ["owner", "stop", "LAST", "PASSED", "before now", "behind the horizon", "CANCEL", "flexible", "not being heard of"];
 
 impl Coverage {
     /// An accepted board.
@@ -36,6 +36,7 @@ impl Coverage {
                 moment <= end || departure == 16_777_215,
                 row[55] != 1 || row[63] == 1,
                 matches!(row[64], 0 | 1) || row[64] == 3 && row[65] == 1,
+                row[28] == 0 || row[66] == 1,
             ];
             match met.iter().filter(|met| !**met).count() {
                 0 => {
@@ -63,6 +64,8 @@ impl Coverage {
         self.meet_where(row[55] == 1, "board: shown CANCEL");
         self.meet_where(row[64] == 1, "board: shown flexible TRUE");
         self.meet_where(row[64] == 3, "board: shown flexible REALTIME");
+        self.meet_where(row[28] > 0, "board: shown relief journey");
+        self.meet_where(row[28] == 0 && row[66] == 0, "board: shown unheard of");
     }
 
     fn hidden_row(&mut self, row: &[u8], condition: usize, moment: i64, now: i64, end: i64) {
@@ -71,6 +74,8 @@ impl Coverage {
         self.meet_where(condition == 5 && moment == end + 1, "board: hidden a second behind the horizon");
         self.meet_where(condition == 7 && row[64] == 2, "board: hidden by FALSE alone");
         self.meet_where(condition == 7 && row[64] == 3, "board: hidden by REALTIME alone");
+        self.meet_where(condition == 8 && row[28] == 1, "board: hidden relief journey 1");
+        self.meet_where(condition == 8 && row[28] > 1, "board: hidden relief journey above 1");
     }
 
     /// 13, by the part of the question that is outside its range, where it is one alone.

@@ -138,6 +138,11 @@ const NAMED: &[(&str, u64)] = &[
     ("board: hidden by behind the horizon alone", 200),
     ("board: hidden by CANCEL alone", 100),
     ("board: hidden by flexible alone", 200),
+    ("board: hidden by not being heard of alone", 200),
+    ("board: hidden relief journey 1", 50),
+    ("board: hidden relief journey above 1", 50),
+    ("board: shown relief journey", 200),
+    ("board: shown unheard of", 200),
 ];
 
 /// What is rarer, in a million calls: fixed cases at the borders see to these as well.

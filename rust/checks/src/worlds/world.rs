@@ -57,6 +57,8 @@ impl World {
         world.dates.truncate(2);
         world.journeys = (0..12).map(|_| random.below(1_000_000) as u32).collect();
         world.orders = vec![1, 2];
+        // One in four is a relief journey, which is seen only where it was heard of.
+        world.fortifies = vec![0, 0, 0, *random.pick(&[1, 2, 99])];
         // Around midnight, written as times of the one day and of the next.
         let late: Vec<u32> = (0..12).map(|_| 85_000 + random.below(3_000) as u32).collect();
         let early = late.iter().filter_map(|time| time.checked_sub(86_400));
