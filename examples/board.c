@@ -83,7 +83,7 @@ static uint32_t send_in_parts(const uint8_t *dossier, size_t length)
 {
     static uint8_t staging[DESK_STAGING], line[DESK_LINE];
     uint64_t feed[DESK_FEED];
-    desk_feed_begin(SENDER, feed);
+    desk_feed_begin(SENDER, DESK_OLD_FORM, feed);
     for (size_t at = 0; at < length; at += 100)
         desk_feed(dossier + at, length - at < 100 ? length - at : 100, (const uint8_t *)registered, sizeof registered, staging, sizeof staging, line, feed);
     return desk_day_feed_end(&day, (const uint8_t *)registered, sizeof registered, staging, sizeof staging, feed);
@@ -94,7 +94,7 @@ int main(void)
     if (refused("open", desk_day_open(&day, TEXT(planning), TEXT(calendar)))) return 1;
     print_board();
 
-    if (refused("message", desk_day_message(&day, TEXT(cancellation), SENDER, (const uint8_t *)registered, sizeof registered))) return 1;
+    if (refused("message", desk_day_message(&day, TEXT(cancellation), SENDER, DESK_OLD_FORM, (const uint8_t *)registered, sizeof registered))) return 1;
     uint32_t message = (uint32_t)day.answer[DESK_ANSWER_VALUE];
     printf("\nmessage %u:\n", (unsigned)message);
     print_board();

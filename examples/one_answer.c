@@ -44,7 +44,7 @@ int main(void)
     told("open");
     desk_board(TEXT("CXX"), TEXT("S1"), 20160301, 85800, 1800, table, sizeof table, answer[DESK_ANSWER_ROWS], places, 8, answer);
     told("board");
-    desk_message(TEXT(cancellation), 3, (const uint8_t *)registered, sizeof registered, book, sizeof book, table, sizeof table,
+    desk_message(TEXT(cancellation), 3, DESK_OLD_FORM, (const uint8_t *)registered, sizeof registered, book, sizeof book, table, sizeof table,
                  answer[DESK_ANSWER_USED], answer[DESK_ANSWER_ROWS], answer);
     told("message");
     desk_withdraw((uint32_t)answer[DESK_ANSWER_VALUE], DESK_SENDER, book, sizeof book, table, sizeof table, answer[DESK_ANSWER_USED],

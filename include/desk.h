@@ -43,8 +43,9 @@
 extern "C" {
 #endif
 
-/* Of this face: one more where a call or an answer changes. 2: a board's answer has three numbers. 3: DESK_LINE_LONG, and messages in parts. */
-enum { DESK_VERSION = 3 };
+/* Of this face: one more where a call or an answer changes. 2: a board's answer has three numbers. 3: DESK_LINE_LONG, and messages in parts.
+   4: a message states its form, and so does a feed; DESK_UNKNOWN_FORM. */
+enum { DESK_VERSION = 4 };
 
 /* The places in an answer, and how many there are: of a call on the day, and of a board. */
 enum {
@@ -58,8 +59,8 @@ enum {
     DESK_BOARD_ANSWER = 3
 };
 
-/* An answer's number, and which calls give it; end is that of a feed. Where several hold, the first is given in the order 1, 2, 3, 15, 4 to 6, 14, 7, 9,
-   10, 12, 11, 8, 13. */
+/* An answer's number, and which calls give it; end is that of a feed. Where several hold, the first is given in the order 1, 18, 2, 3, 15, 4 to 6, 14, 7,
+   9, 10, 12, 11, 8, 13. */
 enum {
     DESK_ACCEPTED = 0,
     DESK_UNSOUND = 1,            /* message, feed, end, withdraw, board: counts, book, table, register, feed or staged rows cannot be worked with */
@@ -76,7 +77,8 @@ enum {
     DESK_OTHER_SENDER = 12,      /* withdraw: the sender is neither the message's nor the desk */
     DESK_OUT_OF_RANGE = 13,      /* board: owner, stop, date, second or horizon */
     DESK_STAGING_SHORT = 14,     /* end: the staging area has no room for all rows, or had none while they were fed */
-    DESK_LINE_LONG = 15          /* open, message, end: a line over DESK_LINE bytes */
+    DESK_LINE_LONG = 15,         /* open, message, end: a line over DESK_LINE bytes */
+    DESK_UNKNOWN_FORM = 18       /* message, end: the form is neither DESK_OLD_FORM nor DESK_NEW_FORM */
 };
 
 /* Sizes to lend where room is never to lack. Less may be lent; of more, no more than this is used. */
@@ -96,6 +98,10 @@ enum {
 /* A sender is 1 to 255. 0 is the desk: it sends no rows, and withdraws anybody's message. */
 enum { DESK_SENDER = 0 };
 
+/* The form of a message: the old one, or that of turbo 8.5. There ShowCancelledJourney (true, false, message) is wanted in place of ShowCancelledTrip, and
+   Monitored is true or false in place of 1 or 0. */
+enum { DESK_OLD_FORM = 0, DESK_NEW_FORM = 1 };
+
 /* Where a row of the table has what, and in how many bytes: texts padded with zeros, numbers big-endian. The key is the first DESK_KEY_WIDE bytes, the
    body, which the book has too, the first DESK_BODY_WIDE. */
 enum {
@@ -112,7 +118,7 @@ enum {
     DESK_ARRIVAL_AT = 56,          /* time */
     DESK_DEPARTURE_AT = 59,        /* time */
     DESK_STOP_TYPE_AT = 62,        /* 1 */
-    DESK_SHOW_CANCELLED_AT = 63,   /* 1: 0 or 1 */
+    DESK_SHOW_CANCELLED_AT = 63,   /* 1 */
     DESK_FLEXIBLE_AT = 64,         /* 1 */
     DESK_MONITORED_AT = 65,        /* 1: 0 or 1 */
     DESK_HEARD_AT = 66,            /* 1: 1 where a standing message has told of the passage, 0 where the plan alone has */
@@ -135,6 +141,9 @@ enum { DESK_PLANNED = 0, DESK_CANCEL = 1, DESK_UNKNOWN = 2, DESK_DRIVING = 3, DE
 
 /* at DESK_STOP_TYPE_AT, */
 enum { DESK_FIRST = 0, DESK_INTERMEDIATE = 1, DESK_LAST = 2 };
+
+/* at DESK_SHOW_CANCELLED_AT: whether a cancelled passage is shown; not, so, or not but with a message that is sent beside it, */
+enum { DESK_CANCELLED_FALSE = 0, DESK_CANCELLED_TRUE = 1, DESK_CANCELLED_MESSAGE = 2 };
 
 /* and at DESK_FLEXIBLE_AT: whether a flexible trip is shown; not said, always, never, or where it is monitored. */
 enum { DESK_FLEXIBLE_NOT_SAID = 0, DESK_FLEXIBLE_TRUE = 1, DESK_FLEXIBLE_FALSE = 2, DESK_FLEXIBLE_REALTIME = 3 };
@@ -166,9 +175,9 @@ uint32_t desk_open(const uint8_t *planning, size_t planning_len,
                    uint8_t *table, size_t table_len,
                    uint64_t used, uint64_t rows, uint64_t answer[6]);
 
-/* A message dossier is taken whole or refused whole. The register says which senders, 1 to 255, send for which owners. The message's number is what
+/* A message dossier, in the form that is stated, is taken whole or refused whole. The register says which senders, 1 to 255, send for which owners. The message's number is what
    desk_withdraw takes; a message without rows is accepted as 0 and changes nothing. */
-uint32_t desk_message(const uint8_t *dossier, size_t dossier_len, uint8_t sender,
+uint32_t desk_message(const uint8_t *dossier, size_t dossier_len, uint8_t sender, uint32_t form,
                       const uint8_t *registered, size_t registered_len,
                       uint8_t *book, size_t book_len,
                       uint8_t *table, size_t table_len,
@@ -187,8 +196,8 @@ uint32_t desk_message(const uint8_t *dossier, size_t dossier_len, uint8_t sender
 
    Any bytes may stand there: what is no begun feed, as zeroed memory, is answered with DESK_UNSOUND and nothing is changed. */
 
-/* A feed begins, for a message from this sender. Returns 0. */
-uint32_t desk_feed_begin(uint8_t sender, uint64_t feed[48]);
+/* A feed begins, for a message from this sender in this form. Returns 0: a form that is not known is read as the old one, and answered at the end. */
+uint32_t desk_feed_begin(uint8_t sender, uint32_t form, uint64_t feed[48]);
 
 /* The next part, of any length. Returns 0, or DESK_UNSOUND where `feed` is no begun feed. What is wrong with the dossier is told at the end. The register
    is asked for each row as it comes: all whole pairs of it are looked at, and its length is judged at the end. */
@@ -247,11 +256,11 @@ static inline uint32_t desk_day_open(struct desk_day *day, const uint8_t *planni
                                         day->used, day->rows, day->answer));
 }
 
-static inline uint32_t desk_day_message(struct desk_day *day, const uint8_t *dossier, size_t dossier_len, uint8_t sender,
+static inline uint32_t desk_day_message(struct desk_day *day, const uint8_t *dossier, size_t dossier_len, uint8_t sender, uint32_t form,
                                         const uint8_t *registered, size_t registered_len)
 {
-    return desk_day_keep(day, desk_message(dossier, dossier_len, sender, registered, registered_len, day->book, day->book_len, day->table,
-                                           day->table_len, day->used, day->rows, day->answer));
+    return desk_day_keep(day, desk_message(dossier, dossier_len, sender, form, registered, registered_len, day->book, day->book_len,
+                                           day->table, day->table_len, day->used, day->rows, day->answer));
 }
 
 static inline uint32_t desk_day_feed_end(struct desk_day *day, const uint8_t *registered, size_t registered_len,

@@ -64,7 +64,7 @@ static void *open_day(void *unused)
 
 static void *take_message(void *unused)
 {
-    number = desk_day_message(&day, TEXT(message), SENDER, (const uint8_t *)registered, sizeof registered);
+    number = desk_day_message(&day, TEXT(message), SENDER, DESK_OLD_FORM, (const uint8_t *)registered, sizeof registered);
     return unused;
 }
 

@@ -9,8 +9,8 @@ typedef struct {
 } slice;
 
 uint32_t open_inside(slice *, slice *, slice *, slice *, uint64_t, uint64_t, uint64_t *) __asm__("unproved_desk_open");
-uint32_t message_inside(slice *, uint8_t, slice *, slice *, slice *, uint64_t, uint64_t, uint64_t *) __asm__("unproved_desk_message");
-uint32_t feed_begin_inside(uint8_t, uint64_t *) __asm__("unproved_desk_feed_begin");
+uint32_t message_inside(slice *, uint8_t, uint32_t, slice *, slice *, slice *, uint64_t, uint64_t, uint64_t *) __asm__("unproved_desk_message");
+uint32_t feed_begin_inside(uint8_t, uint32_t, uint64_t *) __asm__("unproved_desk_feed_begin");
 uint32_t feed_inside(slice *, slice *, slice *, uint8_t *, uint64_t *) __asm__("unproved_desk_feed");
 uint32_t feed_end_inside(slice *, slice *, slice *, slice *, uint64_t, uint64_t, uint64_t *, uint64_t *) __asm__("unproved_desk_feed_end");
 uint32_t withdraw_inside(uint32_t, uint8_t, slice *, slice *, uint64_t, uint64_t, uint64_t *) __asm__("unproved_desk_withdraw");
@@ -22,14 +22,14 @@ uint32_t desk_open(const uint8_t *planning, size_t planning_len, const uint8_t *
     return open_inside(&p, &c, &b, &t, used, rows, answer);
 }
 
-uint32_t desk_message(const uint8_t *dossier, size_t dossier_len, uint8_t sender, const uint8_t *registered, size_t registered_len, uint8_t *book, size_t book_len,
-                      uint8_t *table, size_t table_len, uint64_t used, uint64_t rows, uint64_t *answer) {
+uint32_t desk_message(const uint8_t *dossier, size_t dossier_len, uint8_t sender, uint32_t form, const uint8_t *registered, size_t registered_len, uint8_t *book,
+                      size_t book_len, uint8_t *table, size_t table_len, uint64_t used, uint64_t rows, uint64_t *answer) {
     slice d = {dossier, dossier_len}, r = {registered, registered_len}, b = {book, book_len}, t = {table, table_len};
-    return message_inside(&d, sender, &r, &b, &t, used, rows, answer);
+    return message_inside(&d, sender, form, &r, &b, &t, used, rows, answer);
 }
 
-uint32_t desk_feed_begin(uint8_t sender, uint64_t *feed) {
-    return feed_begin_inside(sender, feed);
+uint32_t desk_feed_begin(uint8_t sender, uint32_t form, uint64_t *feed) {
+    return feed_begin_inside(sender, form, feed);
 }
 
 uint32_t desk_feed(const uint8_t *part, size_t part_len, const uint8_t *registered, size_t registered_len, uint8_t *staging, size_t staging_len, uint8_t *line, uint64_t *feed) {

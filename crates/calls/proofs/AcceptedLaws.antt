@@ -10,7 +10,7 @@ use lib.ListN.{length}
 use Rattle.lists.specs.Logic.{on}
 use Rattle.lists.proofs.LogicLaws.{and-pass}
 use Rattle.register.specs.Register.{registerSound}
-use Rattle.columns.specs.declared.Table.the-variants as Tables
+use Rattle.columns.specs.Tables.{isForm}
 use Rattle.reader.specs.declared.Reading.{Reading}
 use Rattle.reader.specs.declared.Reading.the-variants as Readings
 use Rattle.reader.specs.Rules.{readingOf}
@@ -19,10 +19,10 @@ use Rattle.table.specs.Rules.{tableSound, tableRoom}
 use Rattle.book.specs.Entries.{entry-wide, senderOf, kindOf, updatesIn}
 use Rattle.book.specs.Rules.{bookSound, bookRoom, messageEntries}
 use Rattle.calls.specs.declared.Answer.{Answer}
-use Rattle.calls.specs.declared.Answer.the-variants.{Accepted, Unsound, BookShort, TableShort, AlreadyWithdrawn, OtherSender}
+use Rattle.calls.specs.declared.Answer.the-variants.{Accepted, Unsound, BookShort, TableShort, AlreadyWithdrawn, OtherSender, UnknownForm}
 use Rattle.calls.specs.declared.Counts.{Counts}
 use Rattle.calls.specs.Answers.{isAccepted, unlessRefused}
-use Rattle.calls.specs.Message.{messageSound, messageRows, numberFor, rowsTaken, roomFor, messageAnswer}
+use Rattle.calls.specs.Message.{messageSound, messageTable, messageRows, numberFor, rowsTaken, roomFor, messageAnswer}
 use Rattle.calls.specs.Withdraw.{withdrawSound, rowsWithout, unlessBarred, roomWithout, withdrawAnswer}
 use Rattle.calls.specs.Claims.{MessageAcceptedExactly, WithdrawAcceptedExactly}
 
@@ -44,9 +44,9 @@ read-on w (Readings.Rows n) next e = ((n, refl), e)
 
 -- ---- message
 
-module _ (d register book table : List ℕ) (sender : ℕ) (c : Counts) where
+module _ (d register book table : List ℕ) (sender form : ℕ) (c : Counts) where
   abbrev bodies : List (List ℕ)
-  bodies = messageRows d
+  bodies = messageRows form d
 
   abbrev fits : Bool
   fits = leb (c .used + length bodies * entry-wide) (bookRoom book)
@@ -57,23 +57,26 @@ module _ (d register book table : List ℕ) (sender : ℕ) (c : Counts) where
   -- what an accepted message passed
   pub record Passed : Type 0 where
     pub sound : messageSound register book table c ≡ true
-    pub rows : (n : ℕ) × (readingOf Tables.Message register sender d ≡ Readings.Rows n)
+    pub known : isForm form ≡ true
+    pub rows : (n : ℕ) × (readingOf (messageTable form) register sender d ≡ Readings.Rows n)
     pub in-book : c .used + length bodies * entry-wide ≤ bookRoom book
     pub in-table : length (rowsTaken bodies table (c .rows)) ≤ tableRoom table
 
-  pub passed : isAccepted (messageAnswer d sender register book table c) ≡ true → Passed
+  pub passed : isAccepted (messageAnswer d sender form register book table c) ≡ true → Passed
   unfolding messageAnswer roomFor
   passed e =
-      let s = first-of (messageSound register book table c) (unlessRefused 0 (readingOf Tables.Message register sender d) (roomFor bodies book table c)) Unsound refl e in
-      let r = read-on 0 (readingOf Tables.Message register sender d) (roomFor bodies book table c) (s .1) in
+      let read = unlessRefused 0 (readingOf (messageTable form) register sender d) (roomFor bodies book table c) in
+      let s = first-of (messageSound register book table c) (on (isForm form) read UnknownForm) Unsound refl e in
+      let k = first-of (isForm form) read UnknownForm refl (s .1) in
+      let r = read-on 0 (readingOf (messageTable form) register sender d) (roomFor bodies book table c) (k .1) in
       let b = first-of fits (on holds (Accepted (numberFor bodies (c .used) book)) TableShort) BookShort refl (r .1) in
       let t = first-of holds (Accepted (numberFor bodies (c .used) book)) TableShort refl (b .1) in
-      record { sound = s .0; rows = r .0; in-book = leb-true _ _ (b .0); in-table = leb-true _ _ (t .0) }
+      record { sound = s .0; known = k .0; rows = r .0; in-book = leb-true _ _ (b .0); in-table = leb-true _ _ (t .0) }
 
   -- and it is accepted with its number
-  pub passes : Passed → messageAnswer d sender register book table c ≡ Accepted (numberFor bodies (c .used) book)
+  pub passes : Passed → messageAnswer d sender form register book table c ≡ Accepted (numberFor bodies (c .used) book)
   unfolding messageAnswer roomFor
-  passes p = rw (p .sound, p .rows .1, le-leb _ _ (p .in-book), le-leb _ _ (p .in-table))
+  passes p = rw (p .sound, p .known, p .rows .1, le-leb _ _ (p .in-book), le-leb _ _ (p .in-table))
 
   pub sound-parts : messageSound register book table c ≡ true → (registerSound register ≡ true) × (bookSound (c .used) book ≡ true) × (tableSound (c .rows) table ≡ true)
   unfolding messageSound
@@ -87,16 +90,16 @@ module _ (d register book table : List ℕ) (sender : ℕ) (c : Counts) where
   parts-sound a b t = rw (a, b, t)
 
 pub message-exactly : MessageAcceptedExactly
-message-exactly d register book table sender c = (
+message-exactly d register book table sender form c = (
   λ e.
-      let p = passed d register book table sender c e in
-      let s = sound-parts d register book table sender c (p .sound) in
-      let r = accepted Tables.Message register sender d .0 (p .rows) in
-      (s .0, s .1, s .2, r .0, r .1, r .2, r .3, r .4, r .5, p .in-book, p .in-table),
+      let p = passed d register book table sender form c e in
+      let s = sound-parts d register book table sender form c (p .sound) in
+      let r = accepted (messageTable form) register sender d .0 (p .rows) in
+      (s .0, s .1, s .2, leb-true _ _ (p .known), r .0, r .1, r .2, r .3, r .4, r .5, p .in-book, p .in-table),
   λ f.
-      let s = parts-sound d register book table sender c (f .0) (f .1) (f .2) in
-      let r = accepted Tables.Message register sender d .1 (f .3, f .4, f .5, f .6, f .7, f .8) in
-      ap isAccepted (passes d register book table sender c (record { sound = s; rows = r; in-book = f .9; in-table = f .10 })),
+      let s = parts-sound d register book table sender form c (f .0) (f .1) (f .2) in
+      let r = accepted (messageTable form) register sender d .1 (f .4, f .5, f .6, f .7, f .8, f .9) in
+      ap isAccepted (passes d register book table sender form c (record { sound = s; known = le-leb _ _ (f .3); rows = r; in-book = f .10; in-table = f .11 })),
 )
 
 -- ---- withdraw

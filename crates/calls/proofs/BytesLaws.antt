@@ -23,7 +23,7 @@ use Rattle.book.proofs.SoundLaws.{room-within}
 use Rattle.book.proofs.WriteLaws.{wide-entriesOf, length-entriesOf}
 use Rattle.calls.specs.declared.Counts.{Counts}
 use Rattle.calls.specs.Answers.{numbers, isAccepted}
-use Rattle.calls.specs.Message.{messageRows, nextIn, numberFor, rowsTaken, bookTaking, tableTaking, countsTaking, messageAnswer, takenBy, messageLeaves}
+use Rattle.calls.specs.Message.{messageTable, messageRows, nextIn, numberFor, rowsTaken, bookTaking, tableTaking, countsTaking, messageAnswer, takenBy, messageLeaves}
 use Rattle.calls.specs.Withdraw.{rowsWithout, withdrawAnswer, tableWithout, withoutBy, withdrawLeaves}
 use Rattle.calls.specs.Claims.{RowsAreDataLines, MessageNumbered, RowsGoToBook, FreedAndKept, TableFreedAndKept}
 use Rattle.calls.proofs.AcceptedLaws.{passed, passes, sound-parts, left}
@@ -32,7 +32,7 @@ use Rattle.calls.proofs.AgainLaws.{without-wide}
 
 pub rows-are-lines : RowsAreDataLines
 unfolding messageRows
-rows-are-lines d = refl
+rows-are-lines form d = refl
 
 -- ---- number
 
@@ -63,16 +63,16 @@ number-some bodies used book h = let k : length bodies ≡ 0 → ⊥ = λ z. ome
 
 pub message-numbered : MessageNumbered
 unfolding messageLeaves takenBy
-message-numbered d register book table sender c e =
-    let a = passes d register book table sender c (passed d register book table sender c e) in
+message-numbered d register book table sender form c e =
+    let a = passes d register book table sender form c (passed d register book table sender form c e) in
     let n = ap (λ x. numbers x .1) a in (
       λ h. (
-        n ∙ number-none (messageRows d) (c .used) book h,
-        rw e (none-counts (messageRows d) h table c),
-        rw e (none-book (nextIn (c .used) book) (messageRows d) h sender book (c .used)),
-        rw e (none-table (messageRows d) h table (c .rows)),
+        n ∙ number-none (messageRows form d) (c .used) book h,
+        rw e (none-counts (messageRows form d) h table c),
+        rw e (none-book (nextIn (c .used) book) (messageRows form d) h sender book (c .used)),
+        rw e (none-table (messageRows form d) h table (c .rows)),
       ),
-      λ h. n ∙ number-some (messageRows d) (c .used) book h,
+      λ h. n ∙ number-some (messageRows form d) (c .used) book h,
     )
 
 -- ---- book
@@ -95,28 +95,28 @@ book-taken n bodies sender book used w h =
 
 pub rows-to-book : RowsGoToBook
 unfolding messageLeaves takenBy
-rows-to-book d register book table sender c e =
-    let p = passed d register book table sender c e in
-    rw e (refl, book-taken (nextIn (c .used) book) (messageRows d) sender book (c .used) (message-wide register sender d (p .rows .0) (p .rows .1)) (p .in-book))
+rows-to-book d register book table sender form c e =
+    let p = passed d register book table sender form c e in
+    rw e (refl, book-taken (nextIn (c .used) book) (messageRows form d) sender book (c .used) (message-wide form register sender d (p .rows .0) (p .rows .1)) (p .in-book))
 
 -- ---- table
 
 stored : (n : ℕ) (rs : List (List ℕ)) (t : List ℕ) → Wide row-wide rs → n * row-wide ≤ length t → FreedAndKept n (length rs) t (store row-wide n rs t)
 stored n rs t w h = (length-store row-wide n rs t, λ a. store-freed row-wide n rs t w a h, λ i a b. store-behind row-wide n rs t w i a b)
 
-message-kept : (d register book table : List ℕ) (sender : ℕ) (c : Counts) → isAccepted (messageAnswer d sender register book table c) ≡ true
-    → (c .rows ≤ messageLeaves d sender register book table c .outcome .counts .rows)
-    × FreedAndKept (c .rows) (messageLeaves d sender register book table c .outcome .counts .rows) table (messageLeaves d sender register book table c .table)
+message-kept : (d register book table : List ℕ) (sender form : ℕ) (c : Counts) → isAccepted (messageAnswer d sender form register book table c) ≡ true
+    → (c .rows ≤ messageLeaves d sender form register book table c .outcome .counts .rows)
+    × FreedAndKept (c .rows) (messageLeaves d sender form register book table c .outcome .counts .rows) table (messageLeaves d sender form register book table c .table)
 unfolding messageLeaves takenBy tableTaking
-message-kept d register book table sender c e =
-    let p = passed d register book table sender c e in
-    let f = sound-fits (c .rows) table (sound-parts d register book table sender c (p .sound) .2) in
-    let l = length-takenAll-least rowRule (messageRows d) (rowsOf row-wide (c .rows) table) in
-    let m : c .rows ≤ length (rowsTaken (messageRows d) table (c .rows)) = rw (length-rowsOf row-wide (c .rows) table) at l in
+message-kept d register book table sender form c e =
+    let p = passed d register book table sender form c e in
+    let f = sound-fits (c .rows) table (sound-parts d register book table sender form c (p .sound) .2) in
+    let l = length-takenAll-least rowRule (messageRows form d) (rowsOf row-wide (c .rows) table) in
+    let m : c .rows ≤ length (rowsTaken (messageRows form d) table (c .rows)) = rw (length-rowsOf row-wide (c .rows) table) at l in
     rw e (
       m,
-      stored (c .rows) (rowsTaken (messageRows d) table (c .rows)) table
-          (taken-wide (messageRows d) (rowsOf row-wide (c .rows) table) (message-wide register sender d (p .rows .0) (p .rows .1)) (wide-rowsOf row-wide (c .rows) table f)) f,
+      stored (c .rows) (rowsTaken (messageRows form d) table (c .rows)) table
+          (taken-wide (messageRows form d) (rowsOf row-wide (c .rows) table) (message-wide form register sender d (p .rows .0) (p .rows .1)) (wide-rowsOf row-wide (c .rows) table f)) f,
     )
 
 withdraw-kept : (book table : List ℕ) (n sender : ℕ) (c : Counts) → isAccepted (withdrawAnswer n sender book table c) ≡ true
@@ -128,4 +128,4 @@ withdraw-kept book table n sender c e =
     rw e (stored (c .rows) (rowsWithout n book (c .used) table (c .rows)) table (without-wide book table n c (p .book-sound) f) f)
 
 pub freed-and-kept : TableFreedAndKept
-freed-and-kept d register book table n sender c = (message-kept d register book table sender c, withdraw-kept book table n sender c)
+freed-and-kept d register book table n sender form c = (message-kept d register book table sender form c, withdraw-kept book table n sender c)

@@ -7,6 +7,7 @@ use lib.Dec.{leb, ltb}
 use lib.ListN.{length}
 use Rattle.lists.specs.Logic.{on, firstHeld}
 use Rattle.syntax.specs.Machine.{accepting}
+use Rattle.columns.specs.Tables.{isForm}
 use Rattle.reader.specs.declared.Reading.{Reading}
 use Rattle.reader.specs.declared.Reading.the-variants as Readings
 use Rattle.reader.specs.Rules.{largest, isLine}
@@ -17,7 +18,7 @@ use Rattle.table.specs.Rules.{tableRoom}
 use Rattle.book.specs.Entries.{entry-wide}
 use Rattle.book.specs.Rules.{bookRoom}
 use Rattle.calls.specs.declared.Answer.{Answer}
-use Rattle.calls.specs.declared.Answer.the-variants.{Accepted, Unsound, Owner, StagingShort, BookShort, TableShort}
+use Rattle.calls.specs.declared.Answer.the-variants.{Accepted, Unsound, Owner, StagingShort, BookShort, TableShort, UnknownForm}
 use Rattle.calls.specs.declared.Counts.{Counts}
 use Rattle.calls.specs.declared.Outcome.{Outcome}
 use Rattle.calls.specs.Answers.{numbers, isAccepted, unlessRefused}
@@ -25,7 +26,7 @@ use Rattle.calls.specs.Message.{numberFor, rowsTaken, roomFor, takenBy}
 use Rattle.calls.specs.End.{EndLeaves, stagedRows, anyDenied, fallsShort, endSound, readingKept, postAnswer, endAnswer, endWith, endLeaves}
 use Rattle.calls.specs.Numbers.{line, dossierLines, keptTable, endNumbers}
 use Rattle.calls.specs.Claims.{isOneOf, EndGivesBack, EndNumbersListed, EndNumbersAreTable}
-use Rattle.calls.proofs.NumbersLaws.{Four, Lines, too-many, sound-first, message-first, by-table, rooms}
+use Rattle.calls.proofs.NumbersLaws.{Four, Lines, too-many, sound-first, known-first, message-first, by-table, rooms}
 
 -- ---- the table
 
@@ -63,11 +64,12 @@ end-numbers register staging book table c kept =
     let denied = anyDenied register (f .sender) bodies in
     let short = fallsShort staging f in
     let post = line 6 denied ∷ line 14 short ∷ last in
-    sound-first (endSound register staging book table c kept) _ (dossierLines 0 (keptTable f) ∷ post) (0, n, 0, 0)
+    sound-first (endSound register staging book table c kept) _ (line 18 (not (isForm (f .form))) ∷ dossierLines 0 (keptTable f) ∷ post) (0, n, 0, 0)
+    (known-first (isForm (f .form)) _ (dossierLines 0 (keptTable f) ∷ post) (0, n, 0, 0)
     (by-table 0 (readingKept f) _ _ post (0, n, 0, 0) (kept-by-table f)
     (message-first (readingKept f) _ post (0, n, 0, 0)
     (post-first denied short _ last (0, n, 0, 0)
-    (rw (too-many entries (bookRoom book), too-many rows (tableRoom table)) (rooms (leb entries (bookRoom book)) (leb rows (tableRoom table)) n)))))
+    (rw (too-many entries (bookRoom book), too-many rows (tableRoom table)) (rooms (leb entries (bookRoom book)) (leb rows (tableRoom table)) n))))))
 
 -- what the end leaves has these numbers
 pub end-told : (register staging book table : List ℕ) (c : Counts) (kept : List ℕ) (r : Outcome) (b t k : List ℕ) → endWith r b t k ≡ endLeaves register staging book table c kept
@@ -79,11 +81,15 @@ end-told register staging book table c kept r b t k e =
 -- ---- the list
 
 abbrev Passes : Answer → Type 0
-Passes a = isOneOf (0 ∷ 1 ∷ 2 ∷ 3 ∷ 15 ∷ 4 ∷ 5 ∷ 6 ∷ 14 ∷ 7 ∷ 8 ∷ []) (numbers a .0) ≡ true
+Passes a = isOneOf (0 ∷ 1 ∷ 18 ∷ 2 ∷ 3 ∷ 15 ∷ 4 ∷ 5 ∷ 6 ∷ 14 ∷ 7 ∷ 8 ∷ []) (numbers a .0) ≡ true
 
 passes-sound : (b : Bool) (a : Answer) → Passes a → Passes (on b a Unsound)
 passes-sound true a h = h
 passes-sound false a h = refl
+
+passes-known : (b : Bool) (a : Answer) → Passes a → Passes (on b a UnknownForm)
+passes-known true a h = h
+passes-known false a h = refl
 
 passes-reading : (r : Reading) (next : Answer) → Passes next → Passes (unlessRefused 0 r next)
 passes-reading Readings.TooLong next h = refl
@@ -106,8 +112,9 @@ unfolding endAnswer postAnswer roomFor
 end-listed register staging book table c kept =
     let f = feedOf kept in
     passes-sound (endSound register staging book table c kept) _
+    (passes-known (isForm (f .form)) _
     (passes-reading (readingKept f) _
-    (passes-post (anyDenied register (f .sender) (stagedRows staging f)) (fallsShort staging f) (leb _ (bookRoom book)) (leb _ (tableRoom table)) (numberFor (stagedRows staging f) (c .used) book)))
+    (passes-post (anyDenied register (f .sender) (stagedRows staging f)) (fallsShort staging f) (leb _ (bookRoom book)) (leb _ (tableRoom table)) (numberFor (stagedRows staging f) (c .used) book))))
 
 -- ---- a refusal
 

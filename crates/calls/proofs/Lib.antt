@@ -3,6 +3,7 @@ pub mod RefusalLaws
 pub mod AcceptedLaws
 pub mod KeyFieldLaws
 pub mod TakenLaws
+pub mod AlikeLaws
 pub mod AgainLaws
 pub mod BytesLaws
 pub mod OpenedLaws

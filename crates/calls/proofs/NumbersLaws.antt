@@ -9,6 +9,7 @@ use lib.Dec.{eqb, leb, ltb}
 use lib.ListN.{length, getD}
 use Rattle.lists.specs.Logic.{on, Line, firstHeld}
 use Rattle.columns.specs.declared.Table.the-variants as Tables
+use Rattle.columns.specs.Tables.{isForm}
 use Rattle.reader.specs.declared.Reading.{Reading}
 use Rattle.reader.specs.declared.Reading.the-variants as Readings
 use Rattle.reader.specs.Rules.{readingOf}
@@ -18,12 +19,12 @@ use Rattle.table.specs.Rules.{tableRoom}
 use Rattle.book.specs.Entries.{plan-wide, entry-wide, kindOf, senderOf, updatesIn}
 use Rattle.book.specs.Rules.{bookRoom, messageEntries}
 use Rattle.calls.specs.declared.Answer.{Answer}
-use Rattle.calls.specs.declared.Answer.the-variants.{Accepted, Unsound, BookShort, TableShort, KeyTwice, AlreadyWithdrawn, OtherSender}
+use Rattle.calls.specs.declared.Answer.the-variants.{Accepted, Unsound, BookShort, TableShort, KeyTwice, AlreadyWithdrawn, OtherSender, UnknownForm}
 use Rattle.calls.specs.declared.Counts.{Counts}
 use Rattle.calls.specs.declared.Outcome.{Outcome}
 use Rattle.calls.specs.Answers.{numbers, unlessRefused}
 use Rattle.calls.specs.Leaves.{Leaves, leaves}
-use Rattle.calls.specs.Message.{messageSound, messageRows, numberFor, rowsTaken, roomFor, messageAnswer, takenBy, messageLeaves}
+use Rattle.calls.specs.Message.{messageSound, messageTable, messageRows, numberFor, rowsTaken, roomFor, messageAnswer, takenBy, messageLeaves}
 use Rattle.calls.specs.Withdraw.{withdrawSound, rowsWithout, unlessBarred, roomWithout, withdrawAnswer, withoutBy, withdrawLeaves}
 use Rattle.calls.specs.Open.{passagesOf, planOf, roomToOpen, openAnswer, openedBy, openLeaves}
 use Rattle.calls.specs.Numbers.{line, dossierLines, none, messageNumbers, withdrawNumbers, openNumbers}
@@ -48,6 +49,10 @@ too-many n room = go (leb n room) refl
 pub sound-first : (s : Bool) (a : Answer) (ls : Lines) (z : Four) → numbers a ≡ firstHeld ls z → numbers (on s a Unsound) ≡ firstHeld (line 1 (not s) ∷ ls) z
 sound-first true a ls z h = h
 sound-first false a ls z h = refl
+
+pub known-first : (k : Bool) (a : Answer) (ls : Lines) (z : Four) → numbers a ≡ firstHeld ls z → numbers (on k a UnknownForm) ≡ firstHeld (line 18 (not k) ∷ ls) z
+known-first true a ls z h = h
+known-first false a ls z h = refl
 
 -- a message's dossier before others
 pub message-first : (r : Reading) (a : Answer) (ls : Lines) (z : Four) → numbers a ≡ firstHeld ls z → numbers (unlessRefused 0 r a) ≡ firstHeld (dossierLines 0 (readingNumbers r) ∷ ls) z
@@ -81,19 +86,21 @@ rooms true true n = refl
 rooms true false n = refl
 rooms false q n = refl
 
-message-numbers : (dossier register book table : List ℕ) (sender : ℕ) (c : Counts) → numbers (messageAnswer dossier sender register book table c) ≡ messageNumbers dossier sender register book table c
+message-numbers : (dossier register book table : List ℕ) (sender form : ℕ) (c : Counts) → numbers (messageAnswer dossier sender form register book table c) ≡ messageNumbers dossier sender form register book table c
 unfolding messageAnswer roomFor messageNumbers
-message-numbers dossier register book table sender c =
-    let bodies = messageRows dossier in
+message-numbers dossier register book table sender form c =
+    let bodies = messageRows form dossier in
     let entries = c .used + length bodies * entry-wide in
     let rows = length (rowsTaken bodies table (c .rows)) in
-    let r = readingOf Tables.Message register sender dossier in
+    let r = readingOf (messageTable form) register sender dossier in
     let n = numberFor bodies (c .used) book in
     let last = line 7 (ltb (bookRoom book) entries) ∷ line 8 (ltb (tableRoom table) rows) ∷ [] in
-    sound-first (messageSound register book table c) _ (dossierLines 0 (readingTable Tables.Message register sender dossier) ∷ last) (0, n, 0, 0)
-    (by-table 0 r _ _ last (0, n, 0, 0) (numbers-by-table Tables.Message register sender dossier)
+    let read = dossierLines 0 (readingTable (messageTable form) register sender dossier) ∷ last in
+    sound-first (messageSound register book table c) _ (line 18 (not (isForm form)) ∷ read) (0, n, 0, 0)
+    (known-first (isForm form) _ read (0, n, 0, 0)
+    (by-table 0 r _ _ last (0, n, 0, 0) (numbers-by-table (messageTable form) register sender dossier)
     (message-first r _ last (0, n, 0, 0)
-    (rw (too-many entries (bookRoom book), too-many rows (tableRoom table)) (rooms (leb entries (bookRoom book)) (leb rows (tableRoom table)) n))))
+    (rw (too-many entries (bookRoom book), too-many rows (tableRoom table)) (rooms (leb entries (bookRoom book)) (leb rows (tableRoom table)) n)))))
 
 -- ---- withdraw
 
@@ -149,16 +156,16 @@ open-numbers planning calendar book table =
     (rw (too-many (pairs * plan-wide) (bookRoom book), too-many pairs (tableRoom table)) (open-rooms (leb (pairs * plan-wide) (bookRoom book)) once (leb pairs (tableRoom table)))))))
 
 pub numbers-are-tables : NumbersAreTables
-numbers-are-tables planning calendar dossier register book table number sender c =
-    (open-numbers planning calendar book table, message-numbers dossier register book table sender c, withdraw-numbers book table number sender c)
+numbers-are-tables planning calendar dossier register book table number sender form c =
+    (open-numbers planning calendar book table, message-numbers dossier register book table sender form c, withdraw-numbers book table number sender c)
 
 -- ---- what a call leaves has these numbers
 
-pub message-told : (dossier : List ℕ) (sender : ℕ) (register book table : List ℕ) (c : Counts) (r : Outcome) (b t : List ℕ) → leaves r b t ≡ messageLeaves dossier sender register book table c
-    → (leaves r b t ≡ messageLeaves dossier sender register book table c) × (numbers (r .answer) ≡ messageNumbers dossier sender register book table c)
+pub message-told : (dossier : List ℕ) (sender form : ℕ) (register book table : List ℕ) (c : Counts) (r : Outcome) (b t : List ℕ) → leaves r b t ≡ messageLeaves dossier sender form register book table c
+    → (leaves r b t ≡ messageLeaves dossier sender form register book table c) × (numbers (r .answer) ≡ messageNumbers dossier sender form register book table c)
 unfolding messageLeaves takenBy
-message-told dossier sender register book table c r b t e =
-    (e, ap (λ (l : Leaves). numbers (l .outcome .answer)) e ∙ message-numbers dossier register book table sender c)
+message-told dossier sender form register book table c r b t e =
+    (e, ap (λ (l : Leaves). numbers (l .outcome .answer)) e ∙ message-numbers dossier register book table sender form c)
 
 pub withdraw-told : (number sender : ℕ) (book table : List ℕ) (c : Counts) (r : Outcome) (b t : List ℕ) → leaves r b t ≡ withdrawLeaves number sender book table c
     → (leaves r b t ≡ withdrawLeaves number sender book table c) × (numbers (r .answer) ≡ withdrawNumbers number sender book table c)

@@ -13,7 +13,7 @@ use Rattle.syntax.specs.Machine.{fault}
 use Rattle.turbo_lines.specs.Lines.{lines, firstLong}
 use Rattle.columns.specs.declared.Table.{Table}
 use Rattle.columns.specs.declared.Table.the-variants as Tables
-use Rattle.columns.specs.Tables.{rowOf}
+use Rattle.columns.specs.Tables.{rowOf, isForm}
 use Rattle.reader.specs.declared.Reading.{Reading}
 use Rattle.reader.specs.declared.Reading.the-variants as Readings
 use Rattle.reader.specs.Items.{Item, head, row}
@@ -23,10 +23,10 @@ use Rattle.table.specs.Rules.{tableRoom}
 use Rattle.book.specs.Entries.{plan-wide, senderOf, kindOf, updatesIn}
 use Rattle.book.specs.Rules.{bookRoom, messageEntries}
 use Rattle.calls.specs.declared.Answer.{Answer}
-use Rattle.calls.specs.declared.Answer.the-variants.{Accepted, Unsound, TooLong, Syntax, Long, Form, Field, Owner, StagingShort, BookShort, TableShort, KeyTwice, NoMessage, AlreadyWithdrawn, OtherSender}
+use Rattle.calls.specs.declared.Answer.the-variants.{Accepted, Unsound, TooLong, Syntax, Long, Form, Field, Owner, StagingShort, BookShort, TableShort, KeyTwice, NoMessage, AlreadyWithdrawn, OtherSender, UnknownForm}
 use Rattle.calls.specs.declared.Counts.{Counts}
 use Rattle.calls.specs.Answers.{numbers, unlessRefused}
-use Rattle.calls.specs.Message.{messageSound, messageRows, numberFor, roomFor, messageAnswer, takenBy, messageLeaves}
+use Rattle.calls.specs.Message.{messageSound, messageTable, messageRows, numberFor, roomFor, messageAnswer, takenBy, messageLeaves}
 use Rattle.calls.specs.Withdraw.{withdrawSound, unlessBarred, roomWithout, withdrawAnswer, withoutBy, withdrawLeaves}
 use Rattle.calls.specs.Open.{passagesOf, roomToOpen, openAnswer, openedBy, openLeaves}
 use Rattle.calls.specs.Claims.{AcceptanceIsZero, RefusalsGiveBack, isOneOf, NumbersListed}
@@ -48,10 +48,11 @@ acceptance-is-zero KeyTwice = (λ e. absurd (let z : _≡_ {A = ℕ} 0 1 = cc in
 acceptance-is-zero NoMessage = (λ e. absurd (let z : _≡_ {A = ℕ} 0 1 = cc in omega arith), λ e. absurd (omega arith))
 acceptance-is-zero AlreadyWithdrawn = (λ e. absurd (let z : _≡_ {A = ℕ} 0 1 = cc in omega arith), λ e. absurd (omega arith))
 acceptance-is-zero OtherSender = (λ e. absurd (let z : _≡_ {A = ℕ} 0 1 = cc in omega arith), λ e. absurd (omega arith))
+acceptance-is-zero UnknownForm = (λ e. absurd (let z : _≡_ {A = ℕ} 0 1 = cc in omega arith), λ e. absurd (omega arith))
 
 pub refusals-give-back : RefusalsGiveBack
 unfolding openLeaves messageLeaves withdrawLeaves openedBy takenBy withoutBy
-refusals-give-back planning calendar dossier register book table number sender c =
+refusals-give-back planning calendar dossier register book table number sender form c =
     (λ e. (rw e, rw e, rw e), λ e. (rw e, rw e, rw e), λ e. (rw e, rw e, rw e))
 
 -- ---- numbers
@@ -64,7 +65,7 @@ abbrev opens : List ℕ
 opens = 0 ∷ 2 ∷ 3 ∷ 15 ∷ 4 ∷ 5 ∷ 7 ∷ 9 ∷ 8 ∷ []
 
 abbrev sends : List ℕ
-sends = 0 ∷ 1 ∷ 2 ∷ 3 ∷ 15 ∷ 4 ∷ 5 ∷ 6 ∷ 7 ∷ 8 ∷ []
+sends = 0 ∷ 1 ∷ 18 ∷ 2 ∷ 3 ∷ 15 ∷ 4 ∷ 5 ∷ 6 ∷ 7 ∷ 8 ∷ []
 
 message-reading : (r : Reading) (next : Answer) → Passes sends next → Passes sends (unlessRefused 0 r next)
 message-reading Readings.TooLong next h = refl
@@ -84,13 +85,18 @@ message-sound : (b : Bool) (a : Answer) → Passes sends a → Passes sends (on 
 message-sound true a h = h
 message-sound false a h = refl
 
-message-numbers : (d register book table : List ℕ) (sender : ℕ) (c : Counts) → Passes sends (messageAnswer d sender register book table c)
+message-known : (b : Bool) (a : Answer) → Passes sends a → Passes sends (on b a UnknownForm)
+message-known true a h = h
+message-known false a h = refl
+
+message-numbers : (d register book table : List ℕ) (sender form : ℕ) (c : Counts) → Passes sends (messageAnswer d sender form register book table c)
 unfolding messageAnswer roomFor
-message-numbers d register book table sender c =
-    let bodies = messageRows d in
+message-numbers d register book table sender form c =
+    let bodies = messageRows form d in
     message-sound (messageSound register book table c) _
-    (message-reading (readingOf Tables.Message register sender d) _
-    (message-room (leb _ (bookRoom book)) (leb _ (tableRoom table)) (numberFor bodies (c .used) book)))
+    (message-known (isForm form) _
+    (message-reading (readingOf (messageTable form) register sender d) _
+    (message-room (leb _ (bookRoom book)) (leb _ (tableRoom table)) (numberFor bodies (c .used) book))))
 
 -- a planning and a calendar have no owner to refuse
 abbrev pub ownerFree : Reading → Bool
@@ -187,5 +193,5 @@ withdraw-numbers book table number sender c =
     (barred (messageEntries number (updatesIn (c .used) book)) sender _ (withdraw-room (leb _ (tableRoom table))))
 
 pub numbers-listed : NumbersListed
-numbers-listed planning calendar d register book table number sender c =
-    (open-numbers planning calendar book table, message-numbers d register book table sender c, withdraw-numbers book table number sender c)
+numbers-listed planning calendar d register book table number sender form c =
+    (open-numbers planning calendar book table, message-numbers d register book table sender form c, withdraw-numbers book table number sender c)

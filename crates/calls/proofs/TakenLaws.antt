@@ -1,19 +1,20 @@
 -- Demand 2: each row of an accepted message changes the passage with its key, and no other. Assumes nothing.
 use Prim.Native.Nat.{ℕ, _*_, _≤_}
-use mathlib.Core.Path.{_≡_, ap, _∙_}
+use mathlib.Core.Path.{_≡_, ap, subst, _∙_}
 use mathlib.Core.Bool.{true}
 use mathlib.Core.List.{List, []}
 use mathlib.Core.Logic.{_⊎_}
 use lib.ListN.{length}
+use Rattle.lists.specs.Each.{Each}
 use Rattle.lists.specs.Rows.{rowsOf, Wide}
 use Rattle.lists.proofs.StoreLaws.{rowsOf-store}
 use Rattle.lists.proofs.WideLaws.{wide-rowsOf}
 use Rattle.passage.specs.Layout.{body-wide, row-wide, keyOf}
-use Rattle.columns.specs.declared.Table.the-variants as Tables
-use Rattle.columns.specs.Cell.{width}
-use Rattle.columns.specs.Tables.{columnsIn, messageColumns, rowWidth}
+use Rattle.columns.specs.Tables.{formOf}
+use Rattle.columns.proofs.FormLaws as Forms
 use Rattle.reader.specs.declared.Reading.the-variants.{Rows}
 use Rattle.reader.specs.Rules.{itemsOf, readingOf}
+use Rattle.reader.specs.Staging.{rowsUpTo}
 use Rattle.reader.proofs.AnswerLaws.{accepted-each}
 use Rattle.reader.proofs.EachRowLaws.{rows-wide}
 use Rattle.keys.specs.Sorted.{get}
@@ -25,7 +26,7 @@ use Rattle.table.specs.Rules.{tableRoom}
 use Rattle.table.proofs.SoundLaws.{room-holds, sound-fits}
 use Rattle.calls.specs.declared.Counts.{Counts}
 use Rattle.calls.specs.Answers.{isAccepted}
-use Rattle.calls.specs.Message.{messageRows, rowsTaken, tableTaking, messageAnswer, takenBy, messageLeaves}
+use Rattle.calls.specs.Message.{messageTable, messageRows, rowsTaken, tableTaking, messageAnswer, takenBy, messageLeaves}
 use Rattle.calls.specs.Claims.{RowsChangeTheirPassage}
 use Rattle.calls.proofs.AcceptedLaws.{passed, sound-parts}
 
@@ -56,9 +57,13 @@ taken-get = get-takenAll rowRule IsBody keeps
 -- ---- an accepted message
 
 -- the rows of a message that is read are bodies
-pub message-wide : (register : List ℕ) (sender : ℕ) (dossier : List ℕ) (n : ℕ) → readingOf Tables.Message register sender dossier ≡ Rows n → Wide body-wide (messageRows dossier)
-unfolding messageRows rowWidth columnsIn messageColumns width
-message-wide register sender dossier n e = accepted-each Tables.Message register sender dossier IsBody (rows-wide Tables.Message register sender (itemsOf Tables.Message dossier)) n e
+pub message-wide : (form : ℕ) (register : List ℕ) (sender : ℕ) (dossier : List ℕ) (n : ℕ) → readingOf (messageTable form) register sender dossier ≡ Rows n → Wide body-wide (messageRows form dossier)
+unfolding messageRows
+message-wide form register sender dossier n e =
+    accepted-each (messageTable form) register sender dossier IsBody
+    (subst (λ (w : ℕ). Each (λ (r : List ℕ). length r ≡ w) (rowsUpTo (messageTable form) register sender (itemsOf (messageTable form) dossier))) (Forms.message-wide (formOf form))
+    (rows-wide (messageTable form) register sender (itemsOf (messageTable form) dossier)))
+    n e
 
 -- the rows that are read back once they are stored
 pub taken-rows : (bodies : List (List ℕ)) (table : List ℕ) (n : ℕ) → Wide body-wide bodies → n * row-wide ≤ length table → length (rowsTaken bodies table n) ≤ tableRoom table
@@ -67,29 +72,29 @@ unfolding tableTaking
 taken-rows bodies table n w fits h =
     rowsOf-store row-wide n (rowsTaken bodies table n) table (taken-wide bodies (rowsOf row-wide n table) w (wide-rowsOf row-wide n table fits)) (room-holds (length (rowsTaken bodies table n)) table h)
 
-module _ (d register book table : List ℕ) (sender : ℕ) (c : Counts) (e : isAccepted (messageAnswer d sender register book table c) ≡ true) where
+module _ (d register book table : List ℕ) (sender form : ℕ) (c : Counts) (e : isAccepted (messageAnswer d sender form register book table c) ≡ true) where
   abbrev bodies : List (List ℕ)
-  bodies = messageRows d
+  bodies = messageRows form d
 
   are-bodies : Wide body-wide bodies
-  are-bodies = let p = passed d register book table sender c e in message-wide register sender d (p .rows .0) (p .rows .1)
+  are-bodies = let p = passed d register book table sender form c e in message-wide form register sender d (p .rows .0) (p .rows .1)
 
   -- what the table holds afterwards
-  pub rows-after : rowsOf row-wide (messageLeaves d sender register book table c .outcome .counts .rows) (messageLeaves d sender register book table c .table) ≡ rowsTaken bodies table (c .rows)
+  pub rows-after : rowsOf row-wide (messageLeaves d sender form register book table c .outcome .counts .rows) (messageLeaves d sender form register book table c .table) ≡ rowsTaken bodies table (c .rows)
   unfolding messageLeaves takenBy
   rows-after =
-      let p = passed d register book table sender c e in
-      let s = sound-parts d register book table sender c (p .sound) in
+      let p = passed d register book table sender form c e in
+      let s = sound-parts d register book table sender form c (p .sound) in
       rw e (taken-rows bodies table (c .rows) are-bodies (sound-fits (c .rows) table (s .2)) (p .in-table))
 
   changed : (k : List ℕ) → get k (rowsTaken bodies table (c .rows)) ≡ replayed rowRule k (get k (rowsOf row-wide (c .rows) table)) bodies
   changed k = taken-get k bodies (rowsOf row-wide (c .rows) table) are-bodies
 
 pub rows-change : RowsChangeTheirPassage
-rows-change d register book table sender c e = (
-  λ k. ap (get k) (rows-after d register book table sender c e) ∙ changed d register book table sender c e k,
+rows-change d register book table sender form c e = (
+  λ k. ap (get k) (rows-after d register book table sender form c e) ∙ changed d register book table sender form c e k,
   λ k h.
-      ap (get k) (rows-after d register book table sender c e)
-      ∙ changed d register book table sender c e k
-      ∙ replayed-skip rowRule k (get k (rowsOf row-wide (c .rows) table)) (messageRows d) h,
+      ap (get k) (rows-after d register book table sender form c e)
+      ∙ changed d register book table sender form c e k
+      ∙ replayed-skip rowRule k (get k (rowsOf row-wide (c .rows) table)) (messageRows form d) h,
 )

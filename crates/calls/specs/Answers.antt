@@ -4,7 +4,7 @@ use mathlib.Core.Bool.{Bool, true, false}
 use Rattle.reader.specs.declared.Reading.{Reading}
 use Rattle.reader.specs.declared.Reading.the-variants as Readings
 use Rattle.calls.specs.declared.Answer.{Answer}
-use Rattle.calls.specs.declared.Answer.the-variants.{Accepted, Unsound, TooLong, Syntax, Long, Form, Field, Owner, StagingShort, BookShort, TableShort, KeyTwice, NoMessage, AlreadyWithdrawn, OtherSender}
+use Rattle.calls.specs.declared.Answer.the-variants.{Accepted, Unsound, TooLong, Syntax, Long, Form, Field, Owner, StagingShort, BookShort, TableShort, KeyTwice, NoMessage, AlreadyWithdrawn, OtherSender, UnknownForm}
 
 -- the number, two values besides, and which dossier; 0 where there is none
 abbrev pub numbers : Answer → ℕ × ℕ × ℕ × ℕ
@@ -23,6 +23,7 @@ numbers KeyTwice = (9, 0, 0, 0)
 numbers NoMessage = (10, 0, 0, 0)
 numbers AlreadyWithdrawn = (11, 0, 0, 0)
 numbers OtherSender = (12, 0, 0, 0)
+numbers UnknownForm = (18, 0, 0, 0)
 
 abbrev pub isAccepted : Answer → Bool
 isAccepted (Accepted n) = true
@@ -40,6 +41,7 @@ isAccepted KeyTwice = false
 isAccepted NoMessage = false
 isAccepted AlreadyWithdrawn = false
 isAccepted OtherSender = false
+isAccepted UnknownForm = false
 
 -- a dossier's refusal 2 to 6 or 15, or what comes next; w says which dossier
 abbrev pub unlessRefused : ℕ → Reading → Answer → Answer

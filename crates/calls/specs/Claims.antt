@@ -21,6 +21,7 @@ use Rattle.columns.specs.declared.Table.the-variants as Tables
 use Rattle.reader.specs.Items.{Item}
 use Rattle.reader.specs.declared.Reading.the-variants.{Rows}
 use Rattle.reader.specs.Rules.{largest, formBad, wrongAt, ownerBad, dataRows, itemsOf, readingOf}
+use Rattle.reader.specs.Claims.{Plain}
 use Rattle.plan.specs.Passes.{planBody}
 use Rattle.plan.specs.Rules.{matches, joined}
 use Rattle.plan.specs.Claims.{Some}
@@ -34,7 +35,7 @@ use Rattle.calls.specs.declared.Answer.{Answer}
 use Rattle.calls.specs.declared.Counts.{Counts}
 use Rattle.calls.specs.Answers.{numbers, isAccepted}
 use Rattle.calls.specs.Leaves.{Leaves}
-use Rattle.calls.specs.Message.{messageRows, rowsTaken, messageAnswer, messageLeaves}
+use Rattle.calls.specs.Message.{messageTable, messageRows, rowsTaken, messageAnswer, messageLeaves}
 use Rattle.calls.specs.Withdraw.{rowsWithout, withdrawAnswer, withdrawLeaves}
 use Rattle.calls.specs.Open.{planOf, openAnswer, openLeaves}
 use Rattle.calls.specs.End.{endAnswer, endLeaves}
@@ -53,9 +54,9 @@ GivesBack left c book table = isAccepted (left .outcome .answer) ≡ false → (
 -- every refusal, of any bytes whatever, gives back the counts and every lent byte
 abbrev pub RefusalsGiveBack : Type 0
 RefusalsGiveBack =
-    (planning calendar dossier register book table : List ℕ) (number sender : ℕ) (c : Counts)
+    (planning calendar dossier register book table : List ℕ) (number sender form : ℕ) (c : Counts)
     → GivesBack (openLeaves planning calendar book table c) c book table
-    × GivesBack (messageLeaves dossier sender register book table c) c book table
+    × GivesBack (messageLeaves dossier sender form register book table c) c book table
     × GivesBack (withdrawLeaves number sender book table c) c book table
 
 -- one of these numbers
@@ -66,17 +67,17 @@ isOneOf (x ∷ xs) n = eqb n x || isOneOf xs n
 -- the number is one of document 01's list for the call
 abbrev pub NumbersListed : Type 0
 NumbersListed =
-    (planning calendar dossier register book table : List ℕ) (number sender : ℕ) (c : Counts)
+    (planning calendar dossier register book table : List ℕ) (number sender form : ℕ) (c : Counts)
     → (isOneOf (0 ∷ 2 ∷ 3 ∷ 15 ∷ 4 ∷ 5 ∷ 7 ∷ 9 ∷ 8 ∷ []) (numbers (openAnswer planning calendar book table) .0) ≡ true)
-    × (isOneOf (0 ∷ 1 ∷ 2 ∷ 3 ∷ 15 ∷ 4 ∷ 5 ∷ 6 ∷ 7 ∷ 8 ∷ []) (numbers (messageAnswer dossier sender register book table c) .0) ≡ true)
+    × (isOneOf (0 ∷ 1 ∷ 18 ∷ 2 ∷ 3 ∷ 15 ∷ 4 ∷ 5 ∷ 6 ∷ 7 ∷ 8 ∷ []) (numbers (messageAnswer dossier sender form register book table c) .0) ≡ true)
     × (isOneOf (0 ∷ 1 ∷ 10 ∷ 12 ∷ 11 ∷ 8 ∷ []) (numbers (withdrawAnswer number sender book table c) .0) ≡ true)
 
 -- the four numbers are the first line of document 01's table that holds, for each call
 abbrev pub NumbersAreTables : Type 0
 NumbersAreTables =
-    (planning calendar dossier register book table : List ℕ) (number sender : ℕ) (c : Counts)
+    (planning calendar dossier register book table : List ℕ) (number sender form : ℕ) (c : Counts)
     → (numbers (openAnswer planning calendar book table) ≡ openNumbers planning calendar book table)
-    × (numbers (messageAnswer dossier sender register book table c) ≡ messageNumbers dossier sender register book table c)
+    × (numbers (messageAnswer dossier sender form register book table c) ≡ messageNumbers dossier sender form register book table c)
     × (numbers (withdrawAnswer number sender book table c) ≡ withdrawNumbers number sender book table c)
 
 -- a refused end of a dossier in parts gives back the counts, the book, the table and the feed's numbers as they were
@@ -91,7 +92,7 @@ EndGivesBack =
 abbrev pub EndNumbersListed : Type 0
 EndNumbersListed =
     (register staging book table : List ℕ) (c : Counts) (kept : List ℕ)
-    → isOneOf (0 ∷ 1 ∷ 2 ∷ 3 ∷ 15 ∷ 4 ∷ 5 ∷ 6 ∷ 14 ∷ 7 ∷ 8 ∷ []) (numbers (endAnswer register staging book table c kept) .0) ≡ true
+    → isOneOf (0 ∷ 1 ∷ 18 ∷ 2 ∷ 3 ∷ 15 ∷ 4 ∷ 5 ∷ 6 ∷ 14 ∷ 7 ∷ 8 ∷ []) (numbers (endAnswer register staging book table c kept) .0) ≡ true
 
 -- and its four numbers are the first line of its table that holds
 abbrev pub EndNumbersAreTable : Type 0
@@ -101,20 +102,21 @@ EndNumbersAreTable =
 
 -- ---- demand 2
 
--- a message is accepted exactly when register, book and table are sound, the dossier is within its size and well formed, no line is too long, every label line,
+-- a message is accepted exactly when register, book and table are sound, its form is known, 0 or 1, the dossier is within its size and well formed, no line is too long, every label line,
 -- field count and wanted field is right, each row's owner is registered for the sender, and there is room in the book and in the table
 abbrev pub MessageAcceptedExactly : Type 0
 MessageAcceptedExactly =
-    (dossier register book table : List ℕ) (sender : ℕ) (c : Counts)
-    → (isAccepted (messageAnswer dossier sender register book table c) ≡ true)
+    (dossier register book table : List ℕ) (sender form : ℕ) (c : Counts)
+    → (isAccepted (messageAnswer dossier sender form register book table c) ≡ true)
     ↔ ((registerSound register ≡ true) × (bookSound (c .used) book ≡ true) × (tableSound (c .rows) table ≡ true)
+    × (form ≤ 1)
     × (length dossier ≤ largest) × WellFormed dossier
     × Each Short (lines dossier)
-    × Each (λ (x : Item). formBad Tables.Message x ≡ false) (itemsOf Tables.Message dossier)
-    × Each (λ (x : Item). wrongAt Tables.Message x ≡ 0) (itemsOf Tables.Message dossier)
-    × Each (λ (x : Item). ownerBad Tables.Message register sender x ≡ false) (itemsOf Tables.Message dossier)
-    × (c .used + length (messageRows dossier) * entry-wide ≤ bookRoom book)
-    × (length (rowsTaken (messageRows dossier) table (c .rows)) ≤ tableRoom table))
+    × Each (λ (x : Item). formBad (messageTable form) x ≡ false) (itemsOf (messageTable form) dossier)
+    × Each (λ (x : Item). wrongAt (messageTable form) x ≡ 0) (itemsOf (messageTable form) dossier)
+    × Each (λ (x : Item). ownerBad (messageTable form) register sender x ≡ false) (itemsOf (messageTable form) dossier)
+    × (c .used + length (messageRows form dossier) * entry-wide ≤ bookRoom book)
+    × (length (rowsTaken (messageRows form dossier) table (c .rows)) ≤ tableRoom table))
 
 -- two rows have one key exactly where owner, date, line, journey, fortify, stop and order number are equal
 abbrev pub KeyIsSevenFields : Type 0
@@ -127,38 +129,44 @@ KeyIsSevenFields =
 -- each row of an accepted message changes the passage with its key, by the row rule, in the dossier's order, and no other passage
 abbrev pub RowsChangeTheirPassage : Type 0
 RowsChangeTheirPassage =
-    (dossier register book table : List ℕ) (sender : ℕ) (c : Counts) → isAccepted (messageAnswer dossier sender register book table c) ≡ true
-    → let left = messageLeaves dossier sender register book table c in
+    (dossier register book table : List ℕ) (sender form : ℕ) (c : Counts) → isAccepted (messageAnswer dossier sender form register book table c) ≡ true
+    → let left = messageLeaves dossier sender form register book table c in
     ((k : List ℕ)
     → get k (rowsOf row-wide (left .outcome .counts .rows) (left .table))
-    ≡ replayed rowRule k (get k (rowsOf row-wide (c .rows) table)) (messageRows dossier))
-    × ((k : List ℕ) → Each (λ (u : List ℕ). same (keyOf u) k ≡ false) (messageRows dossier)
+    ≡ replayed rowRule k (get k (rowsOf row-wide (c .rows) table)) (messageRows form dossier))
+    × ((k : List ℕ) → Each (λ (u : List ℕ). same (keyOf u) k ≡ false) (messageRows form dossier)
     → get k (rowsOf row-wide (left .outcome .counts .rows) (left .table))
     ≡ get k (rowsOf row-wide (c .rows) table))
 
+-- a message whose labels have none of the names in which the forms differ comes to the same in both
+abbrev pub FormsTakenAlike : Type 0
+FormsTakenAlike =
+    (dossier register book table : List ℕ) (sender : ℕ) (c : Counts) → Each Plain (itemsOf (messageTable 0) dossier)
+    → messageLeaves dossier sender 0 register book table c ≡ messageLeaves dossier sender 1 register book table c
+
 -- the rows of a message are those of all its data lines, in their order
 abbrev pub RowsAreDataLines : Type 0
-RowsAreDataLines = (dossier : List ℕ) → messageRows dossier ≡ dataRows Tables.Message (itemsOf Tables.Message dossier)
+RowsAreDataLines = (form : ℕ) (dossier : List ℕ) → messageRows form dossier ≡ dataRows (messageTable form) (itemsOf (messageTable form) dossier)
 
 -- an accepted message without rows has number 0 and changes nothing; one with rows has the next number
 abbrev pub MessageNumbered : Type 0
 MessageNumbered =
-    (dossier register book table : List ℕ) (sender : ℕ) (c : Counts) → isAccepted (messageAnswer dossier sender register book table c) ≡ true
-    → let left = messageLeaves dossier sender register book table c in
-    (length (messageRows dossier) ≡ 0
-    → (numbers (messageAnswer dossier sender register book table c) .1 ≡ 0) × (left .outcome .counts ≡ c) × (left .book ≡ book) × (left .table ≡ table))
-    × (0 < length (messageRows dossier) → numbers (messageAnswer dossier sender register book table c) .1 ≡ nextNumber (updatesIn (c .used) book))
+    (dossier register book table : List ℕ) (sender form : ℕ) (c : Counts) → isAccepted (messageAnswer dossier sender form register book table c) ≡ true
+    → let left = messageLeaves dossier sender form register book table c in
+    (length (messageRows form dossier) ≡ 0
+    → (numbers (messageAnswer dossier sender form register book table c) .1 ≡ 0) × (left .outcome .counts ≡ c) × (left .book ≡ book) × (left .table ≡ table))
+    × (0 < length (messageRows form dossier) → numbers (messageAnswer dossier sender form register book table c) .1 ≡ nextNumber (updatesIn (c .used) book))
 
 -- behind the used bytes the book has for each row of an accepted message an entry: kind 2, the next number, the sender, the row; every other byte is as it was
 abbrev pub RowsGoToBook : Type 0
 RowsGoToBook =
-    (dossier register book table : List ℕ) (sender : ℕ) (c : Counts) → isAccepted (messageAnswer dossier sender register book table c) ≡ true
-    → let left = messageLeaves dossier sender register book table c in
+    (dossier register book table : List ℕ) (sender form : ℕ) (c : Counts) → isAccepted (messageAnswer dossier sender form register book table c) ≡ true
+    → let left = messageLeaves dossier sender form register book table c in
     let next = nextNumber (updatesIn (c .used) book) in
-    let more = c .used + length (messageRows dossier) * entry-wide in
+    let more = c .used + length (messageRows form dossier) * entry-wide in
     (left .outcome .counts .used ≡ more)
     × (left .book
-    ≡ take (c .used) book ++ (flat (map (λ (row : List ℕ). 2 ∷ spelled 4 next ++ sender ∷ row) (messageRows dossier)) ++ drop more book))
+    ≡ take (c .used) book ++ (flat (map (λ (row : List ℕ). 2 ∷ spelled 4 next ++ sender ∷ row) (messageRows form dossier)) ++ drop more book))
 
 -- of the bytes t that held n rows and now, as `new`, hold m: what is freed is zero, and what stands behind the rows is as it was
 abbrev pub FreedAndKept : ℕ → ℕ → List ℕ → List ℕ → Type 0
@@ -170,9 +178,9 @@ FreedAndKept n m t new =
 -- so it is with the table after an accepted message or withdrawal; a message frees no row
 abbrev pub TableFreedAndKept : Type 0
 TableFreedAndKept =
-    (dossier register book table : List ℕ) (number sender : ℕ) (c : Counts)
-    → (isAccepted (messageAnswer dossier sender register book table c) ≡ true
-    → let left = messageLeaves dossier sender register book table c in
+    (dossier register book table : List ℕ) (number sender form : ℕ) (c : Counts)
+    → (isAccepted (messageAnswer dossier sender form register book table c) ≡ true
+    → let left = messageLeaves dossier sender form register book table c in
     (c .rows ≤ left .outcome .counts .rows) × FreedAndKept (c .rows) (left .outcome .counts .rows) table (left .table))
     × (isAccepted (withdrawAnswer number sender book table c) ≡ true
     → let left = withdrawLeaves number sender book table c in
@@ -264,6 +272,7 @@ All =
     × KeyIsSevenFields
     × RowsChangeTheirPassage
     × RowsAreDataLines
+    × FormsTakenAlike
     × MessageNumbered
     × RowsGoToBook
     × TableFreedAndKept

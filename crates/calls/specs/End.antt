@@ -9,6 +9,7 @@ use Rattle.lists.specs.Rows.{rowsOf}
 use Rattle.syntax.specs.Machine.{accepting}
 use Rattle.passage.specs.Layout.{body-wide, ownerOf}
 use Rattle.passage.specs.Ranges.{updateInRange}
+use Rattle.columns.specs.Tables.{isForm}
 use Rattle.register.specs.Register.{grants}
 use Rattle.reader.specs.declared.Reading.{Reading}
 use Rattle.reader.specs.declared.Reading.the-variants as Readings
@@ -16,7 +17,7 @@ use Rattle.reader.specs.Rules.{largest, isLine}
 use Rattle.feeds.specs.declared.Feed.{Feed}
 use Rattle.feeds.specs.Kept.{feedOf, isBegun}
 use Rattle.calls.specs.declared.Answer.{Answer}
-use Rattle.calls.specs.declared.Answer.the-variants.{Unsound, Owner, StagingShort}
+use Rattle.calls.specs.declared.Answer.the-variants.{Unsound, Owner, StagingShort, UnknownForm}
 use Rattle.calls.specs.declared.Counts.{Counts}
 use Rattle.calls.specs.declared.Outcome.{Outcome}
 use Rattle.calls.specs.Answers.{isAccepted, unlessRefused}
@@ -83,10 +84,13 @@ postAnswer register staging book table c f =
     ∷ [])
     (roomFor rows book table c)
 
+-- 18 for a form that is not known, before all that was found in the parts
 unfoldable pub endAnswer : List ℕ → List ℕ → List ℕ → List ℕ → Counts → List ℕ → Answer
 endAnswer register staging book table c kept =
     on (endSound register staging book table c kept)
+    (on (isForm (feedOf kept .form))
     (unlessRefused 0 (readingKept (feedOf kept)) (postAnswer register staging book table c (feedOf kept)))
+    UnknownForm)
     Unsound
 
 -- ---- afterwards

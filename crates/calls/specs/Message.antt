@@ -9,7 +9,9 @@ use Rattle.lists.specs.Part.{over}
 use Rattle.lists.specs.Rows.{rowsOf, flat, store}
 use Rattle.passage.specs.Layout.{row-wide}
 use Rattle.register.specs.Register.{registerSound}
+use Rattle.columns.specs.declared.Table.{Table}
 use Rattle.columns.specs.declared.Table.the-variants as Tables
+use Rattle.columns.specs.Tables.{isForm, formOf}
 use Rattle.reader.specs.Rules.{readingOf, itemsOf, dataRows}
 use Rattle.keys.specs.Replay.{takenAll}
 use Rattle.update.specs.Rule.{rowRule}
@@ -17,7 +19,7 @@ use Rattle.table.specs.Rules.{tableSound, tableRoom}
 use Rattle.book.specs.Entries.{entry-wide, entriesOf, updatesIn}
 use Rattle.book.specs.Rules.{bookSound, bookRoom, nextNumber}
 use Rattle.calls.specs.declared.Answer.{Answer}
-use Rattle.calls.specs.declared.Answer.the-variants.{Accepted, Unsound, BookShort, TableShort}
+use Rattle.calls.specs.declared.Answer.the-variants.{Accepted, Unsound, BookShort, TableShort, UnknownForm}
 use Rattle.calls.specs.declared.Counts.{Counts}
 use Rattle.calls.specs.Answers.{unlessRefused}
 use Rattle.calls.specs.Leaves.{Leaves, countsOf, dayOf, leavesBy}
@@ -26,9 +28,13 @@ use Rattle.calls.specs.Leaves.{Leaves, countsOf, dayOf, leavesBy}
 unfoldable pub messageSound : List ℕ → List ℕ → List ℕ → Counts → Bool
 messageSound register book table c = registerSound register && (bookSound (c .used) book && tableSound (c .rows) table)
 
+-- the wanted table of a message, by the form that is stated with it
+abbrev pub messageTable : ℕ → Table
+messageTable form = Tables.Message (formOf form)
+
 -- the rows of a message, as update bodies in the dossier's order
-unfoldable pub messageRows : List ℕ → List (List ℕ)
-messageRows dossier = dataRows Tables.Message (itemsOf Tables.Message dossier)
+unfoldable pub messageRows : ℕ → List ℕ → List (List ℕ)
+messageRows form dossier = dataRows (messageTable form) (itemsOf (messageTable form) dossier)
 
 -- the number that a book gives next, and that of a message: 0 where it has no rows
 abbrev pub nextIn : ℕ → List ℕ → ℕ
@@ -48,10 +54,13 @@ roomFor bodies book table c =
     (on (leb (length (rowsTaken bodies table (c .rows))) (tableRoom table)) (Accepted (numberFor bodies (c .used) book)) TableShort)
     BookShort
 
-unfoldable pub messageAnswer : List ℕ → ℕ → List ℕ → List ℕ → List ℕ → Counts → Answer
-messageAnswer dossier sender register book table c =
+-- 18 for a form that is not known, before the dossier is looked at
+unfoldable pub messageAnswer : List ℕ → ℕ → ℕ → List ℕ → List ℕ → List ℕ → Counts → Answer
+messageAnswer dossier sender form register book table c =
     on (messageSound register book table c)
-    (unlessRefused 0 (readingOf Tables.Message register sender dossier) (roomFor (messageRows dossier) book table c))
+    (on (isForm form)
+    (unlessRefused 0 (readingOf (messageTable form) register sender dossier) (roomFor (messageRows form dossier) book table c))
+    UnknownForm)
     Unsound
 
 -- ---- afterwards
@@ -73,6 +82,6 @@ takenBy answer bodies sender book table c =
     (dayOf (bookTaking (nextIn (c .used) book) bodies sender book (c .used)) (tableTaking bodies table (c .rows)) (countsTaking bodies table c))
     (dayOf book table c)
 
-unfoldable pub messageLeaves : List ℕ → ℕ → List ℕ → List ℕ → List ℕ → Counts → Leaves
-messageLeaves dossier sender register book table c =
-    takenBy (messageAnswer dossier sender register book table c) (messageRows dossier) sender book table c
+unfoldable pub messageLeaves : List ℕ → ℕ → ℕ → List ℕ → List ℕ → List ℕ → Counts → Leaves
+messageLeaves dossier sender form register book table c =
+    takenBy (messageAnswer dossier sender form register book table c) (messageRows form dossier) sender book table c

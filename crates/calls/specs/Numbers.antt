@@ -7,6 +7,7 @@ use lib.ListN.{length, getD}
 use Rattle.lists.specs.Logic.{Line, firstHeld}
 use Rattle.syntax.specs.Machine.{accepting}
 use Rattle.columns.specs.declared.Table.the-variants as Tables
+use Rattle.columns.specs.Tables.{isForm}
 use Rattle.reader.specs.Rules.{largest, isLine}
 use Rattle.reader.specs.Numbers.{readingTable}
 use Rattle.feeds.specs.declared.Feed.{Feed}
@@ -15,7 +16,7 @@ use Rattle.table.specs.Rules.{tableRoom}
 use Rattle.book.specs.Entries.{plan-wide, entry-wide, kindOf, senderOf, updatesIn}
 use Rattle.book.specs.Rules.{bookRoom, messageEntries}
 use Rattle.calls.specs.declared.Counts.{Counts}
-use Rattle.calls.specs.Message.{messageSound, messageRows, numberFor, rowsTaken}
+use Rattle.calls.specs.Message.{messageSound, messageTable, messageRows, numberFor, rowsTaken}
 use Rattle.calls.specs.Withdraw.{withdrawSound, rowsWithout}
 use Rattle.calls.specs.Open.{passagesOf, planOf}
 use Rattle.calls.specs.End.{stagedRows, anyDenied, fallsShort, endSound}
@@ -33,13 +34,14 @@ abbrev pub none : List (List ℕ) → Bool
 none [] = true
 none (e ∷ es) = false
 
--- a message: 1, then 2, 3, 15, 4, 5, 6 of its dossier, then 7, then 8; else 0 and its number
-unfoldable pub messageNumbers : List ℕ → ℕ → List ℕ → List ℕ → List ℕ → Counts → ℕ × ℕ × ℕ × ℕ
-messageNumbers dossier sender register book table c =
-    let bodies = messageRows dossier in
+-- a message: 1, 18, then 2, 3, 15, 4, 5, 6 of its dossier, then 7, then 8; else 0 and its number
+unfoldable pub messageNumbers : List ℕ → ℕ → ℕ → List ℕ → List ℕ → List ℕ → Counts → ℕ × ℕ × ℕ × ℕ
+messageNumbers dossier sender form register book table c =
+    let bodies = messageRows form dossier in
     firstHeld
     (line 1 (not (messageSound register book table c))
-    ∷ dossierLines 0 (readingTable Tables.Message register sender dossier)
+    ∷ line 18 (not (isForm form))
+    ∷ dossierLines 0 (readingTable (messageTable form) register sender dossier)
     ∷ line 7 (ltb (bookRoom book) (c .used + length bodies * entry-wide))
     ∷ line 8 (ltb (tableRoom table) (length (rowsTaken bodies table (c .rows))))
     ∷ [])
@@ -86,13 +88,14 @@ keptTable f =
     ∷ [])
     (0, s .rows, 0)
 
--- the end of a dossier in parts: 1, then 2, 3, 15, 4, 5, 6 as found in them, 6 by the register of now, 14, then 7, then 8; else 0 and its number
+-- the end of a dossier in parts: 1, 18, then 2, 3, 15, 4, 5, 6 as found in them, 6 by the register of now, 14, then 7, then 8; else 0 and its number
 unfoldable pub endNumbers : List ℕ → List ℕ → List ℕ → List ℕ → Counts → List ℕ → ℕ × ℕ × ℕ × ℕ
 endNumbers register staging book table c kept =
     let f = feedOf kept in
     let bodies = stagedRows staging f in
     firstHeld
     (line 1 (not (endSound register staging book table c kept))
+    ∷ line 18 (not (isForm (f .form)))
     ∷ dossierLines 0 (keptTable f)
     ∷ line 6 (anyDenied register (f .sender) bodies)
     ∷ line 14 (fallsShort staging f)

@@ -23,6 +23,7 @@ pub enum Answer {
     NoMessage,
     AlreadyWithdrawn,
     OtherSender,
+    UnknownForm,
 }
 
 // Used bytes of the book, rows of the table.
@@ -115,5 +116,6 @@ pub fn numbers(answer: Answer) -> Four
         Answer::NoMessage => with_numbers(10, 0, 0, 0),
         Answer::AlreadyWithdrawn => with_numbers(11, 0, 0, 0),
         Answer::OtherSender => with_numbers(12, 0, 0, 0),
+        Answer::UnknownForm => with_numbers(18, 0, 0, 0),
     }
 }

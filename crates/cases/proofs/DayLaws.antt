@@ -15,7 +15,7 @@ use Rattle.field_types.specs.Digits.{numeral, triple}
 use Rattle.field_types.specs.Times.{clock, time}
 use Rattle.field_types.specs.Dates.{date}
 use Rattle.field_types.specs.Stamps.{utcOffset, stampSeconds, stamp}
-use Rattle.field_types.specs.Names.{bit, status, stopType, flexible}
+use Rattle.field_types.specs.Names.{bit, status, stopType, flexible, truth, shown}
 use Rattle.texts.specs.Texts.{text}
 use Rattle.columns.specs.Cell.{cell}
 use Rattle.columns.specs.Tables.{messageColumns, planningColumns, calendarColumns, columnsIn, tableName, names, misses, rowOf, wrongColumn, labelFault}
@@ -40,8 +40,8 @@ use Rattle.board_show.specs.Ask.{asksInRange}
 use Rattle.board_show.specs.Show.{atStop, mayShow, shows}
 use Rattle.board.specs.Rules.{placeIn, listFrom, listed, boardOf, boardLeaves}
 use Rattle.runs.specs.Runs.{dayAfter}
-use Rattle.cases.specs.Paper.{P6, P7, P8, P9, TwoRows, Relief}
+use Rattle.cases.specs.Paper.{P6, P7, P8, P9, TwoRows, Relief, Cancelled}
 
-pub through-the-calls : P6 × P7 × P8 × P9 × TwoRows × Relief
-unfolding dayAfter readingOf fault run accepting step markStep startStep returnStep nullStep firstEscapeStep escapeStep fieldStep answerTo firstLine firstColumn dataRows items linesFrom firstLong markOf afterMark until past fields fieldAt fieldUnder tableName labelFault anyTwice count columnOf names columnsIn misses same wrongColumn rowOf flat cell spelled text decode escaped date isDate daysIn triple numeral stamp stampSeconds monthStart dayCount utcOffset clock time status stopType bit flexible part rowsOf openLeaves openedBy openAnswer roomToOpen planOf putAll passagesOf joined joinedWith matches planBody planningColumns calendarColumns messageLeaves takenBy messageAnswer messageSound roomFor bookTaking tableTaking nextNumber lastFrom takenAll taken put get rowRule applyRow beginning mayMove table17 entriesOf entryOf over onto store messageRows hasPair grants messageColumns withdrawLeaves withoutBy withdrawAnswer withdrawSound roomWithout rowsWithout keysNamed bookWithout tableWithout reworked rowFor replayed remove standing messageEntries withdrawn markedWithdrawn planRows planRow registerSound bookSound bookRoom planCount leading plansIn updatesIn allPlans planInRange commonInRange keyInRange paddedText timesInRange sortedRows risesFrom cmp chained entryInRange mayFollow noEntry updateInRange tableSound tableRoom allInRange rowInRange heardInRange number boardLeaves boardOf listed listFrom placeIn asksInRange shows atStop mayShow
-through-the-calls = ((refl, refl), (refl, refl), (refl, refl), (refl, refl), (refl, refl, refl, refl, refl, refl), (refl, refl, refl))
+pub through-the-calls : P6 × P7 × P8 × P9 × TwoRows × Relief × Cancelled
+unfolding dayAfter readingOf fault run accepting step markStep startStep returnStep nullStep firstEscapeStep escapeStep fieldStep answerTo firstLine firstColumn dataRows items linesFrom firstLong markOf afterMark until past fields fieldAt fieldUnder tableName labelFault anyTwice count columnOf names columnsIn misses same wrongColumn rowOf flat cell spelled text decode escaped date isDate daysIn triple numeral stamp stampSeconds monthStart dayCount utcOffset clock time status stopType bit flexible truth shown part rowsOf openLeaves openedBy openAnswer roomToOpen planOf putAll passagesOf joined joinedWith matches planBody planningColumns calendarColumns messageLeaves takenBy messageAnswer messageSound roomFor bookTaking tableTaking nextNumber lastFrom takenAll taken put get rowRule applyRow beginning mayMove table17 entriesOf entryOf over onto store messageRows hasPair grants messageColumns withdrawLeaves withoutBy withdrawAnswer withdrawSound roomWithout rowsWithout keysNamed bookWithout tableWithout reworked rowFor replayed remove standing messageEntries withdrawn markedWithdrawn planRows planRow registerSound bookSound bookRoom planCount leading plansIn updatesIn allPlans planInRange commonInRange keyInRange paddedText timesInRange sortedRows risesFrom cmp chained entryInRange mayFollow noEntry updateInRange tableSound tableRoom allInRange rowInRange heardInRange number boardLeaves boardOf listed listFrom placeIn asksInRange shows atStop mayShow
+through-the-calls = ((refl, refl), (refl, refl), (refl, refl), (refl, refl), (refl, refl, refl, refl, refl, refl), (refl, refl, refl), (refl, refl, refl, refl, refl))

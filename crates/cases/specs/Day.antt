@@ -45,12 +45,15 @@ saysOf fortify order status =
 abbrev pub says : String → String → List ℕ
 says = saysOf "0"
 
-abbrev pub message : List (List ℕ) → List ℕ
-message lines =
+abbrev pub messageUnder : List ℕ → List (List ℕ) → List ℕ
+messageUnder more lines =
     dossier
     (bytes "\\GKV8turbo" ∷ bytes "\\TDATEDPASSTIME"
-    ∷ bytes "\\LDataOwnerCode|OperationDate|LinePlanningNumber|VehicleJourneyNumber|FortifyOrderNumber|UserStopCode|UserStopOrderNumber|DestinationCode|LastUpdateTimeStamp|TripStopStatus|ExpectedArrivalTime|ExpectedDepartureTime|JourneyStopType"
+    ∷ (bytes "\\LDataOwnerCode|OperationDate|LinePlanningNumber|VehicleJourneyNumber|FortifyOrderNumber|UserStopCode|UserStopOrderNumber|DestinationCode|LastUpdateTimeStamp|TripStopStatus|ExpectedArrivalTime|ExpectedDepartureTime|JourneyStopType" ++ more)
     ∷ lines)
+
+abbrev pub message : List (List ℕ) → List ℕ
+message lines = messageUnder [] lines
 
 -- ---- the day
 
@@ -68,7 +71,12 @@ reliefDay = opened (planningOf (planned "0" ∷ planned "1" ∷ [])) calendar (r
 
 -- a message of sender 1 with these lines
 abbrev pub sent : List (List ℕ) → Call
-sent lines = Call.message (message lines) 1 register
+sent lines = Call.message (message lines) 1 0 register
+
+-- a message of sender 1 in the 8.5 form: the journey is cancelled, is shown so, and is monitored
+abbrev pub cancelled : String → Call
+cancelled shown =
+    Call.message (messageUnder (bytes "|ShowCancelledJourney|Monitored") ((says "1" "CANCEL" ++ bytes "|" ++ bytes shown ++ bytes "|true") ∷ [])) 1 1 register
 
 -- withdrawn by its sender
 abbrev pub withdrawn : ℕ → Call
@@ -81,6 +89,10 @@ board horizon = Call.look (asked (bytes "CXX") (bytes "S1") 20160301 85800 horiz
 -- the board of the day with the relief journey, after these calls
 abbrev pub reliefBoard : List Call → Reply
 reliefBoard calls = replyTo (board 1200) (dayAfter calls reliefDay)
+
+-- the board of the day after that message
+abbrev pub cancelledBoard : String → Reply
+cancelledBoard shown = replyTo (board 1200) (dayAfter (cancelled shown ∷ []) day)
 
 -- the status of each passage after these calls, and its order number
 abbrev pub statuses : List Call → List ℕ

@@ -1,5 +1,5 @@
 -- Document 01's cases P1 to P11, one statement each. `proofs/Paper.antt` proves them together. Assumes nothing.
-use Prim.Native.Nat.{ℕ}
+use Prim.Native.Nat.{ℕ, _≤_}
 use mathlib.Core.Path.{_≡_}
 use mathlib.Core.Bool.{true}
 use mathlib.Core.List.{List, [], _∷_, _++_}
@@ -13,14 +13,14 @@ use Rattle.field_types.specs.Times.{time}
 use Rattle.field_types.specs.Dates.{date}
 use Rattle.field_types.specs.Stamps.{stamp}
 use Rattle.update.specs.Moves.{statusAfter}
-use Rattle.calls.specs.declared.Answer.the-variants.{Accepted}
+use Rattle.calls.specs.declared.Answer.the-variants.{Accepted, Field}
 use Rattle.calls.specs.declared.Counts.{Counts}
 use Rattle.calls.specs.Answers.{numbers}
 use Rattle.calls.specs.Message.{messageSound, messageAnswer}
 use Rattle.board.specs.declared.Listing.the-variants.{Listed}
 use Rattle.board.specs.Rules.{boardWith}
 use Rattle.runs.specs.Runs.{Reply}
-use Rattle.cases.specs.Day.{says, saysOf, sent, withdrawn, board, reliefBoard, statuses, orders, optionals, replyAfter}
+use Rattle.cases.specs.Day.{says, saysOf, sent, cancelled, withdrawn, board, reliefBoard, cancelledBoard, statuses, orders, optionals, replyAfter}
 
 -- P1: 31:59:59 is 115,199; 32:00:00 is refused
 abbrev pub P1 : Type 0
@@ -81,9 +81,20 @@ Relief =
     × (reliefBoard (sent (saysOf "1" "1" "DRIVING" ∷ []) ∷ []) ≡ Reply.showed (boardWith (Listed 2 2) (0 ∷ 1 ∷ 9 ∷ [])))
     × (reliefBoard (sent (saysOf "1" "1" "DRIVING" ∷ []) ∷ withdrawn 1 ∷ []) ≡ Reply.showed (boardWith (Listed 1 1) (0 ∷ 9 ∷ 9 ∷ [])))
 
--- what a message of these bytes gets, whoever sends it, where all that it is lent is sound
+-- a cancelled passage is shown with `true`; with `false` and with `message` it is not. All three are kept, as 1, 0 and 2
+abbrev pub Cancelled : Type 0
+Cancelled =
+    (cancelledBoard "true" ≡ Reply.showed (boardWith (Listed 1 1) (0 ∷ 9 ∷ 9 ∷ [])))
+    × (cancelledBoard "message" ≡ Reply.showed (boardWith (Listed 0 0) (9 ∷ 9 ∷ 9 ∷ [])))
+    × (cancelledBoard "false" ≡ Reply.showed (boardWith (Listed 0 0) (9 ∷ 9 ∷ 9 ∷ [])))
+    × (optionals (cancelled "message" ∷ []) ≡ (2 ∷ 0 ∷ 1 ∷ []) ∷ [])
+    × (replyAfter [] (cancelled "1") ≡ Reply.answered (Field 4 14 0))
+
+-- what a message of these bytes gets, whoever sends it and in either form, where all that it is lent is sound
 abbrev pub Gets : List ℕ → ℕ × ℕ × ℕ × ℕ → Type 0
-Gets d n = (register book table : List ℕ) (sender : ℕ) (c : Counts) → messageSound register book table c ≡ true → numbers (messageAnswer d sender register book table c) ≡ n
+Gets d n =
+    (register book table : List ℕ) (sender form : ℕ) (c : Counts) → messageSound register book table c ≡ true → form ≤ 1
+    → numbers (messageAnswer d sender form register book table c) ≡ n
 
 -- P10: zero bytes: refusal 3 at 0
 abbrev pub P10 : Type 0
@@ -94,4 +105,4 @@ abbrev pub P11 : Type 0
 P11 = Gets (bytes "\\G" ++ 13 ∷ 10 ∷ []) (0, 0, 0, 0)
 
 abbrev pub All : Type 0
-All = P1 × P2 × P3 × P4 × P5 × P6 × P7 × P8 × P9 × TwoRows × Relief × P10 × P11
+All = P1 × P2 × P3 × P4 × P5 × P6 × P7 × P8 × P9 × TwoRows × Relief × Cancelled × P10 × P11

@@ -57,20 +57,24 @@ module _ (P : Kind → List ℕ → Type 0) where
       → P Kinds.StopType (numberCell 1 (Names.stopType f))
       → P Kinds.Bit (numberCell 1 (Names.bit f))
       → P Kinds.Flexible (numberCell 1 (Names.flexible f))
+      → P Kinds.Truth (numberCell 1 (Names.truth f))
+      → P Kinds.Shown (numberCell 1 (Names.shown f))
       → P k (cell k stop f)
   unfolding cell
-  by-kind Kinds.Text stop f t d j o r u s a e y b x = t
-  by-kind Kinds.Date stop f t d j o r u s a e y b x = d
-  by-kind Kinds.Journey stop f t d j o r u s a e y b x = j
-  by-kind Kinds.Fortify stop f t d j o r u s a e y b x = o
-  by-kind Kinds.Order stop f t d j o r u s a e y b x = r
-  by-kind Kinds.Stamp stop f t d j o r u s a e y b x = u
-  by-kind Kinds.Status stop f t d j o r u s a e y b x = s
-  by-kind Kinds.Arrival stop f t d j o r u s a e y b x = a
-  by-kind Kinds.Departure stop f t d j o r u s a e y b x = e
-  by-kind Kinds.StopType stop f t d j o r u s a e y b x = y
-  by-kind Kinds.Bit stop f t d j o r u s a e y b x = b
-  by-kind Kinds.Flexible stop f t d j o r u s a e y b x = x
+  by-kind Kinds.Text stop f t d j o r u s a e y b x v w = t
+  by-kind Kinds.Date stop f t d j o r u s a e y b x v w = d
+  by-kind Kinds.Journey stop f t d j o r u s a e y b x v w = j
+  by-kind Kinds.Fortify stop f t d j o r u s a e y b x v w = o
+  by-kind Kinds.Order stop f t d j o r u s a e y b x v w = r
+  by-kind Kinds.Stamp stop f t d j o r u s a e y b x v w = u
+  by-kind Kinds.Status stop f t d j o r u s a e y b x v w = s
+  by-kind Kinds.Arrival stop f t d j o r u s a e y b x v w = a
+  by-kind Kinds.Departure stop f t d j o r u s a e y b x v w = e
+  by-kind Kinds.StopType stop f t d j o r u s a e y b x v w = y
+  by-kind Kinds.Bit stop f t d j o r u s a e y b x v w = b
+  by-kind Kinds.Flexible stop f t d j o r u s a e y b x v w = x
+  by-kind Kinds.Truth stop f t d j o r u s a e y b x v w = v
+  by-kind Kinds.Shown stop f t d j o r u s a e y b x v w = w
 
 -- ---- widths
 
@@ -121,6 +125,8 @@ cell-width k stop f =
     (wide-number 1 (Names.stopType f))
     (wide-number 1 (Names.bit f))
     (wide-number 1 (Names.flexible f))
+    (wide-number 1 (Names.truth f))
+    (wide-number 1 (Names.shown f))
 
 -- ---- bytes
 
@@ -181,3 +187,5 @@ cell-bytes k stop f =
     (bytes-number 1 (Names.stopType f))
     (bytes-number 1 (Names.bit f))
     (bytes-number 1 (Names.flexible f))
+    (bytes-number 1 (Names.truth f))
+    (bytes-number 1 (Names.shown f))

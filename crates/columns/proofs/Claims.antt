@@ -7,6 +7,7 @@ use Rattle.columns.specs.Claims.{All, CellsApart}
 use Rattle.columns.proofs.CellLaws.{cell-width, cell-bytes}
 use Rattle.columns.proofs.LayoutLaws.{wanted-most, row-room, offset-next, offset-within, offset-apart, row-flat, absent-width}
 use Rattle.columns.proofs.SaidLaws.{texts-kept, numbers-kept, times-kept, left-out-as-absent}
+use Rattle.columns.proofs.FormLaws.{old-stays, forms-share, forms-differ, forms-agree}
 use Rattle.columns.proofs.RangeLaws.{texts-in-range, dates-in-range, numbers-in-range, stamps-in-range, words-in-range, times-in-range, missing-exactly, null-keeps-nothing, empty-keeps-nothing, stop-types-coded}
 
 first-offset : (t : Table) → offset t 0 ≡ 0
@@ -38,4 +39,8 @@ claims = (
   cells-apart,
   row-flat,
   absent-width,
+  old-stays,
+  forms-share,
+  forms-differ,
+  forms-agree,
 )

@@ -6,13 +6,15 @@ use borrow.Author.Tests.{lt-ltb, le-ltb}
 use lib.Dec.{T, eqb, eqb→eq}
 use lib.ListN.{take, drop, getD}
 use Rattle.clock.proofs.BelowLaws.{allBelow, below-at}
+use Rattle.columns.specs.declared.Form.{Form}
+use Rattle.columns.specs.declared.Form.the-variants.{Old, New}
 use Rattle.columns.specs.declared.Table.{Table}
 use Rattle.columns.specs.declared.Table.the-variants.{Message, Planning, Calendar}
 use Rattle.columns.specs.declared.Kind.{Kind}
 use Rattle.columns.specs.Cell.{width}
 use Rattle.columns.specs.Tables.{messageColumns, planningColumns, calendarColumns, columnsIn}
 use Rattle.columns.specs.Layout.{wanted, kindAt, optionalAt, widths, offset}
-use Rattle.columns.specs.inner.Digit.{digitOf, digitAt, kindNamed}
+use Rattle.columns.specs.inner.Digit.{digitOf, digitAt, kindNamed, kindsPacked}
 use Rattle.columns.proofs.LayoutLaws.{digitFor, digit-names, digitIn, flagOf, places, kind-listed, optional-listed, offset-listed}
 
 -- a number at each place agrees with a list, below n: tested there once
@@ -67,7 +69,8 @@ flagsIn t = map flagOf (columnsIn t)
 
 kind-digits : (t : Table) (j : ℕ) → j < wanted t → packedAt (kindsIn t) j ≡ getD (kindsIn t) j 0
 unfolding digitAt digitOf columnsIn messageColumns planningColumns calendarColumns
-kind-digits Message j h = agree (packedAt (kindsIn Message)) (kindsIn Message) (wanted Message) tt j h
+kind-digits (Message Old) j h = agree (packedAt (kindsIn (Message Old))) (kindsIn (Message Old)) (wanted (Message Old)) tt j h
+kind-digits (Message New) j h = agree (packedAt (kindsIn (Message New))) (kindsIn (Message New)) (wanted (Message New)) tt j h
 kind-digits Planning j h = agree (packedAt (kindsIn Planning)) (kindsIn Planning) (wanted Planning) tt j h
 kind-digits Calendar j h = agree (packedAt (kindsIn Calendar)) (kindsIn Calendar) (wanted Calendar) tt j h
 
@@ -79,7 +82,8 @@ offsetDigits t j = packedAt (highIn t) j * 16 + packedAt (lowIn t) j
 
 offset-digits : (t : Table) (j : ℕ) → j < wanted t → offsetDigits t j ≡ getD (places 0 (widths t)) j 0
 unfolding digitAt digitOf widths width columnsIn messageColumns planningColumns calendarColumns
-offset-digits Message j h = agree (offsetDigits Message) (places 0 (widths Message)) (wanted Message) tt j h
+offset-digits (Message Old) j h = agree (offsetDigits (Message Old)) (places 0 (widths (Message Old))) (wanted (Message Old)) tt j h
+offset-digits (Message New) j h = agree (offsetDigits (Message New)) (places 0 (widths (Message New))) (wanted (Message New)) tt j h
 offset-digits Planning j h = agree (offsetDigits Planning) (places 0 (widths Planning)) (wanted Planning) tt j h
 offset-digits Calendar j h = agree (offsetDigits Calendar) (places 0 (widths Calendar)) (wanted Calendar) tt j h
 
@@ -88,9 +92,21 @@ offsets-agree t j h = offset-digits t j h ∙ offset-listed t j h
 
 flag-digits : (t : Table) (j : ℕ) → j < wanted t → packedAt (flagsIn t) j ≡ getD (flagsIn t) j 0
 unfolding digitAt digitOf columnsIn messageColumns planningColumns calendarColumns
-flag-digits Message j h = agree (packedAt (flagsIn Message)) (flagsIn Message) (wanted Message) tt j h
+flag-digits (Message f) j h = agree (packedAt (flagsIn (Message f))) (flagsIn (Message f)) (wanted (Message f)) tt j h
 flag-digits Planning j h = agree (packedAt (flagsIn Planning)) (flagsIn Planning) (wanted Planning) tt j h
 flag-digits Calendar j h = agree (packedAt (flagsIn Calendar)) (flagsIn Calendar) (wanted Calendar) tt j h
 
 pub optionals-agree : (t : Table) (j : ℕ) → j < wanted t → eqb (packedAt (flagsIn t) j) 1 ≡ optionalAt t j
 optionals-agree t j h = ap (λ (m : ℕ). eqb m 1) (flag-digits t j h) ∙ optional-listed t j
+
+-- ---- of a message, whose kinds are packed by its form and whose offsets are the same in both
+
+pub message-kinds : (f : Form) (j : ℕ) → j < wanted (Message f) → kindNamed (digitAt (kindsPacked f) 0 j) ≡ kindAt (Message f) j
+unfolding columnsIn messageColumns
+message-kinds Old j h = kinds-agree (Message Old) j h
+message-kinds New j h = kinds-agree (Message New) j h
+
+pub message-offsets : (f : Form) (j : ℕ) → j < wanted (Message f) → packedAt (highIn (Message Old)) j * 16 + packedAt (lowIn (Message Old)) j ≡ offset (Message f) j
+unfolding widths width columnsIn messageColumns
+message-offsets Old j h = offsets-agree (Message Old) j h
+message-offsets New j h = offsets-agree (Message New) j h

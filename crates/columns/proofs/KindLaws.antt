@@ -22,6 +22,6 @@ past-last [] k d h = refl
 past-last (x ∷ l) zero d h = absurd (omega arith)
 past-last (x ∷ l) (suc k) d h = past-last l k d (omega arith)
 
-pub kind-last : (digit : ℕ) → NoneOf 11 digit → kindNamed digit ≡ Kinds.Flexible
+pub kind-last : (digit : ℕ) → NoneOf 13 digit → kindNamed digit ≡ Kinds.Shown
 unfolding kindNamed
-kind-last digit h = past-last firstKinds digit Kinds.Flexible (none-past 11 digit h)
+kind-last digit h = past-last firstKinds digit Kinds.Shown (none-past 13 digit h)

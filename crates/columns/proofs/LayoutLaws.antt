@@ -15,6 +15,7 @@ use Rattle.lists.specs.Part.{part}
 use Rattle.lists.specs.Rows.{flat}
 use Rattle.lists.proofs.LogicLaws.{and-pass}
 use Rattle.columns.specs.declared.Table.{Table}
+use Rattle.columns.specs.declared.Form.the-variants.{Old, New}
 use Rattle.columns.specs.declared.Table.the-variants.{Message, Planning, Calendar}
 use Rattle.columns.specs.declared.Kind.{Kind}
 use Rattle.columns.specs.declared.Kind.the-variants as Kinds
@@ -42,6 +43,8 @@ digitFor Kinds.Departure = 8
 digitFor Kinds.StopType = 9
 digitFor Kinds.Bit = 10
 digitFor Kinds.Flexible = 11
+digitFor Kinds.Truth = 12
+digitFor Kinds.Shown = 13
 
 pub digit-names : (k : Kind) → kindNamed (digitFor k) ≡ k
 unfolding kindNamed
@@ -57,6 +60,8 @@ digit-names Kinds.Departure = refl
 digit-names Kinds.StopType = refl
 digit-names Kinds.Bit = refl
 digit-names Kinds.Flexible = refl
+digit-names Kinds.Truth = refl
+digit-names Kinds.Shown = refl
 
 abbrev pub digitIn : Column → ℕ
 digitIn c = digitFor (c .kind)
@@ -117,7 +122,8 @@ fitting c = eqb (length (blankCell c)) (widthIn c)
 
 all-fitting : (t : Table) → every fitting (columnsIn t) ≡ true
 unfolding width columnsIn messageColumns planningColumns calendarColumns
-all-fitting Message = refl
+all-fitting (Message Old) = refl
+all-fitting (Message New) = refl
 all-fitting Planning = refl
 all-fitting Calendar = refl
 
@@ -137,7 +143,7 @@ absent-width t j h e = ap length (sym (blank-absent (columnAt t j) e)) ∙ blank
 
 pub wanted-most : (t : Table) → wanted t ≤ 20
 unfolding columnsIn messageColumns planningColumns calendarColumns
-wanted-most Message = omega arith
+wanted-most (Message f) = omega arith
 wanted-most Planning = omega arith
 wanted-most Calendar = omega arith
 
@@ -149,7 +155,8 @@ names-wanted t = length-map (columnsIn t) _
 
 pub row-room : (t : Table) → rowWidth t ≤ widest-row
 unfolding rowWidth width columnsIn messageColumns planningColumns calendarColumns
-row-room Message = omega arith
+row-room (Message Old) = omega arith
+row-room (Message New) = omega arith
 row-room Planning = omega arith
 row-room Calendar = omega arith
 

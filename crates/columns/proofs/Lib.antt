@@ -5,5 +5,6 @@ pub mod LayoutLaws
 pub mod DigitLaws
 pub mod RangeLaws
 pub mod SaidLaws
+pub mod FormLaws
 pub mod Claims
 pub mod Determined

@@ -89,6 +89,8 @@ words-in-range = (
   λ stop f e. let b = words-below Names.stopType 0 3 (words .2) (omega arith) f e in omega arith,
   λ stop f e. let b = words-below Names.bit 0 2 (words .0) (omega arith) f e in omega arith,
   λ stop f e. let b = words-below Names.flexible 1 4 (words .3) (omega arith) f e in (b .0, omega arith),
+  λ stop f e. let b = words-below Names.truth 0 2 (words .4) (omega arith) f e in omega arith,
+  λ stop f e. let b = words-below Names.shown 0 3 (words .5) (omega arith) f e in omega arith,
 )
 
 -- ---- texts
@@ -165,11 +167,15 @@ null-keeps-nothing k stop =
     (λ a d. ap (numberCell 1) (outside .6))
     (λ a d. ap (numberCell 1) (outside .4))
     (λ a d. ap (numberCell 1) (outside .7))
+    (λ a d. ap (numberCell 1) (outside .8))
+    (λ a d. ap (numberCell 1) (outside .9))
 
 pub empty-keeps-nothing : EmptyKeepsNothing
-unfolding Texts.text Digits.numeral Digits.triple Dates.date Clock.clock time Stamps.stamp Names.status Names.stopType Names.bit Names.flexible decode same
+unfolding Texts.text Digits.numeral Digits.triple Dates.date Clock.clock time Stamps.stamp Names.status Names.stopType Names.bit Names.flexible Names.truth Names.shown decode same
 empty-keeps-nothing k stop =
     by-kind (λ (n : Kind) (l : List ℕ). l ≡ []) k stop []
+    refl
+    refl
     refl
     refl
     refl

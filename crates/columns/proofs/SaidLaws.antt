@@ -40,6 +40,8 @@ numbers-kept = (
   λ stop f. (λ n e. rw e, λ e. rw e),
   λ stop f. (λ n e. rw e, λ e. rw e),
   λ stop f. (λ n e. rw e, λ e. rw e),
+  λ stop f. (λ n e. rw e, λ e. rw e),
+  λ stop f. (λ n e. rw e, λ e. rw e),
 )
 
 -- a field that is not `\0`

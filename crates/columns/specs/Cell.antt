@@ -32,6 +32,8 @@ width Kinds.Departure = 3
 width Kinds.StopType = 1
 width Kinds.Bit = 1
 width Kinds.Flexible = 1
+width Kinds.Truth = 1
+width Kinds.Shown = 1
 
 -- no content
 abbrev pub null : List ℕ
@@ -57,7 +59,7 @@ missingTime = 255 ∷ 255 ∷ 255 ∷ []
 abbrev pub timeAt : List ℕ → List ℕ → List ℕ → List ℕ
 timeAt word stop f = on (same f null) (on (same stop word) missingTime []) (timeCell (Clock.time f))
 
--- the bytes kept of the field f in a column of each kind, where the field of the row's own stop type is `stop`: a text, D, N6, N2, N3, U, a status, T twice, a stop type, B, a flexible
+-- the bytes kept of the field f in a column of each kind, where the field of the row's own stop type is `stop`: a text, D, N6, N2, N3, U, a status, T twice, a stop type, B, a flexible, in the 8.5 form a yes or no and a ShowCancelledJourney
 unfoldable pub cell : Kind → List ℕ → List ℕ → List ℕ
 cell Kinds.Text stop f = textCell (Texts.text f)
 cell Kinds.Date stop f = numberCell 4 (Dates.date f)
@@ -71,3 +73,5 @@ cell Kinds.Departure stop f = timeAt (bytes "LAST") stop f
 cell Kinds.StopType stop f = numberCell 1 (Names.stopType f)
 cell Kinds.Bit stop f = numberCell 1 (Names.bit f)
 cell Kinds.Flexible stop f = numberCell 1 (Names.flexible f)
+cell Kinds.Truth stop f = numberCell 1 (Names.truth f)
+cell Kinds.Shown stop f = numberCell 1 (Names.shown f)

@@ -3,6 +3,7 @@ use mathlib.Core.Path.{_≡_}
 use mathlib.Core.Bool.{true}
 use mathlib.Core.List.{List, [], _∷_}
 use mathlib.Core.Logic.{_⊎_, _↔_}
+use Prim.Native.String.{String}
 use Prim.Native.Nat.{ℕ, _+_, _<_, _≤_}
 use lib.ListN.{length, take, getD}
 use Rattle.lists.specs.Each.{Bytes}
@@ -13,6 +14,7 @@ use Rattle.lists.specs.BigEndian.{number, spelled}
 use Rattle.clock.specs.declared.OperatingSeconds.{OperatingSeconds}
 use Rattle.clock.specs.Date.{isDate}
 use Rattle.turbo.specs.Escape.{decode}
+use Rattle.turbo_labels.specs.Columns.{count}
 use Rattle.field_types.specs.declared.Number.{Number}
 use Rattle.field_types.specs.declared.Number.the-variants as Numbers
 use Rattle.field_types.specs.declared.Time.the-variants as Times
@@ -20,13 +22,16 @@ use Rattle.field_types.specs.Digits.{numeral}
 use Rattle.field_types.specs.Dates.{date}
 use Rattle.field_types.specs.Times.{time}
 use Rattle.field_types.specs.Stamps.{stamp, inStampRange}
-use Rattle.field_types.specs.Names.{bit, status, stopType, flexible}
+use Rattle.field_types.specs.Names.{bit, status, stopType, flexible, truth, shown}
 use Rattle.texts.specs.Texts.{padded, isText}
+use Rattle.columns.specs.declared.Form.{Form}
+use Rattle.columns.specs.declared.Form.the-variants.{Old}
 use Rattle.columns.specs.declared.Table.{Table}
+use Rattle.columns.specs.declared.Table.the-variants.{Message}
 use Rattle.columns.specs.declared.Kind.{Kind}
-use Rattle.columns.specs.declared.Kind.the-variants.{Text, Date, Journey, Fortify, Order, Stamp, Status, Arrival, Departure, StopType, Bit, Flexible}
+use Rattle.columns.specs.declared.Kind.the-variants.{Text, Date, Journey, Fortify, Order, Stamp, Status, Arrival, Departure, StopType, Bit, Flexible, Truth, Shown}
 use Rattle.columns.specs.Cell.{width, null, cell}
-use Rattle.columns.specs.Tables.{Column, rowWidth, cellOf}
+use Rattle.columns.specs.Tables.{Column, must, may, columnsIn, tableName, rowWidth, cellOf, rowOf, wrongColumn, labelFault}
 use Rattle.columns.specs.Layout.{wanted, columnAt, kindAt, optionalAt, offset}
 
 -- ---- cells, whatever the field and the field of the row's own stop type
@@ -49,7 +54,7 @@ TextsKept = (stop f : List ℕ) → isText (decode f) ≡ true → cell Text sto
 abbrev pub KeptAs : Kind → ℕ → (List ℕ → Number) → Type 0
 KeptAs k w rule = (stop f : List ℕ) → ((n : ℕ) → rule f ≡ Numbers.Is n → cell k stop f ≡ spelled w n) × (rule f ≡ Numbers.Wrong → cell k stop f ≡ [])
 
--- A column of each kind keeps what its type reads: D, N6, N2, N3, U, a status, a stop type, B, a flexible.
+-- A column of each kind keeps what its type reads: D, N6, N2, N3, U, a status, a stop type, B, a flexible, in the 8.5 form a yes or no and a ShowCancelledJourney.
 abbrev pub NumbersKept : Type 0
 NumbersKept =
     KeptAs Date 4 date
@@ -61,6 +66,8 @@ NumbersKept =
     × KeptAs StopType 1 stopType
     × KeptAs Bit 1 bit
     × KeptAs Flexible 1 flexible
+    × KeptAs Truth 1 truth
+    × KeptAs Shown 1 shown
 
 -- An arrival and a departure keep the seconds of a T, and nothing of what is neither a T nor `\0`.
 abbrev pub TimesKept : Type 0
@@ -93,13 +100,15 @@ NumbersInRange = Spells Journey (λ (n : ℕ). n < 1000000) × Spells Fortify (�
 abbrev pub StampsInRange : Type 0
 StampsInRange = Spells Stamp (λ (n : ℕ). inStampRange n ≡ true)
 
--- A status that is kept is 0 to 5, a stop type 0 to 2, a bit 0 or 1, a flexible 1 to 3.
+-- A status that is kept is 0 to 5, a stop type 0 to 2, a bit 0 or 1, a flexible 1 to 3, a yes or no of the 8.5 form 0 or 1, a ShowCancelledJourney 0 to 2.
 abbrev pub WordsInRange : Type 0
 WordsInRange =
     Spells Status (λ (n : ℕ). n ≤ 5)
     × Spells StopType (λ (n : ℕ). n ≤ 2)
     × Spells Bit (λ (n : ℕ). n ≤ 1)
     × Spells Flexible (λ (n : ℕ). (1 ≤ n) × (n ≤ 3))
+    × Spells Truth (λ (n : ℕ). n ≤ 1)
+    × Spells Shown (λ (n : ℕ). n ≤ 2)
 
 -- The time that l spells is below 115,200; or it is missing, the field has no content, and the row's own stop type is the word.
 abbrev pub TimeOrMissing : List ℕ → List ℕ → List ℕ → List ℕ → Type 0
@@ -164,6 +173,56 @@ RowIsCells =
 abbrev pub AbsentKept : Type 0
 AbsentKept = (t : Table) (j : ℕ) → j < wanted t → optionalAt t j ≡ true → length (columnAt t j .absent) ≡ width (kindAt t j)
 
+-- ---- the forms of a message
+
+-- The columns of the old form are those that were wanted before there was another.
+abbrev pub OldFormStays : Type 0
+OldFormStays =
+    columnsIn (Message Old)
+    ≡ must "DataOwnerCode" Text
+    ∷ must "OperationDate" Date
+    ∷ must "LinePlanningNumber" Text
+    ∷ must "VehicleJourneyNumber" Journey
+    ∷ must "FortifyOrderNumber" Fortify
+    ∷ must "UserStopCode" Text
+    ∷ must "UserStopOrderNumber" Order
+    ∷ must "DestinationCode" Text
+    ∷ must "LastUpdateTimeStamp" Stamp
+    ∷ must "TripStopStatus" Status
+    ∷ must "ExpectedArrivalTime" Arrival
+    ∷ must "ExpectedDepartureTime" Departure
+    ∷ must "JourneyStopType" StopType
+    ∷ may "ShowCancelledTrip" Bit (255 ∷ [])
+    ∷ may "ShowFlexibleTrip" Flexible (255 ∷ [])
+    ∷ may "Monitored" Bit (255 ∷ [])
+    ∷ []
+
+-- The forms share the layout of a row: as many columns, each as wide, at its place, and as free to be absent, with the same kept of it then.
+abbrev pub FormsShareLayout : Type 0
+FormsShareLayout =
+    (f g : Form)
+    → (tableName (Message f) ≡ tableName (Message g))
+    × (wanted (Message f) ≡ wanted (Message g))
+    × (rowWidth (Message f) ≡ rowWidth (Message g))
+    × ((j : ℕ) → (offset (Message f) j ≡ offset (Message g) j) × (width (kindAt (Message f) j) ≡ width (kindAt (Message g) j))
+    × (columnAt (Message f) j .absent ≡ columnAt (Message g) j .absent))
+
+-- They differ in two columns alone, the fourteenth and the last.
+abbrev pub FormsDifferInTwo : Type 0
+FormsDifferInTwo = (f g : Form) (j : ℕ) → (j ≡ 13 → ⊥) → (j ≡ 15 → ⊥) → columnAt (Message f) j ≡ columnAt (Message g) j
+
+-- The name stands nowhere among the labels.
+abbrev pub Unlabelled : String → List (List ℕ) → Type 0
+Unlabelled name labels = count (bytes name) labels ≡ 0
+
+-- A message without the columns that differ reads the same in both forms: under labels that have none of the three names, the labels' fault, each line's row and its first wrong column are one.
+abbrev pub FormsAgree : Type 0
+FormsAgree =
+    (labels : List (List ℕ)) → Unlabelled "ShowCancelledTrip" labels → Unlabelled "ShowCancelledJourney" labels → Unlabelled "Monitored" labels
+    → (f g : Form)
+    → (labelFault (Message f) labels ≡ labelFault (Message g) labels)
+    × ((line : List ℕ) → (rowOf (Message f) labels line ≡ rowOf (Message g) labels line) × (wrongColumn (Message f) labels line ≡ wrongColumn (Message g) labels line))
+
 -- All of them.
 abbrev pub All : Type 0
 All =
@@ -187,3 +246,7 @@ All =
     × CellsApart
     × RowIsCells
     × AbsentKept
+    × OldFormStays
+    × FormsShareLayout
+    × FormsDifferInTwo
+    × FormsAgree

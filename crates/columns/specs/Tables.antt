@@ -3,7 +3,7 @@ use Prim.Native.Nat.{ℕ, _+_}
 use Prim.Native.String.{String}
 use mathlib.Core.Bool.{Bool, true, false, _&&_, _||_}
 use mathlib.Core.List.{List, [], _∷_, map}
-use lib.Dec.{eqb, ltb}
+use lib.Dec.{eqb, ltb, leb}
 use lib.ListN.{length, getD}
 use Rattle.lists.specs.Part.{some}
 use Rattle.lists.specs.Logic.{on}
@@ -11,10 +11,12 @@ use Rattle.lists.specs.Text.{bytes, same}
 use Rattle.lists.specs.Rows.{flat}
 use Rattle.turbo.specs.Split.{fieldAt}
 use Rattle.turbo_labels.specs.Columns.{columnOf, fieldUnder, anyTwice}
+use Rattle.columns.specs.declared.Form.{Form}
+use Rattle.columns.specs.declared.Form.the-variants.{Old, New}
 use Rattle.columns.specs.declared.Table.{Table}
 use Rattle.columns.specs.declared.Table.the-variants.{Message, Planning, Calendar}
 use Rattle.columns.specs.declared.Kind.{Kind}
-use Rattle.columns.specs.declared.Kind.the-variants.{Text, Date, Journey, Fortify, Order, Stamp, Status, Arrival, Departure, StopType, Bit, Flexible}
+use Rattle.columns.specs.declared.Kind.the-variants.{Text, Date, Journey, Fortify, Order, Stamp, Status, Arrival, Departure, StopType, Bit, Flexible, Truth, Shown}
 use Rattle.columns.specs.Cell.{width, null, cell}
 
 -- a wanted column: its name, the kind of its fields, and what is kept where it is absent or holds `\0`; nothing for one that must be there
@@ -33,10 +35,33 @@ may n k a = record { name = n; kind = k; absent = a }
 abbrev pub stays : List ℕ
 stays = 255 ∷ []
 
+-- ---- forms
+
+-- a form that is known: 0 the old one, 1 that of 8.5
+abbrev pub isForm : ℕ → Bool
+isForm n = leb n 1
+
+-- the form that a number states; an unknown one is read as the old
+abbrev pub formOf : ℕ → Form
+formOf n = on (eqb n 1) New Old
+
 -- ---- columns
 
-unfoldable pub messageColumns : List Column
-messageColumns =
+-- what differs between the forms: how a cancelled journey is shown, and yes or no
+abbrev pub cancelledName : Form → String
+cancelledName Old = "ShowCancelledTrip"
+cancelledName New = "ShowCancelledJourney"
+
+abbrev pub cancelledKind : Form → Kind
+cancelledKind Old = Bit
+cancelledKind New = Shown
+
+abbrev pub yesNoKind : Form → Kind
+yesNoKind Old = Bit
+yesNoKind New = Truth
+
+unfoldable pub messageColumns : Form → List Column
+messageColumns f =
     must "DataOwnerCode" Text
     ∷ must "OperationDate" Date
     ∷ must "LinePlanningNumber" Text
@@ -50,9 +75,9 @@ messageColumns =
     ∷ must "ExpectedArrivalTime" Arrival
     ∷ must "ExpectedDepartureTime" Departure
     ∷ must "JourneyStopType" StopType
-    ∷ may "ShowCancelledTrip" Bit stays
+    ∷ may (cancelledName f) (cancelledKind f) stays
     ∷ may "ShowFlexibleTrip" Flexible stays
-    ∷ may "Monitored" Bit stays
+    ∷ may "Monitored" (yesNoKind f) stays
     ∷ []
 
 -- a planned flexible that is absent is kept as 0
@@ -76,13 +101,13 @@ unfoldable pub calendarColumns : List Column
 calendarColumns = must "DataOwnerCode" Text ∷ must "LocalServiceLevelCode" Text ∷ must "OperationDate" Date ∷ []
 
 unfoldable pub columnsIn : Table → List Column
-columnsIn Message = messageColumns
+columnsIn (Message f) = messageColumns f
 columnsIn Planning = planningColumns
 columnsIn Calendar = calendarColumns
 
 -- a table's own name, and the names of its columns
 unfoldable pub tableName : Table → List ℕ
-tableName Message = bytes "DATEDPASSTIME"
+tableName (Message f) = bytes "DATEDPASSTIME"
 tableName Planning = bytes "LOCALSERVICEGROUPPASSTIME"
 tableName Calendar = bytes "LOCALSERVICEGROUPVALIDITY"
 

@@ -1,18 +1,25 @@
 // The wanted tables' columns as data: how many there are, each one's kind, and where its cell stands in a row. What a field gives is a rule here; `columns_cells` writes it.
 ghost use mathlib.Core.Path.{_≡_};
 ghost use Prim.Native.Nat.{_+_, _*_, _≤_, _<_};
-ghost use Rattle.columns.specs.Tables.{rowWidth};
+ghost use Rattle.columns.specs.Tables.{rowWidth, isForm, formOf};
 ghost use Rattle.columns.specs.Layout.{wanted, kindAt, optionalAt, offset};
-ghost use Rattle.columns.specs.inner.Digit.{digitOf, digitAt, kindNamed};
+ghost use Rattle.columns.specs.inner.Digit.{digitOf, digitAt, kindNamed, kindsPacked};
+
+// The form of a message: the old one, or that of turbo 8.5.
+pub enum Form {
+    Old,
+    New,
+}
 
 // The tables that are wanted: of a message, of the planning, of the calendar.
 pub enum Table {
-    Message,
+    Message(Form),
     Planning,
     Calendar,
 }
 
-// The kinds of wanted columns: a text, a date, numbers of up to six, two and three digits, a timestamp, a status, two times, a stop type, a bit, a flexible.
+// The kinds of wanted columns: a text, a date, numbers of up to six, two and three digits, a timestamp, a status, two times, a stop type, a bit, a flexible, and in
+// the 8.5 form a yes or no, and how a cancelled journey is shown.
 pub enum Kind {
     Text,
     Date,
@@ -26,6 +33,25 @@ pub enum Kind {
     StopType,
     Bit,
     Flexible,
+    Truth,
+    Shown,
+}
+
+// Whether a message's form is known: 0 the old one, 1 that of 8.5.
+pub fn is_form(number: u32) -> bool
+    ensures { λ r. ⌜ r ≡ isForm number ⌝ }
+{
+    number <= 1
+}
+
+// The form that a number states; an unknown one is read as the old.
+pub fn form_of(number: u32) -> Form
+    ensures { λ r. ⌜ r ≡ formOf number ⌝ }
+{
+    if number == 1 {
+        return Form::New;
+    }
+    Form::Old
 }
 
 // How wide a row of each is.
@@ -33,7 +59,7 @@ pub fn row_width(table: Table) -> usize
     ensures { λ r. ⌜ r ≡ rowWidth table ⌝ }
 {
     match table {
-        Table::Message => 66,
+        Table::Message(_) => 66,
         Table::Planning => 65,
         Table::Calendar => 24,
     }
@@ -44,7 +70,7 @@ pub fn wanted(table: Table) -> usize
     ensures { λ r. ⌜ r ≡ wanted table ⌝ }
 {
     match table {
-        Table::Message => 16,
+        Table::Message(_) => 16,
         Table::Planning => 12,
         Table::Calendar => 3,
     }
@@ -87,7 +113,9 @@ fn kind_named(digit: u8) -> Kind
         8 => Kind::Departure,
         9 => Kind::StopType,
         10 => Kind::Bit,
-        _ => Kind::Flexible,
+        11 => Kind::Flexible,
+        12 => Kind::Truth,
+        _ => Kind::Shown,
     }
 }
 
@@ -95,11 +123,24 @@ fn kind_named(digit: u8) -> Kind
 // Of a message, whose columns fill a word, `MORE` has those behind the sixteenth: none yet.
 const MESSAGE_KINDS: u64 = 0xaba9876504032010;
 
+// In the 8.5 form.
+const NEW_KINDS: u64 = 0xcbd9876504032010;
+
 const MORE_MESSAGE_KINDS: u64 = 0x0;
 
 const PLANNING_KINDS: u64 = 0xb98700403200;
 
 const CALENDAR_KINDS: u64 = 0x100;
+
+// A message's kinds by its form.
+fn message_kinds(form: Form) -> u64
+    ensures { λ r. ⌜ r ≡ kindsPacked form ⌝ }
+{
+    match form {
+        Form::Old => MESSAGE_KINDS,
+        Form::New => NEW_KINDS,
+    }
+}
 
 // The kind of column j.
 pub fn kind_of(table: Table, index: usize) -> Kind
@@ -107,7 +148,7 @@ pub fn kind_of(table: Table, index: usize) -> Kind
     ensures { λ r. ⌜ r ≡ kindAt table index ⌝ }
 {
     match table {
-        Table::Message => kind_named(digit(MESSAGE_KINDS, MORE_MESSAGE_KINDS, index)),
+        Table::Message(form) => kind_named(digit(message_kinds(form), MORE_MESSAGE_KINDS, index)),
         Table::Planning => kind_named(digit(PLANNING_KINDS, 0, index)),
         Table::Calendar => kind_named(digit(CALENDAR_KINDS, 0, index)),
     }
@@ -143,7 +184,7 @@ pub fn offset_of(table: Table, index: usize) -> usize
     ensures { λ r. ⌜ r ≡ offset table index ⌝ }
 {
     match table {
-        Table::Message => two_digits(
+        Table::Message(_) => two_digits(
             digit(MESSAGE_HIGH, MORE_MESSAGE_HIGH, index),
             digit(MESSAGE_LOW, MORE_MESSAGE_LOW, index),
         ),
@@ -173,7 +214,7 @@ pub fn is_optional(table: Table, index: usize) -> bool
     ensures { λ r. ⌜ r ≡ optionalAt table index ⌝ }
 {
     match table {
-        Table::Message => digit(MESSAGE_OPTIONAL, MORE_MESSAGE_OPTIONAL, index) == 1,
+        Table::Message(_) => digit(MESSAGE_OPTIONAL, MORE_MESSAGE_OPTIONAL, index) == 1,
         Table::Planning => digit(PLANNING_OPTIONAL, 0, index) == 1,
         Table::Calendar => digit(CALENDAR_OPTIONAL, 0, index) == 1,
     }

@@ -1,3 +1,4 @@
 pub mod KindLaws
+pub mod BlankLaws
 pub mod WriteLaws
 pub mod Determined

@@ -121,6 +121,8 @@ pub fn write_cell(
         Kind::StopType => write_number(field_types::read_stop_type(field), 1, row, at),
         Kind::Bit => write_number(field_types::read_bit(field), 1, row, at),
         Kind::Flexible => write_number(field_types::read_flexible(field), 1, row, at),
+        Kind::Truth => write_number(field_types::read_truth(field), 1, row, at),
+        Kind::Shown => write_number(field_types::read_shown(field), 1, row, at),
     }
 }
 
@@ -130,7 +132,7 @@ pub fn blank(table: Table) -> [u8; 80]
 {
     let mut row = [0u8; 80];
     match table {
-        Table::Message => {
+        Table::Message(_) => {
             row[passage::SHOW_CANCELLED_AT] = passage::KEPT;
             row[passage::FLEXIBLE_AT] = passage::KEPT;
             row[passage::MONITORED_AT] = passage::KEPT;

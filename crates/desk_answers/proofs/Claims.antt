@@ -48,15 +48,15 @@ gives-back left used rows book table f h =
 
 open-gives-back : OpenGivesBack
 open-gives-back planning calendar book table used rows =
-    gives-back _ used rows book table (refusals-give-back planning calendar planning planning book table 0 0 (countsOf used rows) .0)
+    gives-back _ used rows book table (refusals-give-back planning calendar planning planning book table 0 0 0 (countsOf used rows) .0)
 
 message-gives-back : MessageGivesBack
-message-gives-back dossier register book table sender used rows =
-    gives-back _ used rows book table (refusals-give-back dossier dossier dossier register book table 0 sender (countsOf used rows) .1)
+message-gives-back dossier register book table sender form used rows =
+    gives-back _ used rows book table (refusals-give-back dossier dossier dossier register book table 0 sender form (countsOf used rows) .1)
 
 withdraw-gives-back : WithdrawGivesBack
 withdraw-gives-back book table number sender used rows =
-    gives-back _ used rows book table (refusals-give-back book book book book book table number sender (countsOf used rows) .2)
+    gives-back _ used rows book table (refusals-give-back book book book book book table number sender 0 (countsOf used rows) .2)
 
 end-back : EndGivesBack
 unfolding outcomeNumber answered
@@ -102,7 +102,7 @@ ended-once register staging book table used rows feed =
 
 listed : FaceNumbersListed
 unfolding outcomeNumber openLeaves openedBy messageLeaves takenBy withdrawLeaves withoutBy
-listed planning calendar dossier register book table number sender used rows = numbers-listed planning calendar dossier register book table number sender (countsOf used rows)
+listed planning calendar dossier register book table number sender form used rows = numbers-listed planning calendar dossier register book table number sender form (countsOf used rows)
 
 feed-listed : FeedNumbersListed
 unfolding outcomeNumber endLeaves takenBy feedLeaves

@@ -6,6 +6,7 @@ use mathlib.Core.List.{List, [], _∷_}
 use lib.Dec.{eqb, leb}
 use lib.ListN.{length}
 use Rattle.lists.specs.Logic.{on, within}
+use Rattle.columns.specs.Tables.{isForm}
 use Rattle.columns.specs.declared.Table.the-variants as Tables
 use Rattle.reader.specs.declared.Reading.{Reading}
 use Rattle.reader.specs.declared.Reading.the-variants as Readings
@@ -15,13 +16,13 @@ use Rattle.keys.specs.Sorted.{putAll}
 use Rattle.book.specs.Entries.{plan-wide, senderOf, kindOf, updatesIn}
 use Rattle.book.specs.Rules.{bookRoom, messageEntries}
 use Rattle.calls.specs.declared.Answer.{Answer}
-use Rattle.calls.specs.declared.Answer.the-variants.{Accepted, Unsound, BookShort, TableShort, KeyTwice, AlreadyWithdrawn, OtherSender}
+use Rattle.calls.specs.declared.Answer.the-variants.{Accepted, Unsound, BookShort, TableShort, KeyTwice, AlreadyWithdrawn, OtherSender, UnknownForm}
 use Rattle.calls.specs.declared.Counts.{Counts}
 use Rattle.calls.specs.Answers.{numbers, unlessRefused}
 use Rattle.calls.specs.Leaves.{countsOf}
 use Rattle.calls.specs.Claims.{isOneOf}
 use Rattle.calls.specs.Open.{passagesOf, roomToOpen, openAnswer, openedBy, openLeaves}
-use Rattle.calls.specs.Message.{messageSound, messageRows, numberFor, roomFor, messageAnswer, takenBy, messageLeaves}
+use Rattle.calls.specs.Message.{messageSound, messageTable, messageRows, numberFor, roomFor, messageAnswer, takenBy, messageLeaves}
 use Rattle.calls.specs.Withdraw.{withdrawSound, unlessBarred, roomWithout, withdrawAnswer, withoutBy, withdrawLeaves}
 use Rattle.desk_answers.specs.Answered.{outcomeNumber, answered}
 use Rattle.desk_answers.specs.Claims.{DossierNamed}
@@ -64,6 +65,10 @@ sound-none : (b : Bool) (a : Answer) → None a → None (on b a Unsound)
 sound-none true a h = h
 sound-none false a h = refl
 
+known-none : (b : Bool) (a : Answer) → None a → None (on b a UnknownForm)
+known-none true a h = h
+known-none false a h = refl
+
 reading-none : (r : Reading) (next : Answer) → None next → None (unlessRefused 0 r next)
 reading-none Readings.TooLong next h = refl
 reading-none (Readings.Syntax i) next h = refl
@@ -78,12 +83,13 @@ rooms-none true true n = refl
 rooms-none true false n = refl
 rooms-none false q n = refl
 
-message-none : (d register book table : List ℕ) (sender : ℕ) (c : Counts) → None (messageAnswer d sender register book table c)
+message-none : (d register book table : List ℕ) (sender form : ℕ) (c : Counts) → None (messageAnswer d sender form register book table c)
 unfolding messageAnswer roomFor
-message-none d register book table sender c =
+message-none d register book table sender form c =
     sound-none (messageSound register book table c) _
-    (reading-none (readingOf Tables.Message register sender d) _
-    (rooms-none (leb _ (bookRoom book)) (leb _ (tableRoom table)) (numberFor (messageRows d) (c .used) book)))
+    (known-none (isForm form) _
+    (reading-none (readingOf (messageTable form) register sender d) _
+    (rooms-none (leb _ (bookRoom book)) (leb _ (tableRoom table)) (numberFor (messageRows form d) (c .used) book))))
 
 barred-none : (es : List (List ℕ)) (sender : ℕ) (next : Answer) → None next → None (unlessBarred es sender next)
 barred-none [] sender next h = refl
@@ -106,6 +112,6 @@ withdraw-none book table number sender c =
 
 pub dossier-named : DossierNamed
 unfolding outcomeNumber answered openLeaves openedBy messageLeaves takenBy withdrawLeaves withoutBy
-dossier-named planning calendar d register book table number sender used rows =
+dossier-named planning calendar d register book table number sender form used rows =
     let named = open-named planning calendar book table in
-    (named .0, named .1, message-none d register book table sender (countsOf used rows), withdraw-none book table number sender (countsOf used rows))
+    (named .0, named .1, message-none d register book table sender form (countsOf used rows), withdraw-none book table number sender (countsOf used rows))

@@ -32,8 +32,8 @@ OpenGivesBack =
 
 abbrev pub MessageGivesBack : Type 0
 MessageGivesBack =
-    (dossier register book table : List ℕ) (sender used rows : ℕ)
-    → FaceGivesBack (toldOf (messageLeaves dossier sender register book table (countsOf used rows))) used rows book table
+    (dossier register book table : List ℕ) (sender form used rows : ℕ)
+    → FaceGivesBack (toldOf (messageLeaves dossier sender form register book table (countsOf used rows))) used rows book table
 
 abbrev pub WithdrawGivesBack : Type 0
 WithdrawGivesBack =
@@ -67,9 +67,9 @@ EndedOnce =
 -- the number returned is one of document 01's list for the call
 abbrev pub FaceNumbersListed : Type 0
 FaceNumbersListed =
-    (planning calendar dossier register book table : List ℕ) (number sender used rows : ℕ)
+    (planning calendar dossier register book table : List ℕ) (number sender form used rows : ℕ)
     → (isOneOf (0 ∷ 2 ∷ 3 ∷ 15 ∷ 4 ∷ 5 ∷ 7 ∷ 9 ∷ 8 ∷ []) (toldOf (openLeaves planning calendar book table (countsOf used rows)) .number) ≡ true)
-    × (isOneOf (0 ∷ 1 ∷ 2 ∷ 3 ∷ 15 ∷ 4 ∷ 5 ∷ 6 ∷ 7 ∷ 8 ∷ []) (toldOf (messageLeaves dossier sender register book table (countsOf used rows)) .number) ≡ true)
+    × (isOneOf (0 ∷ 1 ∷ 18 ∷ 2 ∷ 3 ∷ 15 ∷ 4 ∷ 5 ∷ 6 ∷ 7 ∷ 8 ∷ []) (toldOf (messageLeaves dossier sender form register book table (countsOf used rows)) .number) ≡ true)
     × (isOneOf (0 ∷ 1 ∷ 10 ∷ 12 ∷ 11 ∷ 8 ∷ []) (toldOf (withdrawLeaves number sender book table (countsOf used rows)) .number) ≡ true)
 
 -- of a part fed, and of the end
@@ -77,16 +77,16 @@ abbrev pub FeedNumbersListed : Type 0
 FeedNumbersListed =
     (part register staging line book table : List ℕ) (used rows : ℕ) (feed : List ℕ)
     → (isOneOf (0 ∷ 1 ∷ []) (feedLeaves part register staging line feed .answer) ≡ true)
-    × (isOneOf (0 ∷ 1 ∷ 2 ∷ 3 ∷ 15 ∷ 4 ∷ 5 ∷ 6 ∷ 14 ∷ 7 ∷ 8 ∷ []) (endToldOf (endLeaves register staging book table (countsOf used rows) feed) .number) ≡ true)
+    × (isOneOf (0 ∷ 1 ∷ 18 ∷ 2 ∷ 3 ∷ 15 ∷ 4 ∷ 5 ∷ 6 ∷ 14 ∷ 7 ∷ 8 ∷ []) (endToldOf (endLeaves register staging book table (countsOf used rows) feed) .number) ≡ true)
 
 -- open names the dossier, 1 or 2, exactly with 2 to 5 or 15; the other calls name none
 abbrev pub DossierNamed : Type 0
 DossierNamed =
-    (planning calendar dossier register book table : List ℕ) (number sender used rows : ℕ)
+    (planning calendar dossier register book table : List ℕ) (number sender form used rows : ℕ)
     → let t = toldOf (openLeaves planning calendar book table (countsOf used rows)) in
     (isOneOf (1 ∷ 2 ∷ []) (getD (t .answer) 3 0) ≡ (within 2 5 (t .number) || eqb (t .number) 15))
     × (isOneOf (0 ∷ 1 ∷ 2 ∷ []) (getD (t .answer) 3 0) ≡ true)
-    × (getD (toldOf (messageLeaves dossier sender register book table (countsOf used rows)) .answer) 3 0 ≡ 0)
+    × (getD (toldOf (messageLeaves dossier sender form register book table (countsOf used rows)) .answer) 3 0 ≡ 0)
     × (getD (toldOf (withdrawLeaves number sender book table (countsOf used rows)) .answer) 3 0 ≡ 0)
 
 -- all of these

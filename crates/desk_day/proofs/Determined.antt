@@ -13,7 +13,7 @@ use Rattle.desk_answers.specs.Answered.{told}
 pub open-determined : Determined 5 opens.ps opens.r opens-reads.Post (λ κs x s. told x (now (s .1 .1 .1 .1 .1 .1 .0)) (now (s .1 .1 .0)) (now (s .1 .1 .1 .0)))
 open-determined κs a x y s t p q = p .0 ∙ sym (q .0)
 
-pub message-determined : Determined 5 message.ps message.r message-reads.Post (λ κs x s. told x (now (s .1 .1 .1 .1 .1 .1 .1 .0)) (now (s .1 .1 .1 .0)) (now (s .1 .1 .1 .1 .0)))
+pub message-determined : Determined 5 message.ps message.r message-reads.Post (λ κs x s. told x (now (s .1 .1 .1 .1 .1 .1 .1 .1 .0)) (now (s .1 .1 .1 .1 .0)) (now (s .1 .1 .1 .1 .1 .0)))
 message-determined κs a x y s t p q = p .0 ∙ sym (q .0)
 
 pub withdraw-determined : Determined 3 withdraw.ps withdraw.r withdraw-reads.Post (λ κs x s. told x (now (s .1 .1 .1 .1 .1 .1 .0)) (now (s .1 .1 .0)) (now (s .1 .1 .1 .0)))

@@ -33,11 +33,12 @@ pub extern "C" fn desk_open(
     desk_answers::set_answer(answer, outcome)
 }
 
-// A message from a sender is taken whole or refused whole.
+// A message from a sender, in the form that is stated, is taken whole or refused whole.
 #[no_mangle]
 pub extern "C" fn desk_message(
     dossier: &[u8],
     sender: u8,
+    form: u32,
     register: &[u8],
     book: &mut [u8],
     table: &mut [u8],
@@ -46,15 +47,15 @@ pub extern "C" fn desk_message(
     answer: &mut [u64; 6],
 ) -> u32
     ensures told { λ r. ⌜ told r (now (answer .exit)) (now (book .exit)) (now (table .exit))
-        ≡ toldOf (messageLeaves (now (dossier .entry)) sender (now (register .entry)) (now (book .entry)) (now (table .entry)) (countsOf used rows)) ⌝ }
+        ≡ toldOf (messageLeaves (now (dossier .entry)) sender form (now (register .entry)) (now (book .entry)) (now (table .entry)) (countsOf used rows)) ⌝ }
     ensures numbers { λ _. ⌜ take 4 (now (answer .exit))
-        ≡ four (messageNumbers (now (dossier .entry)) sender (now (register .entry)) (now (book .entry)) (now (table .entry)) (countsOf used rows)) ⌝ }
+        ≡ four (messageNumbers (now (dossier .entry)) sender form (now (register .entry)) (now (book .entry)) (now (table .entry)) (countsOf used rows)) ⌝ }
 {
     let counts = Counts {
         used: used as usize,
         rows: rows as usize,
     };
-    let outcome = messages::message(dossier, sender, register, book, table, counts);
+    let outcome = messages::message(dossier, sender, form, register, book, table, counts);
     desk_answers::set_answer(answer, outcome)
 }
 

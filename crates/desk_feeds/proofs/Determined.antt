@@ -14,7 +14,7 @@ use Rattle.desk_answers.specs.Answered.{endTold}
 pub feed-begin-determined : OneResult 1 feed-begin.ps feed-begin.r feed-begin-reads.Post
 feed-begin-determined κs a x y s t p q = p .0 ∙ sym (q .0)
 
-pub feed-begin-numbers-determined : Determined 1 feed-begin.ps feed-begin.r feed-begin-reads.Post (λ κs x s. now (s .1 .0))
+pub feed-begin-numbers-determined : Determined 1 feed-begin.ps feed-begin.r feed-begin-reads.Post (λ κs x s. now (s .1 .1 .0))
 feed-begin-numbers-determined κs a x y s t p q = p .1 ∙ sym (q .1)
 
 pub feed-determined : Determined 5 feed.ps feed.r feed-reads.Post (λ κs x s. feeding x (now (s .1 .1 .1 .1 .0)) (now (s .1 .1 .1 .0)) (now (s .1 .1 .0)))

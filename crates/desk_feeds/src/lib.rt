@@ -9,13 +9,13 @@ ghost use Rattle.feeds.specs.Kept.{begunBy};
 ghost use Rattle.feeds.specs.Feeding.{feeding, feedLeaves};
 ghost use Rattle.desk_answers.specs.Answered.{four, endTold, endToldOf};
 
-// A message that comes in parts begins. Its sender is kept with the feed's numbers.
+// A message that comes in parts begins. Its sender and its form are kept with the feed's numbers.
 #[no_mangle]
-pub extern "C" fn desk_feed_begin(sender: u8, feed: &mut [u64; 48]) -> u32
+pub extern "C" fn desk_feed_begin(sender: u8, form: u32, feed: &mut [u64; 48]) -> u32
     ensures number { λ r. ⌜ r ≡ 0 ⌝ }
-    ensures feed { λ _. ⌜ now (feed .exit) ≡ begunBy sender ⌝ }
+    ensures feed { λ _. ⌜ now (feed .exit) ≡ begunBy sender form ⌝ }
 {
-    feeds::begin(feed, sender);
+    feeds::begin(feed, sender, form);
     0
 }
 

@@ -21,14 +21,16 @@ use Rattle.syntax.specs.declared.Next.{Next}
 use Rattle.syntax.specs.declared.Next.the-variants.{To, Bad}
 use Rattle.syntax.specs.Machine.{step}
 use Rattle.turbo_lines.specs.Lines.{longest-line}
+use Rattle.columns.specs.declared.Table as Wanted
 use Rattle.columns.specs.declared.Table.the-variants as Tables
+use Rattle.columns.specs.Tables.{formOf}
 use Rattle.rows.specs.declared.Shape.{Shape}
 use Rattle.rows.specs.Shape.{shapeAt}
 use Rattle.rows.proofs.RestoredLaws.{restored-none}
 use Rattle.reader_step.specs.declared.State as Lines
 use Rattle.reader_step.specs.Step.{moved, lineStep}
 use Rattle.feeds.specs.declared.Feed.{Feed}
-use Rattle.feeds.specs.Feed.{Fed, noBytes, counted, lineEnded, runsOver, rowStays, skipped, lineRead, ended, heldOn, taken, isOpen, fedByte, fed}
+use Rattle.feeds.specs.Feed.{Fed, noBytes, messageOf, counted, lineEnded, runsOver, rowStays, skipped, lineRead, ended, heldOn, taken, isOpen, fedByte, fed}
 use Rattle.feeds.specs.Kept.{kindNumber, machineNumber, machineAt, keptOf, linesOf, feedOf, feedMay, zeros, isBegun, newFeed}
 use Rattle.feeds.specs.Claims.{IsKept, FeedFits, KeptIsRead, BegunFits, NewFits, FedFits}
 use Rattle.feeds.proofs.KeptLaws.{May, may-facts, facts-may}
@@ -95,6 +97,7 @@ with-shape f m h =
     let s = f .lines in
     record {
       sender = f .sender;
+      form = f .form;
       at = f .at;
       machine = m;
       fault = f .fault;
@@ -117,7 +120,7 @@ zeros-back : (f : Feed) → length (f .lines .shape .places) ≡ 20 → zeros (d
 unfolding keptOf
 zeros-back f room = ap zeros (drop-at (f .lines .shape .places) (replicate 10 0) 20 room) ∙ ten-zeros
 
-feed-is : (f : Feed) → feedOf (keptOf f) ≡ with-shape f (machineAt (machineNumber (f .machine))) (shapeAt Tables.Message (f .lines .shape .count) (f .lines .shape .stop) (part 18 20 (keptOf f)))
+feed-is : (f : Feed) → feedOf (keptOf f) ≡ with-shape f (machineAt (machineNumber (f .machine))) (shapeAt (messageOf f) (f .lines .shape .count) (f .lines .shape .stop) (part 18 20 (keptOf f)))
 unfolding feedOf linesOf keptOf
 feed-is f = refl
 
@@ -125,8 +128,8 @@ feed-back : (f : Feed) → FeedFits f → feedOf (keptOf f) ≡ f
 feed-back f fits =
     let h = f .lines .shape in
     feed-is f
-    ∙ ap (λ (m : Machine.State). with-shape f m (shapeAt Tables.Message (h .count) (h .stop) (part 18 20 (keptOf f)))) (machine-back (f .machine))
-    ∙ ap (λ (ps : List ℕ). with-shape f (f .machine) (shapeAt Tables.Message (h .count) (h .stop) ps)) (places-back f (fits .shape .0))
+    ∙ ap (λ (m : Machine.State). with-shape f m (shapeAt (messageOf f) (h .count) (h .stop) (part 18 20 (keptOf f)))) (machine-back (f .machine))
+    ∙ ap (λ (ps : List ℕ). with-shape f (f .machine) (shapeAt (messageOf f) (h .count) (h .stop) ps)) (places-back f (fits .shape .0))
     ∙ ap (with-shape f (f .machine)) (sym (fits .shape .1))
 
 begun-is : (f : Feed) → isBegun (keptOf f) ≡ (ltb (machineNumber (f .machine)) 32 && zeros (drop 38 (keptOf f)) && feedMay (feedOf (keptOf f)))
@@ -140,29 +143,30 @@ kept-read f fits =
       back,
     )
 
-shape-kept : (n s : ℕ) (ps : List ℕ) → length ps ≡ 20 → IsKept (shapeAt Tables.Message n s ps)
+shape-kept : (t : Wanted.Table) (n s : ℕ) (ps : List ℕ) → length ps ≡ 20 → IsKept t (shapeAt t n s ps)
 unfolding shapeAt
-shape-kept n s ps room = (room, refl)
+shape-kept t n s ps room = (room, refl)
 
-shape-of : (k : List ℕ) → length k ≡ 48 → IsKept (feedOf k .lines .shape)
+shape-of : (k : List ℕ) → length k ≡ 48 → IsKept (messageOf (feedOf k)) (feedOf k .lines .shape)
 unfolding feedOf linesOf
-shape-of k room = shape-kept (getD k 16 0) (getD k 17 0) (part 18 20 k) (length-part 18 20 k (omega arith))
+shape-of k room = shape-kept (Tables.Message (formOf (getD k 2 0))) (getD k 16 0) (getD k 17 0) (part 18 20 k) (length-part 18 20 k (omega arith))
 
 pub begun-fits : BegunFits
 unfolding isBegun
 begun-fits k room h =
-    let t = all-pass (eqb (getD k 0 0) 1) (eqb (getD k 2 0) 0 ∷ ltb (getD k 4 0) 32 ∷ zeros (drop 38 k) ∷ feedMay (feedOf k) ∷ []) h in
-    record { may = t 4; shape = shape-of k room }
+    let t = all-pass (eqb (getD k 0 0) 1) (ltb (getD k 4 0) 32 ∷ zeros (drop 38 k) ∷ feedMay (feedOf k) ∷ []) h in
+    record { may = t 3; shape = shape-of k room }
 
 -- ---- a feed that begins
 
 pub new-fits : NewFits
-new-fits sender h =
+new-fits sender form h g =
     record {
       may =
-          facts-may (newFeed sender)
+          facts-may (newFeed sender form)
           (record {
             sender = h;
+            stated = g;
             at = omega arith;
             fault = omega arith;
             size = omega arith;
@@ -177,27 +181,28 @@ new-fits sender h =
             place = omega arith;
             labels = λ e. absurd (omega arith);
           });
-      shape = (length-replicate {A = ℕ} 20 0, sym (restored-none Tables.Message));
+      shape = (length-replicate {A = ℕ} 20 0, sym (restored-none (messageOf (newFeed sender form))));
     }
 
 -- ---- small changes
 
-lined-of : (f : Feed) → FeedFits f → Lined (f .lines)
+lined-of : (f : Feed) → FeedFits f → Lined (messageOf f) (f .lines)
 lined-of f fits =
     let m = may-facts f (fits .may) in
     record { first = m .first; rows = m .rows; form = m .form; wrong = m .wrong; owner = m .owner; place = m .place; labels = m .labels; shape = fits .shape }
 
 -- more bytes, of no line's end
 pub bytes-fit : (f : Feed) (n : ℕ) (machine : Machine.State) (fault size : ℕ) → FeedFits f → f .at ≤ n → n ≤ 65537 → fault ≤ n → size ≤ n
-    → FeedFits (record { sender = f .sender; at = n; machine = machine; fault = fault; size = size; long = f .long; staged = f .staged; lines = f .lines })
+    → FeedFits (record { sender = f .sender; form = f .form; at = n; machine = machine; fault = fault; size = size; long = f .long; staged = f .staged; lines = f .lines })
 bytes-fit f n machine fault size fits h k a b =
     let m = may-facts f (fits .may) in
     let e = m .line in
     record {
       may =
-          facts-may (record { sender = f .sender; at = n; machine = machine; fault = fault; size = size; long = f .long; staged = f .staged; lines = f .lines })
+          facts-may (record { sender = f .sender; form = f .form; at = n; machine = machine; fault = fault; size = size; long = f .long; staged = f .staged; lines = f .lines })
           (record {
             sender = m .sender;
+            stated = m .stated;
             at = k;
             fault = a;
             size = b;
@@ -216,7 +221,7 @@ bytes-fit f n machine fault size fits h k a b =
     }
 
 -- a line's end
-line-fits : (f : Feed) (machine : Machine.State) (long staged : ℕ) (n : Lines.State) → FeedFits f → f .at < 65536 → Steps (f .lines) n → long < n .line → staged ≤ n .rows
+line-fits : (f : Feed) (machine : Machine.State) (long staged : ℕ) (n : Lines.State) → FeedFits f → f .at < 65536 → Steps (messageOf f) (f .lines) n → long < n .line → staged ≤ n .rows
     → FeedFits (lineEnded machine long staged n f)
 line-fits f machine long staged n fits h t a b =
     let m = may-facts f (fits .may) in
@@ -228,6 +233,7 @@ line-fits f machine long staged n fits h t a b =
           facts-may (lineEnded machine long staged n f)
           (record {
             sender = m .sender;
+            stated = m .stated;
             at = omega arith;
             fault = let q = m .fault in omega arith;
             size = omega arith;
@@ -299,12 +305,12 @@ module _ (n : ℕ) (x : Fed) (good : Good n x) where
     skipped-good machine long h =
         let r = m .staged in
         record {
-          fits = line-fits (x .feed) machine long (x .feed .staged) (moved (x .feed .lines) (x .feed .lines .place)) (good .fits) room (stays-steps (x .feed .lines) (lined-of (x .feed) (good .fits))) (omega arith) r;
+          fits = line-fits (x .feed) machine long (x .feed .staged) (moved (x .feed .lines) (x .feed .lines .place)) (good .fits) room (stays-steps (messageOf (x .feed)) (x .feed .lines) (lined-of (x .feed) (good .fits))) (omega arith) r;
           line = no-bytes;
           staging = good .staging;
         }
 
-    staged-most : (after : Lines.State) (b : Bool) → x .feed .lines .rows ≤ after .rows → rowStays (x .feed .lines) after (x .feed .staged) (x .staging) ≡ b
+    staged-most : (after : Lines.State) (b : Bool) → x .feed .lines .rows ≤ after .rows → rowStays (messageOf (x .feed)) (x .feed .lines) after (x .feed .staged) (x .staging) ≡ b
         → on b (x .feed .staged + 1) (x .feed .staged) ≤ after .rows
     staged-most after true h e =
         let p = and-pass (ltb (x .feed .lines .rows) (after .rows)) _ e in
@@ -317,16 +323,16 @@ module _ (n : ℕ) (x : Fed) (good : Good n x) where
     read-good : (register : List ℕ) (machine : Machine.State) (l : List ℕ) → Good n (lineRead register machine l x)
     read-good register machine l =
         let s = x .feed .lines in
-        let after = lineStep Tables.Message register (x .feed .sender) s l in
-        let t = line-steps s (lined-of (x .feed) (good .fits)) register (x .feed .sender) l in
+        let after = lineStep (messageOf (x .feed)) register (x .feed .sender) s l in
+        let t = line-steps (messageOf (x .feed)) s (lined-of (x .feed) (good .fits)) register (x .feed .sender) l in
         let g = t .line in
         let k = m .long in
         record {
           fits =
-              line-fits (x .feed) machine (x .feed .long) (on (rowStays s after (x .feed .staged) (x .staging)) (x .feed .staged + 1) (x .feed .staged)) after (good .fits) room t (omega arith)
-              (staged-most after (rowStays s after (x .feed .staged) (x .staging)) (t .rows) refl);
+              line-fits (x .feed) machine (x .feed .long) (on (rowStays (messageOf (x .feed)) s after (x .feed .staged) (x .staging)) (x .feed .staged + 1) (x .feed .staged)) after (good .fits) room t (omega arith)
+              (staged-most after (rowStays (messageOf (x .feed)) s after (x .feed .staged) (x .staging)) (t .rows) refl);
           line = no-bytes;
-          staging = line-length register (x .feed .sender) s (x .staging) l ∙ good .staging;
+          staging = line-length (messageOf (x .feed)) register (x .feed .sender) s (x .staging) l ∙ good .staging;
         }
 
     ended-good : (register : List ℕ) (machine : Machine.State) → Good n (ended register machine x)

@@ -26,8 +26,8 @@ use Rattle.feeds.specs.Kept.{machineNumber, zeros, keptOf, linesOf, feed
 use Rattle.feeds.specs.inner.Numbers.{numbersMay, noFeed, readFitting}
 
 -- a feed that begins, with what is kept of the lines
-abbrev pub beginning : ℕ → Lines.State → Feed
-beginning sender s = record { sender = sender; at = 0; machine = Open Nothing; fault = 0; size = 0; long = 0; staged = 0; lines = s }
+abbrev pub beginning : ℕ → ℕ → Lines.State → Feed
+beginning sender form s = record { sender = sender; form = form; at = 0; machine = Open Nothing; fault = 0; size = 0; long = 0; staged = 0; lines = s }
 
 abbrev pub notBegun : Feed → Kept
 notBegun f = record { begun = false; feed = f }
@@ -83,13 +83,14 @@ linesAt k h =
     record { place = getD k 9 0; line = getD k 10 0; form = getD k 11 0; wrong = getD k 12 0; column = getD k 13 0; owner = getD k 14 0; rows = getD k 15 0; shape = h }
 
 abbrev pub feedAt : List ℕ → Machine.State → Lines.State → Feed
-feedAt k m s = record { sender = getD k 1 0; at = getD k 3 0; machine = m; fault = getD k 5 0; size = getD k 6 0; long = getD k 7 0; staged = getD k 8 0; lines = s }
+feedAt k m s = record { sender = getD k 1 0; form = getD k 2 0; at = getD k 3 0; machine = m; fault = getD k 5 0; size = getD k 6 0; long = getD k 7 0; staged = getD k 8 0; lines = s }
 
 -- ---- which feeds may be
 
 -- what `feedMay` tests
 pub record May (f : Feed) : Type 0 where
   pub sender : f .sender < 256
+  pub stated : f .form < 4294967296
   pub at : f .at ≤ 65537
   pub fault : f .fault ≤ f .at
   pub size : f .size ≤ f .at
@@ -119,16 +120,17 @@ pub may-facts : (f : Feed) → feedMay f ≡ true → May f
 unfolding feedMay linesMay
 may-facts f h =
     let s = f .lines in
-    let a = and-pass (ltb (f .sender) 256 && leb (f .at) 65537 && leb (f .fault) (f .at) && leb (f .size) (f .at) && ltb (f .long) (s .line) && leb (f .staged) (s .rows)) (linesMay (f .at) s) h in
-    let t = all-pass (ltb (f .sender) 256) (leb (f .at) 65537 ∷ leb (f .fault) (f .at) ∷ leb (f .size) (f .at) ∷ ltb (f .long) (s .line) ∷ leb (f .staged) (s .rows) ∷ []) (a .0) in
+    let a = and-pass (ltb (f .sender) 256 && ltb (f .form) 4294967296 && leb (f .at) 65537 && leb (f .fault) (f .at) && leb (f .size) (f .at) && ltb (f .long) (s .line) && leb (f .staged) (s .rows)) (linesMay (f .at) s) h in
+    let t = all-pass (ltb (f .sender) 256) (ltb (f .form) 4294967296 ∷ leb (f .at) 65537 ∷ leb (f .fault) (f .at) ∷ leb (f .size) (f .at) ∷ ltb (f .long) (s .line) ∷ leb (f .staged) (s .rows) ∷ []) (a .0) in
     let l = all-pass (ltb 0 (s .line)) (leb (s .line) (f .at + 1) ∷ ltb (s .rows) (s .line) ∷ ltb (s .form) (s .line) ∷ ltb (s .wrong) (s .line) ∷ ltb (s .owner) (s .line) ∷ leb (s .place) 2 ∷ (not (eqb (s .place) 2) || not (s .shape .fault)) ∷ []) (a .1) in
     record {
       sender = ltb-true _ _ (t 0);
-      at = leb-true _ _ (t 1);
-      fault = leb-true _ _ (t 2);
-      size = leb-true _ _ (t 3);
-      long = ltb-true _ _ (t 4);
-      staged = leb-true _ _ (t 5);
+      stated = ltb-true _ _ (t 1);
+      at = leb-true _ _ (t 2);
+      fault = leb-true _ _ (t 3);
+      size = leb-true _ _ (t 4);
+      long = ltb-true _ _ (t 5);
+      staged = leb-true _ _ (t 6);
       first = ltb-true _ _ (l 0);
       line = leb-true _ _ (l 1);
       rows = ltb-true _ _ (l 2);
@@ -145,6 +147,7 @@ facts-may f m =
     let s = f .lines in
     simp (
       lt-ltb _ _ (m .sender),
+      lt-ltb _ _ (m .stated),
       le-leb _ _ (m .at),
       le-leb _ _ (m .fault),
       le-leb _ _ (m .size),
@@ -166,14 +169,14 @@ may-long f h = not-then (feedMay f) false (λ e. let m = may-facts f e .at in ab
 -- ---- numbers that are read
 
 known : (k : List ℕ) → numbersMay k ≡ true
-    → (eqb (getD k 0 0) 1 && eqb (getD k 2 0) 0 && ltb (getD k 4 0) 32 && zeros (drop 38 k) ≡ true) × (ltb (getD k 1 0) 256 ≡ true) × (leb (getD k 9 0) 2 ≡ true)
+    → (eqb (getD k 0 0) 1 && ltb (getD k 4 0) 32 && zeros (drop 38 k) ≡ true) × (ltb (getD k 1 0) 256 ≡ true) × (ltb (getD k 2 0) 4294967296 ≡ true) × (leb (getD k 9 0) 2 ≡ true)
 unfolding numbersMay
 known k h =
-    let t = all-pass (eqb (getD k 0 0) 1) (eqb (getD k 2 0) 0 ∷ ltb (getD k 4 0) 32 ∷ ltb (getD k 1 0) 256 ∷ leb (getD k 9 0) 2 ∷ zeros (drop 38 k) ∷ []) h in
-    (rw (t 0, t 1, t 2, t 5), t 3, t 4)
+    let t = all-pass (eqb (getD k 0 0) 1) (ltb (getD k 2 0) 4294967296 ∷ ltb (getD k 4 0) 32 ∷ ltb (getD k 1 0) 256 ∷ leb (getD k 9 0) 2 ∷ zeros (drop 38 k) ∷ []) h in
+    (rw (t 0, t 2, t 5), t 3, t 1, t 4)
 
-pub fitting-bytes : (k : List ℕ) → numbersMay k ≡ true → (getD k 1 0 < 256) × (getD k 9 0 ≤ 2)
-fitting-bytes k h = let q = known k h in (ltb-true _ _ (q .1), leb-true _ _ (q .2))
+pub fitting-bytes : (k : List ℕ) → numbersMay k ≡ true → (getD k 1 0 < 256) × (getD k 2 0 < 4294967296) × (getD k 9 0 ≤ 2)
+fitting-bytes k h = let q = known k h in (ltb-true _ _ (q .1), ltb-true _ _ (q .2), leb-true _ _ (q .3))
 
 module _ (k : List ℕ) (f : Feed) (is : f ≡ feedOf k) (b : Bool) (test : b ≡ feedMay f) where
   pub fitting-may : b ≡ true → begunWith f ≡ readFitting k
@@ -196,16 +199,16 @@ pub read-numbers : (k : List ℕ) → numbersMay k ≡ true → readFitting k �
 unfolding readFitting readOf
 read-numbers k h = go (feedMay (feedOf k)) (begun-known k h)
   where
-    go : (t : Bool) → isBegun k ≡ t → on t (begunWith (feedOf k)) noFeed ≡ record { begun = isBegun k; feed = on (isBegun k) (feedOf k) (newFeed 0) }
+    go : (t : Bool) → isBegun k ≡ t → on t (begunWith (feedOf k)) noFeed ≡ record { begun = isBegun k; feed = on (isBegun k) (feedOf k) (newFeed 0 0) }
     go true e = rw e
     go false e = rw e
 
 begun-numbers : (k : List ℕ) → isBegun k ≡ true → numbersMay k ≡ true
 unfolding isBegun feedOf linesOf numbersMay
 begun-numbers k h =
-    let t = all-pass (eqb (getD k 0 0) 1) (eqb (getD k 2 0) 0 ∷ ltb (getD k 4 0) 32 ∷ zeros (drop 38 k) ∷ feedMay (feedOf k) ∷ []) h in
-    let m = may-facts (feedOf k) (t 4) in
-    rw (t 0, t 1, t 2, lt-ltb (getD k 1 0) 256 (m .sender), le-leb (getD k 9 0) 2 (m .place), t 3)
+    let t = all-pass (eqb (getD k 0 0) 1) (ltb (getD k 4 0) 32 ∷ zeros (drop 38 k) ∷ feedMay (feedOf k) ∷ []) h in
+    let m = may-facts (feedOf k) (t 3) in
+    rw (t 0, lt-ltb (getD k 2 0) 4294967296 (m .stated), t 1, lt-ltb (getD k 1 0) 256 (m .sender), le-leb (getD k 9 0) 2 (m .place), t 2)
 
 pub read-none : (k : List ℕ) → numbersMay k ≡ false → noFeed ≡ readOf k
 unfolding readOf
@@ -222,7 +225,7 @@ module _ (ps : List ℕ) (room : length ps ≡ 20) where
 abbrev front : Feed → ℕ → List ℕ → List ℕ
 front f n rest =
     let s = f .lines in
-    1 ∷ f .sender ∷ 0 ∷ f .at ∷ n ∷ f .fault ∷ f .size ∷ f .long ∷ f .staged
+    1 ∷ f .sender ∷ f .form ∷ f .at ∷ n ∷ f .fault ∷ f .size ∷ f .long ∷ f .staged
     ∷ s .place ∷ s .line ∷ s .form ∷ s .wrong ∷ s .column ∷ s .owner ∷ s .rows
     ∷ s .shape .count ∷ s .shape .stop ∷ rest
 

@@ -13,7 +13,7 @@ use Rattle.turbo.specs.Split.{until, fields}
 use Rattle.turbo_lines.specs.declared.Mark.{Mark}
 use Rattle.turbo_lines.specs.declared.Mark.the-variants as Marks
 use Rattle.turbo_lines.specs.Lines.{markOf, afterMark}
-use Rattle.columns.specs.declared.Table.the-variants as Tables
+use Rattle.columns.specs.declared.Table.{Table}
 use Rattle.columns.specs.Tables.{tableName, rowWidth, labelFault}
 use Rattle.register.specs.Register.{maySend}
 use Rattle.rows.specs.declared.Shape.{Shape}
@@ -28,7 +28,7 @@ use Rattle.reader_step.specs.Step.{staged, rowStaged, dataStaged, stagedAt, sta
 use Rattle.feeds.specs.Claims.{IsKept}
 
 -- what is kept of the lines, in itself
-pub record Lined (s : State) : Type 0 where
+pub record Lined (t : Table) (s : State) : Type 0 where
   pub first : 0 < s .line
   pub rows : s .rows < s .line
   pub form : s .form < s .line
@@ -36,17 +36,17 @@ pub record Lined (s : State) : Type 0 where
   pub owner : s .owner < s .line
   pub place : s .place ≤ 2
   pub labels : s .place ≡ 2 → s .shape .fault ≡ false
-  pub shape : IsKept (s .shape)
+  pub shape : IsKept t (s .shape)
 
 -- n is s with a line more
-pub record Steps (s n : State) : Type 0 where
-  pub lined : Lined n
+pub record Steps (t : Table) (s n : State) : Type 0 where
+  pub lined : Lined t n
   pub line : n .line ≡ s .line + 1
   pub rows : s .rows ≤ n .rows
 
-on-steps : (b : Bool) (s x y : State) → Steps s x → Steps s y → Steps s (on b x y)
-on-steps true s x y p q = p
-on-steps false s x y p q = q
+on-steps : (t : Table) (b : Bool) (s x y : State) → Steps t s x → Steps t s y → Steps t s (on b x y)
+on-steps t true s x y p q = p
+on-steps t false s x y p q = q
 
 named-few : (b : Bool) → on b 1 0 < 2
 named-few true = omega arith
@@ -60,12 +60,12 @@ label-right : (s : State) (h : Shape) → h .fault ≡ false → labelStep s h �
 unfolding labelStep
 label-right s h e = rw e
 
-shape-none : (labels : List (List ℕ)) → labelFault Tables.Message labels ≡ true → shapeOf Tables.Message labels ≡ noShape
+shape-none : (t : Table) (labels : List (List ℕ)) → labelFault t labels ≡ true → shapeOf t labels ≡ noShape
 unfolding shapeOf
-shape-none labels e = rw e
+shape-none t labels e = rw e
 
-module _ (s : State) (now : Lined s) where
-  pub moved-steps : (p : ℕ) → p ≤ 2 → (p ≡ 2 → s .shape .fault ≡ false) → Steps s (moved s p)
+module _ (t : Table) (s : State) (now : Lined t s) where
+  pub moved-steps : (p : ℕ) → p ≤ 2 → (p ≡ 2 → s .shape .fault ≡ false) → Steps t s (moved s p)
   moved-steps p h k =
       let r = now .rows in
       let f = now .form in
@@ -77,13 +77,13 @@ module _ (s : State) (now : Lined s) where
         rows = omega arith;
       }
 
-  pub stays-steps : Steps s (moved s (s .place))
+  pub stays-steps : Steps t s (moved s (s .place))
   stays-steps = moved-steps (s .place) (now .place) (now .labels)
 
-  outside-steps : (p : ℕ) → p < 2 → Steps s (moved s p)
+  outside-steps : (p : ℕ) → p < 2 → Steps t s (moved s p)
   outside-steps p h = moved-steps p (omega arith) (λ e. absurd (omega arith))
 
-  misformed-steps : Steps s (misformed s)
+  misformed-steps : Steps t s (misformed s)
   misformed-steps =
       let r = now .rows in
       let w = now .wrong in
@@ -94,7 +94,7 @@ module _ (s : State) (now : Lined s) where
         rows = omega arith;
       }
 
-  mistyped-steps : (c : ℕ) → Steps s (mistyped s c)
+  mistyped-steps : (c : ℕ) → Steps t s (mistyped s c)
   mistyped-steps c =
       let r = now .rows in
       let f = now .form in
@@ -105,7 +105,7 @@ module _ (s : State) (now : Lined s) where
         rows = omega arith;
       }
 
-  disowned-steps : Steps s (disowned s)
+  disowned-steps : Steps t s (disowned s)
   disowned-steps =
       let r = now .rows in
       let f = now .form in
@@ -116,7 +116,7 @@ module _ (s : State) (now : Lined s) where
         rows = omega arith;
       }
 
-  more-steps : Steps s (oneRowMore s)
+  more-steps : Steps t s (oneRowMore s)
   more-steps =
       let r = now .rows in
       let f = now .form in
@@ -128,7 +128,7 @@ module _ (s : State) (now : Lined s) where
         rows = omega arith;
       }
 
-  labelled-steps : (h : Shape) → h .fault ≡ false → IsKept h → Steps s (labelled s h)
+  labelled-steps : (h : Shape) → h .fault ≡ false → IsKept t h → Steps t s (labelled s h)
   labelled-steps h e k =
       let r = now .rows in
       let f = now .form in
@@ -140,50 +140,50 @@ module _ (s : State) (now : Lined s) where
         rows = omega arith;
       }
 
-  row-steps : (register : List ℕ) (sender : ℕ) (r : Read) → Steps s (rowStep Tables.Message register sender s r)
+  row-steps : (register : List ℕ) (sender : ℕ) (r : Read) → Steps t s (rowStep t register sender s r)
   unfolding rowStep
   row-steps register sender r =
-      on-steps (eqb (r .wrong) 0) s _ _
-      (on-steps (eqb (s .owner) 0) s _ _ (on-steps (maySend Tables.Message register sender (r .row)) s _ _ more-steps disowned-steps) stays-steps)
+      on-steps t (eqb (r .wrong) 0) s _ _
+      (on-steps t (eqb (s .owner) 0) s _ _ (on-steps t (maySend t register sender (r .row)) s _ _ more-steps disowned-steps) stays-steps)
       (mistyped-steps (r .wrong))
 
-  data-steps : (register : List ℕ) (sender : ℕ) (l : List ℕ) → Steps s (dataStep Tables.Message register sender s l)
+  data-steps : (register : List ℕ) (sender : ℕ) (l : List ℕ) → Steps t s (dataStep t register sender s l)
   unfolding dataStep
   data-steps register sender l =
-      on-steps (eqb (length (fields l)) (s .shape .count)) s _ _
-      (on-steps (eqb (s .wrong) 0) s _ _ (row-steps register sender (readBy Tables.Message (s .shape) l)) stays-steps)
+      on-steps t (eqb (length (fields l)) (s .shape .count)) s _ _
+      (on-steps t (eqb (s .wrong) 0) s _ _ (row-steps register sender (readBy t (s .shape) l)) stays-steps)
       misformed-steps
 
   -- a shape that a label line gave is the one that its numbers give
-  label-steps : (labels : List (List ℕ)) → Steps s (labelStep s (shapeOf Tables.Message labels))
-  label-steps labels = go (labelFault Tables.Message labels) refl
+  label-steps : (labels : List (List ℕ)) → Steps t s (labelStep s (shapeOf t labels))
+  label-steps labels = go (labelFault t labels) refl
     where
-      faulty : (h : Shape) → h .fault ≡ true → Steps s (labelStep s h)
-      faulty h e = subst (λ (n : State). Steps s n) (sym (label-faulty s h e)) misformed-steps
+      faulty : (h : Shape) → h .fault ≡ true → Steps t s (labelStep s h)
+      faulty h e = subst (λ (n : State). Steps t s n) (sym (label-faulty s h e)) misformed-steps
 
-      right : (h : Shape) → h .fault ≡ false → IsKept h → Steps s (labelStep s h)
-      right h e k = subst (λ (n : State). Steps s n) (sym (label-right s h e)) (labelled-steps h e k)
+      right : (h : Shape) → h .fault ≡ false → IsKept t h → Steps t s (labelStep s h)
+      right h e k = subst (λ (n : State). Steps t s n) (sym (label-right s h e)) (labelled-steps h e k)
 
-      go : (b : Bool) → labelFault Tables.Message labels ≡ b → Steps s (labelStep s (shapeOf Tables.Message labels))
-      go true e = faulty (shapeOf Tables.Message labels) (ap (λ (h : Shape). h .fault) (shape-none labels e))
+      go : (b : Bool) → labelFault t labels ≡ b → Steps t s (labelStep s (shapeOf t labels))
+      go true e = faulty (shapeOf t labels) (ap (λ (h : Shape). h .fault) (shape-none t labels e))
       go false e =
-          subst (λ (h : Shape). Steps s (labelStep s h)) (sym (shape-is Tables.Message labels e))
-          (right (rightShape Tables.Message labels) refl
-          (let g = right-sound Tables.Message labels e in (g .room, sym (restored-shape Tables.Message (rightShape Tables.Message labels) g refl))))
+          subst (λ (h : Shape). Steps t s (labelStep s h)) (sym (shape-is t labels e))
+          (right (rightShape t labels) refl
+          (let g = right-sound t labels e in (g .room, sym (restored-shape t (rightShape t labels) g refl))))
 
-  mark-steps : (register : List ℕ) (sender : ℕ) (l : List ℕ) (m : Mark) → Steps s (stepAt Tables.Message register sender s l m)
+  mark-steps : (register : List ℕ) (sender : ℕ) (l : List ℕ) (m : Mark) → Steps t s (stepAt t register sender s l m)
   mark-steps register sender l Marks.Group = outside-steps 0 (omega arith)
-  mark-steps register sender l Marks.Table = outside-steps (placeNamed Tables.Message (until 124 (afterMark l))) (named-few (same (until 124 (afterMark l)) (tableName Tables.Message)))
-  mark-steps register sender l Marks.Labels = on-steps (eqb (s .place) 1) s _ _ (label-steps (fields (afterMark l))) (outside-steps 0 (omega arith))
-  mark-steps register sender l Marks.Data = on-steps (eqb (s .place) 2) s _ _ (data-steps register sender l) stays-steps
+  mark-steps register sender l Marks.Table = outside-steps (placeNamed t (until 124 (afterMark l))) (named-few (same (until 124 (afterMark l)) (tableName t)))
+  mark-steps register sender l Marks.Labels = on-steps t (eqb (s .place) 1) s _ _ (label-steps (fields (afterMark l))) (outside-steps 0 (omega arith))
+  mark-steps register sender l Marks.Data = on-steps t (eqb (s .place) 2) s _ _ (data-steps register sender l) stays-steps
 
-  by-steps : (register : List ℕ) (sender : ℕ) (l : List ℕ) → Steps s (stepBy Tables.Message register sender s l)
+  by-steps : (register : List ℕ) (sender : ℕ) (l : List ℕ) → Steps t s (stepBy t register sender s l)
   unfolding stepBy
   by-steps register sender l = mark-steps register sender l (markOf l)
 
-  pub line-steps : (register : List ℕ) (sender : ℕ) (l : List ℕ) → Steps s (lineStep Tables.Message register sender s l)
+  pub line-steps : (register : List ℕ) (sender : ℕ) (l : List ℕ) → Steps t s (lineStep t register sender s l)
   unfolding lineStep
-  line-steps register sender l = on-steps (eqb (s .form) 0) s _ _ (by-steps register sender l) stays-steps
+  line-steps register sender l = on-steps t (eqb (s .form) 0) s _ _ (by-steps register sender l) stays-steps
 
 -- ---- the staging area keeps its length
 
@@ -191,35 +191,35 @@ on-length : (b : Bool) (x y : List ℕ) (n : ℕ) → length x ≡ n → length 
 on-length true x y n p q = p
 on-length false x y n p q = q
 
-module _ (register : List ℕ) (sender : ℕ) (s : State) (st : List ℕ) where
-  staged-length : (n : ℕ) (r : List ℕ) → length (staged Tables.Message n r st) ≡ length st
+module _ (t : Table) (register : List ℕ) (sender : ℕ) (s : State) (st : List ℕ) where
+  staged-length : (n : ℕ) (r : List ℕ) → length (staged t n r st) ≡ length st
   unfolding staged
-  staged-length n r = on-length (leb ((n + 1) * rowWidth Tables.Message) (length st)) _ st _ (length-over (n * rowWidth Tables.Message) (take (rowWidth Tables.Message) r) st) refl
+  staged-length n r = on-length (leb ((n + 1) * rowWidth t) (length st)) _ st _ (length-over (n * rowWidth t) (take (rowWidth t) r) st) refl
 
-  row-length : (r : Read) → length (rowStaged Tables.Message register sender s r st) ≡ length st
+  row-length : (r : Read) → length (rowStaged t register sender s r st) ≡ length st
   unfolding rowStaged
   row-length r =
       on-length (eqb (r .wrong) 0) _ st _
-      (on-length (eqb (s .owner) 0) _ st _ (on-length (maySend Tables.Message register sender (r .row)) _ st _ (staged-length (s .rows) (r .row)) refl) refl)
+      (on-length (eqb (s .owner) 0) _ st _ (on-length (maySend t register sender (r .row)) _ st _ (staged-length (s .rows) (r .row)) refl) refl)
       refl
 
-  data-length : (l : List ℕ) → length (dataStaged Tables.Message register sender s l st) ≡ length st
+  data-length : (l : List ℕ) → length (dataStaged t register sender s l st) ≡ length st
   unfolding dataStaged
   data-length l =
       on-length (eqb (length (fields l)) (s .shape .count)) _ st _
-      (on-length (eqb (s .wrong) 0) _ st _ (row-length (readBy Tables.Message (s .shape) l)) refl)
+      (on-length (eqb (s .wrong) 0) _ st _ (row-length (readBy t (s .shape) l)) refl)
       refl
 
-  mark-length : (l : List ℕ) (m : Mark) → length (stagedAt Tables.Message register sender s l m st) ≡ length st
+  mark-length : (l : List ℕ) (m : Mark) → length (stagedAt t register sender s l m st) ≡ length st
   mark-length l Marks.Group = refl
   mark-length l Marks.Table = refl
   mark-length l Marks.Labels = refl
   mark-length l Marks.Data = on-length (eqb (s .place) 2) _ st _ (data-length l) refl
 
-  by-length : (l : List ℕ) → length (stageBy Tables.Message register sender s l st) ≡ length st
+  by-length : (l : List ℕ) → length (stageBy t register sender s l st) ≡ length st
   unfolding stageBy
   by-length l = mark-length l (markOf l)
 
-  pub line-length : (l : List ℕ) → length (lineStaged Tables.Message register sender s l st) ≡ length st
+  pub line-length : (l : List ℕ) → length (lineStaged t register sender s l st) ≡ length st
   unfolding lineStaged
   line-length l = on-length (eqb (s .form) 0) _ st _ (by-length l) refl

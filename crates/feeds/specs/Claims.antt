@@ -6,21 +6,21 @@ use mathlib.Core.List.{List}
 use lib.ListN.{length}
 use Rattle.turbo_lines.specs.Lines.{longest-line}
 use Rattle.turbo_labels.specs.Columns.{most}
-use Rattle.columns.specs.declared.Table.the-variants as Tables
+use Rattle.columns.specs.declared.Table.{Table}
 use Rattle.rows.specs.declared.Shape.{Shape}
 use Rattle.rows.specs.Shape.{shapeAt}
 use Rattle.feeds.specs.declared.Feed.{Feed}
-use Rattle.feeds.specs.Feed.{Fed, fed}
+use Rattle.feeds.specs.Feed.{Fed, messageOf, fed}
 use Rattle.feeds.specs.Kept.{keptOf, feedOf, feedMay, isBegun, newFeed}
 
--- the shape is the one that its own numbers give
-abbrev pub IsKept : Shape → Type 0
-IsKept h = (length (h .places) ≡ most) × (h ≡ shapeAt Tables.Message (h .count) (h .stop) (h .places))
+-- the shape is the one that its own numbers give for the table
+abbrev pub IsKept : Table → Shape → Type 0
+IsKept t h = (length (h .places) ≡ most) × (h ≡ shapeAt t (h .count) (h .stop) (h .places))
 
 -- what numbers can tell of a feed
 pub record FeedFits (f : Feed) : Type 0 where
   pub may : feedMay f ≡ true
-  pub shape : IsKept (f .lines .shape)
+  pub shape : IsKept (messageOf f) (f .lines .shape)
 
 -- what is kept is read back
 abbrev pub KeptIsRead : Type 0
@@ -32,7 +32,7 @@ BegunFits = (k : List ℕ) → length k ≡ 48 → isBegun k ≡ true → FeedFi
 
 -- a feed that begins is begun
 abbrev pub NewFits : Type 0
-NewFits = (sender : ℕ) → sender < 256 → FeedFits (newFeed sender)
+NewFits = (sender form : ℕ) → sender < 256 → form < 4294967296 → FeedFits (newFeed sender form)
 
 -- whatever bytes come, what is kept fits, and the line and the staging area keep their lengths
 abbrev pub FedFits : Type 0

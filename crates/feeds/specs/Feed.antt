@@ -11,8 +11,9 @@ use Rattle.syntax.specs.declared.Next.{Next}
 use Rattle.syntax.specs.declared.Next.the-variants.{To, Bad}
 use Rattle.syntax.specs.Machine.{step}
 use Rattle.turbo_lines.specs.Lines.{longest-line}
+use Rattle.columns.specs.declared.Table.{Table}
 use Rattle.columns.specs.declared.Table.the-variants as Tables
-use Rattle.columns.specs.Tables.{rowWidth}
+use Rattle.columns.specs.Tables.{formOf, rowWidth}
 use Rattle.reader_step.specs.declared.State as Lines
 use Rattle.reader_step.specs.Step.{moved, lineStep, lineStaged}
 use Rattle.reader.specs.Rules.{largest}
@@ -28,6 +29,10 @@ pub record Fed : Type 0 where
 abbrev pub noBytes : List ℕ
 noBytes = replicate longest-line 0
 
+-- the wanted table of a message in the feed's form; an unknown form is read as the old, and refused at the end
+abbrev pub messageOf : Feed → Table
+messageOf f = Tables.Message (formOf (f .form))
+
 -- ---- small changes of what is kept
 
 -- one byte more
@@ -35,6 +40,7 @@ abbrev pub counted : Feed → Feed
 counted f =
     record {
       sender = f .sender;
+      form = f .form;
       at = on (leb (f .at) largest) (f .at + 1) (f .at);
       machine = f .machine;
       fault = f .fault;
@@ -49,6 +55,7 @@ abbrev pub faulted : Feed → Feed
 faulted f =
     record {
       sender = f .sender;
+      form = f .form;
       at = f .at + 1;
       machine = f .machine;
       fault = f .at + 1;
@@ -63,6 +70,7 @@ abbrev pub lengthened : Machine.State → Feed → Feed
 lengthened m f =
     record {
       sender = f .sender;
+      form = f .form;
       at = f .at + 1;
       machine = m;
       fault = f .fault;
@@ -77,6 +85,7 @@ abbrev pub lineEnded : Machine.State → ℕ → ℕ → Lines.State → Feed �
 lineEnded m long staged lines f =
     record {
       sender = f .sender;
+      form = f .form;
       at = f .at + 1;
       machine = m;
       fault = f .fault;
@@ -92,10 +101,10 @@ lineEnded m long staged lines f =
 abbrev pub runsOver : ℕ → Bool
 runsOver size = leb longest-line size
 
--- a row came, all rows before it lie in the staging area, and it does too
-abbrev pub rowStays : Lines.State → Lines.State → ℕ → List ℕ → Bool
-rowStays before after staged staging =
-    ltb (before .rows) (after .rows) && (eqb staged (before .rows) && leb (after .rows * rowWidth Tables.Message) (length staging))
+-- a row of the table came, all rows before it lie in the staging area, and it does too
+abbrev pub rowStays : Table → Lines.State → Lines.State → ℕ → List ℕ → Bool
+rowStays t before after staged staging =
+    ltb (before .rows) (after .rows) && (eqb staged (before .rows) && leb (after .rows * rowWidth t) (length staging))
 
 -- a line that is only counted: behind a line too long, or too long itself
 abbrev pub skipped : Machine.State → ℕ → Fed → Fed
@@ -106,11 +115,11 @@ skipped m long x =
 abbrev pub lineRead : List ℕ → Machine.State → List ℕ → Fed → Fed
 lineRead register m l x =
     let f = x .feed in
-    let after = lineStep Tables.Message register (f .sender) (f .lines) l in
+    let after = lineStep (messageOf f) register (f .sender) (f .lines) l in
     record {
-      feed = lineEnded m (f .long) (on (rowStays (f .lines) after (f .staged) (x .staging)) (f .staged + 1) (f .staged)) after f;
+      feed = lineEnded m (f .long) (on (rowStays (messageOf f) (f .lines) after (f .staged) (x .staging)) (f .staged + 1) (f .staged)) after f;
       line = noBytes;
-      staging = lineStaged Tables.Message register (f .sender) (f .lines) l (x .staging);
+      staging = lineStaged (messageOf f) register (f .sender) (f .lines) l (x .staging);
     }
 
 -- the LF of a line

@@ -11,6 +11,7 @@ use Rattle.syntax.specs.declared.Kind.the-variants.{Nothing, Group, Table, Rows
 use Rattle.syntax.specs.declared.State as Machine
 use Rattle.syntax.specs.declared.State.the-variants.{Open, Mark, First, Inside, FirstEsc, InsideEsc, Null, Ret}
 use Rattle.columns.specs.declared.Table.the-variants as Tables
+use Rattle.columns.specs.Tables.{formOf}
 use Rattle.turbo_labels.specs.Columns.{most}
 use Rattle.rows.specs.Shape.{noShape, shapeAt}
 use Rattle.reader_step.specs.declared.State as Lines
@@ -51,11 +52,11 @@ machineAt n = stateAt (n / 4) (kindAt (n % 4))
 
 -- ---- the numbers
 
--- 1 for a feed that was begun; its sender; 0; what is kept of the bytes; of the lines; of the labels; and zeros
+-- 1 for a feed that was begun; its sender and its form; what is kept of the bytes; of the lines; of the labels; and zeros
 unfoldable pub keptOf : Feed → List ℕ
 keptOf f =
     let s = f .lines in
-    1 ∷ f .sender ∷ 0 ∷ f .at ∷ machineNumber (f .machine) ∷ f .fault ∷ f .size ∷ f .long ∷ f .staged
+    1 ∷ f .sender ∷ f .form ∷ f .at ∷ machineNumber (f .machine) ∷ f .fault ∷ f .size ∷ f .long ∷ f .staged
     ∷ s .place ∷ s .line ∷ s .form ∷ s .wrong ∷ s .column ∷ s .owner ∷ s .rows
     ∷ s .shape .count ∷ s .shape .stop ∷ (s .shape .places ++ replicate 10 0)
 
@@ -70,13 +71,14 @@ linesOf k =
       column = getD k 13 0;
       owner = getD k 14 0;
       rows = getD k 15 0;
-      shape = shapeAt Tables.Message (getD k 16 0) (getD k 17 0) (part 18 most k);
+      shape = shapeAt (Tables.Message (formOf (getD k 2 0))) (getD k 16 0) (getD k 17 0) (part 18 most k);
     }
 
 unfoldable pub feedOf : List ℕ → Feed
 feedOf k =
     record {
       sender = getD k 1 0;
+      form = getD k 2 0;
       at = getD k 3 0;
       machine = machineAt (getD k 4 0);
       fault = getD k 5 0;
@@ -97,7 +99,7 @@ linesMay at s =
 
 unfoldable pub feedMay : Feed → Bool
 feedMay f =
-    ltb (f .sender) 256 && leb (f .at) (largest + 1) && leb (f .fault) (f .at) && leb (f .size) (f .at)
+    ltb (f .sender) 256 && ltb (f .form) 4294967296 && leb (f .at) (largest + 1) && leb (f .fault) (f .at) && leb (f .size) (f .at)
     && ltb (f .long) (f .lines .line) && leb (f .staged) (f .lines .rows) && linesMay (f .at) (f .lines)
 
 -- every number is zero
@@ -106,22 +108,22 @@ zeros [] = true
 zeros (n ∷ ns) = eqb n 0 && zeros ns
 
 unfoldable pub isBegun : List ℕ → Bool
-isBegun k = eqb (getD k 0 0) 1 && eqb (getD k 2 0) 0 && ltb (getD k 4 0) 32 && zeros (drop 38 k) && feedMay (feedOf k)
+isBegun k = eqb (getD k 0 0) 1 && ltb (getD k 4 0) 32 && zeros (drop 38 k) && feedMay (feedOf k)
 
 -- ---- the beginning
 
 abbrev pub noLines : Lines.State
 noLines = record { place = 0; line = 1; form = 0; wrong = 0; column = 0; owner = 0; rows = 0; shape = noShape }
 
-abbrev pub newFeed : ℕ → Feed
-newFeed sender = record { sender = sender; at = 0; machine = Open Nothing; fault = 0; size = 0; long = 0; staged = 0; lines = noLines }
+abbrev pub newFeed : ℕ → ℕ → Feed
+newFeed sender form = record { sender = sender; form = form; at = 0; machine = Open Nothing; fault = 0; size = 0; long = 0; staged = 0; lines = noLines }
 
 -- a feed that begins, whatever the numbers were
-unfoldable pub begunBy : ℕ → List ℕ
-begunBy sender = keptOf (newFeed sender)
+unfoldable pub begunBy : ℕ → ℕ → List ℕ
+begunBy sender form = keptOf (newFeed sender form)
 
 -- ---- numbers that are read
 
 -- whether the numbers are those of a begun feed, and the feed; a new one where they are not
 unfoldable pub readOf : List ℕ → Kept
-readOf k = record { begun = isBegun k; feed = on (isBegun k) (feedOf k) (newFeed 0) }
+readOf k = record { begun = isBegun k; feed = on (isBegun k) (feedOf k) (newFeed 0 0) }

@@ -7,13 +7,16 @@ ghost use mathlib.Core.Bool.{true};
 ghost use Prim.Native.Nat.{_<_, _≤_};
 ghost use lib.ListN.{length, drop, getD};
 ghost use Rattle.lists.specs.Part.{part, over};
+ghost use Rattle.columns.specs.declared.Table.the-variants.{Message};
+ghost use Rattle.columns.specs.Tables.{formOf};
 ghost use Rattle.feeds.specs.Kept.{kindNumber, machineNumber, kindAt, stateAt, machineAt, keptOf, linesOf, feedOf, linesMay, feedMay, zeros, newFeed, begunBy, readOf};
 ghost use Rattle.feeds.specs.inner.Numbers.{numbersMay, noFeed, readFitting};
 
-// What is kept of the bytes so far. `at`: how many they are, one more than the largest dossier standing for any more. `fault`: the first byte at fault, counted from 1;
+// What is kept of the bytes so far. `form` is any number; that it is unknown is answered at the end. `at`: how many they are, one more than the largest dossier standing for any more. `fault`: the first byte at fault, counted from 1;
 // `long`: the first line that is too long; 0 for none. `size`: the bytes of the unfinished line, its CR too. `staged`: how many rows lie in the staging area.
 pub struct Feed {
     pub sender: u8,
+    pub form: u32,
     pub at: usize,
     pub machine: syntax::State,
     pub fault: usize,
@@ -90,13 +93,23 @@ fn machine_at(n: u64) -> State
     state_at(n / 4, kind_at(n % 4))
 }
 
+// ---- the form
+
+// The wanted table of a message, by the form that was stated at the beginning.
+pub fn message_of(form: u32) -> Table
+    ensures { λ r. ⌜ r ≡ Message (formOf form) ⌝ }
+{
+    Table::Message(columns::form_of(form))
+}
+
 // ---- a feed as numbers
 
-fn new_feed(sender: u8) -> Feed
-    ensures { λ r. ⌜ r ≡ newFeed sender ⌝ }
+fn new_feed(sender: u8, form: u32) -> Feed
+    ensures { λ r. ⌜ r ≡ newFeed sender form ⌝ }
 {
     Feed {
         sender,
+        form,
         at: 0,
         machine: State::Open(Kind::Nothing),
         fault: 0,
@@ -131,7 +144,7 @@ pub fn keep(kept: &mut [u64; 48], feed: Feed)
     *kept = [
         1,
         feed.sender as u64,
-        0,
+        feed.form as u64,
         feed.at as u64,
         number,
         feed.fault as u64,
@@ -195,13 +208,14 @@ fn places_in(kept: [u64; 48]) -> [usize; 20]
     places
 }
 
-// What is kept of the lines. The place is a byte.
+// What is kept of the lines, read in their form. The place is a byte.
 fn lines_in(kept: [u64; 48]) -> reader_step::State
-    requires { ⌜ getD kept 9 0 ≤ 2 ⌝ }
+    requires { ⌜ (getD kept 2 0 < 4294967296) × (getD kept 9 0 ≤ 2) ⌝ }
     ensures { λ r. ⌜ r ≡ linesOf kept ⌝ }
 {
     let places = places_in(kept);
-    let shape = rows::restored(Table::Message, kept[16] as usize, kept[17] as usize, places);
+    let table = message_of(kept[2] as u32);
+    let shape = rows::restored(table, kept[16] as usize, kept[17] as usize, places);
     reader_step::State {
         place: kept[9] as u8,
         line: kept[10] as usize,
@@ -214,15 +228,16 @@ fn lines_in(kept: [u64; 48]) -> reader_step::State
     }
 }
 
-// The feed. The sender is a byte too.
+// The feed. The sender is a byte too, the form a word of any number.
 fn feed_in(kept: [u64; 48]) -> Feed
-    requires { ⌜ (getD kept 1 0 < 256) × (getD kept 9 0 ≤ 2) ⌝ }
+    requires { ⌜ (getD kept 1 0 < 256) × (getD kept 2 0 < 4294967296) × (getD kept 9 0 ≤ 2) ⌝ }
     ensures { λ r. ⌜ r ≡ feedOf kept ⌝ }
 {
     let machine = machine_at(kept[4]);
     let lines = lines_in(kept);
     Feed {
         sender: kept[1] as u8,
+        form: kept[2] as u32,
         at: kept[3] as usize,
         machine,
         fault: kept[5] as usize,
@@ -252,7 +267,7 @@ fn clear_behind(kept: [u64; 48]) -> bool
 fn numbers_may(kept: [u64; 48]) -> bool
     ensures { λ r. ⌜ r ≡ numbersMay kept ⌝ }
 {
-    let known = (kept[0] == 1) & (kept[2] == 0) & (kept[4] < 32);
+    let known = (kept[0] == 1) & (kept[2] < 4294967296) & (kept[4] < 32);
     known & (kept[1] < 256) & (kept[9] <= 2) & clear_behind(kept)
 }
 
@@ -280,7 +295,7 @@ fn feed_may(feed: Feed) -> bool
     if 65537 < at {
         return false;
     }
-    let inside = ((feed.sender as u64) < 256) & (at <= 65537);
+    let inside = ((feed.sender as u64) < 256) & ((feed.form as u64) < 4294967296) & (at <= 65537);
     inside
         & (feed.fault <= at)
         & (feed.size <= at)
@@ -305,7 +320,7 @@ fn no_feed() -> Kept
 {
     Kept {
         begun: false,
-        feed: new_feed(0),
+        feed: new_feed(0, 0),
     }
 }
 
@@ -320,8 +335,8 @@ pub fn read(kept: [u64; 48]) -> Kept
 }
 
 // A feed begins, whatever the numbers were.
-pub fn begin(kept: &mut [u64; 48], sender: u8)
-    ensures { λ _. ⌜ now (kept .exit) ≡ begunBy sender ⌝ }
+pub fn begin(kept: &mut [u64; 48], sender: u8, form: u32)
+    ensures { λ _. ⌜ now (kept .exit) ≡ begunBy sender form ⌝ }
 {
-    keep(kept, new_feed(sender));
+    keep(kept, new_feed(sender, form));
 }

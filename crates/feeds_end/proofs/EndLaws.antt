@@ -13,6 +13,7 @@ use Rattle.lists.specs.Rows.{rowsOf}
 use Rattle.lists.proofs.LogicLaws.{and-pass, and-false}
 use Rattle.syntax.specs.Machine.{accepting}
 use Rattle.passage.specs.Layout.{body-wide}
+use Rattle.columns.specs.Tables.{isForm}
 use Rattle.reader.specs.declared.Reading.{Reading}
 use Rattle.reader.specs.declared.Reading.the-variants as Readings
 use Rattle.reader.specs.Rules.{largest}
@@ -21,7 +22,7 @@ use Rattle.feeds.specs.declared.Kept.{Kept}
 use Rattle.feeds.specs.Kept.{feedOf, feedMay, zeros, isBegun, readOf}
 use Rattle.feeds.proofs.KeptLaws.{may-facts}
 use Rattle.calls.specs.declared.Answer.{Answer}
-use Rattle.calls.specs.declared.Answer.the-variants.{Unsound, Owner, StagingShort}
+use Rattle.calls.specs.declared.Answer.the-variants.{Unsound, Owner, StagingShort, UnknownForm}
 use Rattle.calls.specs.declared.Counts.{Counts}
 use Rattle.calls.specs.declared.Outcome.{Outcome}
 use Rattle.calls.specs.declared.Next.the-variants.{Off}
@@ -32,7 +33,7 @@ use Rattle.calls.specs.End.{most-rows, least, stagedRows, allInRange, anyDenied
 use Rattle.calls.specs.inner.Steps.{passedOf}
 use Rattle.calls.proofs.LeavesLaws.{leaves-refused, passed-off}
 use Rattle.messages.specs.inner.Steps.{takenLeaves}
-use Rattle.feeds_end.specs.inner.Steps.{linesReading, stagedRight, foundOr, rightAnswer, takenFrom}
+use Rattle.feeds_end.specs.inner.Steps.{linesReading, stagedRight, foundOr, knownOr, rightAnswer, takenFrom}
 
 -- ---- what was found in the parts
 
@@ -148,6 +149,17 @@ module _ (register staging book table : List ℕ) (c : Counts) where
     unfolding foundOr
     posted n e l h = rw e h
 
+  module _ (f : Feed) where
+    pub form-known : isForm (f .form) ≡ true → (l : Leaves) → l ≡ takenFrom (foundOr register staging book table c f) f staging book table c
+        → l ≡ takenFrom (knownOr register staging book table c f) f staging book table c
+    unfolding knownOr
+    form-known e l h = rw e h
+
+    pub form-unknown : isForm (f .form) ≡ false → (r : Outcome) → r ≡ outcomeOf UnknownForm c
+        → leaves r book table ≡ takenFrom (knownOr register staging book table c f) f staging book table c
+    unfolding knownOr
+    form-unknown e r h = refused f _ UnknownForm (rw e) refl r h
+
   module _ (k : Kept) where
     pub lent-unsound : messageSound register book table c ≡ false → (r : Outcome) → r ≡ outcomeOf Unsound c
         → leaves r book table ≡ takenFrom (rightAnswer register staging book table c k) (k .feed) staging book table c
@@ -160,7 +172,7 @@ module _ (register staging book table : List ℕ) (c : Counts) where
     kept-unsound e u r h = refused (k .feed) _ Unsound (rw (e, u)) refl r h
 
     pub all-right : messageSound register book table c ≡ true → stagedRight staging k ≡ true → (l : Leaves)
-        → l ≡ takenFrom (foundOr register staging book table c (k .feed)) (k .feed) staging book table c
+        → l ≡ takenFrom (knownOr register staging book table c (k .feed)) (k .feed) staging book table c
         → l ≡ takenFrom (rightAnswer register staging book table c k) (k .feed) staging book table c
     unfolding rightAnswer
     all-right e u l h = rw (e, u) h
@@ -171,7 +183,7 @@ module _ (register staging book table : List ℕ) (c : Counts) where
     taken = takenBy (endAnswer register staging book table c kept) (stagedRows staging (feedOf kept)) (feedOf kept .sender) book table c
 
     read-taken : takenFrom (rightAnswer register staging book table c (readOf kept)) (readOf kept .feed) staging book table c ≡ taken
-    unfolding takenFrom rightAnswer stagedRight foundOr readOf endAnswer endSound takenBy
+    unfolding takenFrom rightAnswer stagedRight knownOr foundOr readOf endAnswer endSound takenBy
     read-taken = go (isBegun kept) refl
       where
         go : (b : Bool) → isBegun kept ≡ b → takenFrom (rightAnswer register staging book table c (readOf kept)) (readOf kept .feed) staging book table c ≡ taken
@@ -198,7 +210,7 @@ kept-left a kept e = rw e
 begun-staged : (kept : List ℕ) → isBegun kept ≡ true → feedOf kept .staged ≤ feedOf kept .lines .rows
 unfolding isBegun
 begun-staged kept e =
-    let first = eqb (getD kept 0 0) 1 && eqb (getD kept 2 0) 0 && ltb (getD kept 4 0) 32 && zeros (drop 38 kept) in
+    let first = eqb (getD kept 0 0) 1 && ltb (getD kept 4 0) 32 && zeros (drop 38 kept) in
     may-facts (feedOf kept) (and-pass first (feedMay (feedOf kept)) e .1) .staged
 
 -- a begun feed has no more rows staged than read

@@ -21,7 +21,7 @@ ghost use Rattle.calls.specs.Leaves.{leaves};
 ghost use Rattle.calls.specs.Message.{messageSound};
 ghost use Rattle.calls.specs.End.{most-rows, least, allInRange, anyDenied, readingKept, postAnswer, endWith, cleared, endLeaves};
 ghost use Rattle.calls.specs.Numbers.{endNumbers};
-ghost use Rattle.feeds_end.specs.inner.Steps.{linesReading, stagedRight, foundOr, rightAnswer, takenFrom};
+ghost use Rattle.feeds_end.specs.inner.Steps.{linesReading, stagedRight, foundOr, knownOr, rightAnswer, takenFrom};
 
 // No message has more rows.
 const MOST_ROWS: usize = 2427;
@@ -206,6 +206,27 @@ fn end_read(
     }
 }
 
+// 18, for a form that is not known, before all that was found.
+fn end_known(
+    feed: Feed,
+    register: &[u8],
+    staging: &[u8],
+    book: &mut [u8],
+    table: &mut [u8],
+    counts: Counts,
+) -> Outcome
+    requires { ⌜ messageSound (now register) (now book) (now table) counts ≡ true ⌝ }
+    requires { ⌜ feed .staged ≤ most-rows ⌝ }
+    ensures { λ r. ⌜ leaves r (now (book .exit)) (now (table .exit))
+        ≡ takenFrom (knownOr (now (register .entry)) (now (staging .entry)) (now (book .entry)) (now (table .entry)) counts feed)
+        feed (now (staging .entry)) (now (book .entry)) (now (table .entry)) counts ⌝ }
+{
+    if columns::is_form(feed.form) {
+        return end_read(feed, register, staging, book, table, counts);
+    }
+    calls::unchanged(Answer::UnknownForm, counts)
+}
+
 // 1 before everything else.
 fn end_kept(
     kept: Kept,
@@ -223,7 +244,7 @@ fn end_kept(
     let feed = kept.feed;
     if messages::is_sound(register, book, table, counts) {
         if staged_right(kept, staging) {
-            return end_read(feed, register, staging, book, table, counts);
+            return end_known(feed, register, staging, book, table, counts);
         }
         return calls::unchanged(Answer::Unsound, counts);
     }
@@ -249,6 +270,7 @@ fn is_accepted(answer: Answer) -> bool
         Answer::NoMessage => false,
         Answer::AlreadyWithdrawn => false,
         Answer::OtherSender => false,
+        Answer::UnknownForm => false,
     }
 }
 
@@ -258,7 +280,7 @@ fn clear(kept: &mut [u64; 48])
     *kept = [0; 48];
 }
 
-// The end of a dossier in parts: refusals 1, 2, 3, 15, 4 to 6, 14, 7 and 8, or its number and the new counts. An acceptance leaves the feed's numbers zero, so that it
+// The end of a dossier in parts: refusals 1, 18, 2, 3, 15, 4 to 6, 14, 7 and 8, or its number and the new counts. An acceptance leaves the feed's numbers zero, so that it
 // cannot be ended twice.
 pub fn end(
     register: &[u8],

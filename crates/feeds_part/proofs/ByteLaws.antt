@@ -71,7 +71,7 @@ module _ (register : List ℕ) (x : Fed) (b : ℕ) where
 abbrev within : Fed → Machine.State → ℕ → ℕ → List ℕ → Fed
 within x m a s l =
     let f = x .feed in
-    fedAs (record { sender = f .sender; at = a; machine = m; fault = f .fault; size = s; long = f .long; staged = f .staged; lines = f .lines }) l (x .staging)
+    fedAs (record { sender = f .sender; form = f .form; at = a; machine = m; fault = f .fault; size = s; long = f .long; staged = f .staged; lines = f .lines }) l (x .staging)
 
 within-same : (x : Fed) (m : Machine.State) (a b s t : ℕ) (l k : List ℕ) → a ≡ b → s ≡ t → l ≡ k → within x m a s l ≡ within x m b t k
 within-same x m a b s t l k p q r = ap (λ (n : ℕ). within x m n s l) p ∙ ap (λ (n : ℕ). within x m b n l) q ∙ ap (within x m b t) r

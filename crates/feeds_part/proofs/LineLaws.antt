@@ -17,7 +17,7 @@ use Rattle.syntax_scan.specs.declared.Scanned.the-variants.{To}
 use Rattle.syntax_scan.specs.Scanned.{scanned}
 use Rattle.turbo.specs.Split.{until, past}
 use Rattle.turbo.proofs.SplitLaws.{past-drop}
-use Rattle.columns.specs.declared.Table.the-variants as Tables
+use Rattle.columns.specs.declared.Table.{Table}
 use Rattle.columns.specs.Tables.{rowWidth}
 use Rattle.rows.specs.declared.Shape.{Shape}
 use Rattle.rows.specs.Shape.{IsShape}
@@ -25,7 +25,7 @@ use Rattle.rows.proofs.RestoredLaws.{restored-sound}
 use Rattle.reader_step.specs.declared.State as Lines
 use Rattle.reader_step.specs.Step.{moved, lineStep, lineStaged}
 use Rattle.feeds.specs.declared.Feed.{Feed}
-use Rattle.feeds.specs.Feed.{Fed, noBytes, lineEnded, rowStays, skipped, lineRead, ended, fed}
+use Rattle.feeds.specs.Feed.{Fed, noBytes, messageOf, lineEnded, rowStays, skipped, lineRead, ended, fed}
 use Rattle.feeds.specs.Claims.{FeedFits}
 use Rattle.feeds.proofs.KeptLaws.{May, may-facts}
 use Rattle.feeds.proofs.StepFitLaws.{Lined, Steps, line-steps, line-length}
@@ -38,12 +38,12 @@ pub no-bytes : length noBytes ≡ 4096
 no-bytes = length-replicate {A = ℕ} 4096 0
 
 -- lines of a feed that fits can be read
-pub fits-shape : (f : Feed) → FeedFits f → f .lines .place ≡ 2 → IsShape Tables.Message (f .lines .shape)
+pub fits-shape : (f : Feed) → FeedFits f → f .lines .place ≡ 2 → IsShape (messageOf f) (f .lines .shape)
 fits-shape f fits e =
     let h = f .lines .shape in
     let k = fits .shape in
     let fault = may-facts f (fits .may) .labels e in
-    subst (IsShape Tables.Message) (sym (k .1)) (restored-sound Tables.Message (h .count) (h .stop) (h .places) (ap (λ (x : Shape). x .fault) (sym (k .1)) ∙ fault) (k .0))
+    subst (IsShape (messageOf f)) (sym (k .1)) (restored-sound (messageOf f) (h .count) (h .stop) (h .places) (ap (λ (x : Shape). x .fault) (sym (k .1)) ∙ fault) (k .0))
 
 -- n bytes more in the line
 longer-fits : (f : Feed) (n : ℕ) → FeedFits f → f .at + n ≤ 65537 → FeedFits (longer n f)
@@ -55,7 +55,7 @@ longer-fits f n fits h =
 
 -- ---- a line that is read
 
-pub fits-line : (f : Feed) → FeedFits f → (f .lines .line < 4294967296) × (f .lines .rows < 4294967296) × (f .lines .place ≡ 2 → IsShape Tables.Message (f .lines .shape))
+pub fits-line : (f : Feed) → FeedFits f → (f .lines .line < 4294967296) × (f .lines .rows < 4294967296) × (f .lines .place ≡ 2 → IsShape (messageOf f) (f .lines .shape))
 fits-line f fits =
     let m = may-facts f (fits .may) in
     let a = m .at in
@@ -63,15 +63,19 @@ fits-line f fits =
     let c = m .rows in
     (omega arith, omega arith, fits-shape f fits)
 
-lined : (f : Feed) → FeedFits f → Lined (f .lines)
+-- so too by a table that is the feed's
+pub fits-line-as : (f : Feed) → FeedFits f → (t : Table) → t ≡ messageOf f → (f .lines .line < 4294967296) × (f .lines .rows < 4294967296) × (f .lines .place ≡ 2 → IsShape t (f .lines .shape))
+fits-line-as f fits t is = let l = fits-line f fits in (l .0, l .1, λ e. subst (λ (u : Table). IsShape u (f .lines .shape)) (sym is) (l .2 e))
+
+lined : (f : Feed) → FeedFits f → Lined (messageOf f) (f .lines)
 lined f fits =
     let m = may-facts f (fits .may) in
     record { first = m .first; rows = m .rows; form = m .form; wrong = m .wrong; owner = m .owner; place = m .place; labels = m .labels; shape = fits .shape }
 
-pub after-rows : (register l : List ℕ) (f : Feed) (n : Lines.State) → FeedFits f → n ≡ lineStep Tables.Message register (f .sender) (f .lines) l → (n .rows < 4294967296) × (f .staged < 4294967296)
+pub after-rows : (register l : List ℕ) (f : Feed) (n : Lines.State) → FeedFits f → n ≡ lineStep (messageOf f) register (f .sender) (f .lines) l → (n .rows < 4294967296) × (f .staged < 4294967296)
 after-rows register l f n fits e =
     let m = may-facts f (fits .may) in
-    let t = subst (Steps (f .lines)) (sym e) (line-steps (f .lines) (lined f fits) register (f .sender) l) in
+    let t = subst (Steps (messageOf f) (f .lines)) (sym e) (line-steps (messageOf f) (f .lines) (lined f fits) register (f .sender) l) in
     let a = m .at in
     let b = m .line in
     let c = t .lined .rows in
@@ -80,27 +84,27 @@ after-rows register l f n fits e =
     let h = m .rows in
     (omega arith, omega arith)
 
-pub stays-more : (before after staged room w : ℕ) → w ≡ rowWidth Tables.Message → (ltb before after && (eqb staged before && leb (after * w) room)) ≡ true
-    → staged + 1 ≡ on (rowsStay before after staged room) (staged + 1) staged
-stays-more before after staged room w e t =
-    sym (ap (λ (b : Bool). on b (staged + 1) staged) (ap (λ (v : ℕ). ltb before after && (eqb staged before && leb (after * v) room)) (sym e) ∙ t))
+pub stays-more : (t : Table) (before after staged room w : ℕ) → w ≡ rowWidth t → (ltb before after && (eqb staged before && leb (after * w) room)) ≡ true
+    → staged + 1 ≡ on (rowsStay t before after staged room) (staged + 1) staged
+stays-more t before after staged room w e h =
+    sym (ap (λ (b : Bool). on b (staged + 1) staged) (ap (λ (v : ℕ). ltb before after && (eqb staged before && leb (after * v) room)) (sym e) ∙ h))
 
-pub stays-same : (before after staged room w : ℕ) → w ≡ rowWidth Tables.Message → (ltb before after && (eqb staged before && leb (after * w) room)) ≡ false
-    → staged ≡ on (rowsStay before after staged room) (staged + 1) staged
-stays-same before after staged room w e t =
-    sym (ap (λ (b : Bool). on b (staged + 1) staged) (ap (λ (v : ℕ). ltb before after && (eqb staged before && leb (after * v) room)) (sym e) ∙ t))
+pub stays-same : (t : Table) (before after staged room w : ℕ) → w ≡ rowWidth t → (ltb before after && (eqb staged before && leb (after * w) room)) ≡ false
+    → staged ≡ on (rowsStay t before after staged room) (staged + 1) staged
+stays-same t before after staged room w e h =
+    sym (ap (λ (b : Bool). on b (staged + 1) staged) (ap (λ (v : ℕ). ltb before after && (eqb staged before && leb (after * v) room)) (sym e) ∙ h))
 
-module _ (register l : List ℕ) (f : Feed) (st st′ : List ℕ) (n : Lines.State) (step : n ≡ lineStep Tables.Message register (f .sender) (f .lines) l)
-    (area : st′ ≡ lineStaged Tables.Message register (f .sender) (f .lines) l st) (more : ℕ)
-    (stays : more ≡ on (rowsStay (f .lines .rows) (n .rows) (f .staged) (length st′)) (f .staged + 1) (f .staged)) where
+module _ (register l : List ℕ) (f : Feed) (st st′ : List ℕ) (n : Lines.State) (step : n ≡ lineStep (messageOf f) register (f .sender) (f .lines) l)
+    (area : st′ ≡ lineStaged (messageOf f) register (f .sender) (f .lines) l st) (more : ℕ)
+    (stays : more ≡ on (rowsStay (messageOf f) (f .lines .rows) (n .rows) (f .staged) (length st′)) (f .staged + 1) (f .staged)) where
   same-room : length st′ ≡ length st
-  same-room = ap length area ∙ line-length register (f .sender) (f .lines) st l
+  same-room = ap length area ∙ line-length (messageOf f) register (f .sender) (f .lines) st l
 
   pub line-on : (r : Feed) → r ≡ lineEnded (f .machine) (f .long) more n f → r ≡ lineOn register l f st
   line-on r e =
       e
-      ∙ ap (λ (k : ℕ). lineEnded (f .machine) (f .long) k n f) (stays ∙ ap (λ (k : ℕ). on (rowsStay (f .lines .rows) (n .rows) (f .staged) k) (f .staged + 1) (f .staged)) same-room)
-      ∙ ap (λ (s : Lines.State). lineEnded (f .machine) (f .long) (on (rowStays (f .lines) s (f .staged) st) (f .staged + 1) (f .staged)) s f) step
+      ∙ ap (λ (k : ℕ). lineEnded (f .machine) (f .long) k n f) (stays ∙ ap (λ (k : ℕ). on (rowsStay (messageOf f) (f .lines .rows) (n .rows) (f .staged) k) (f .staged + 1) (f .staged)) same-room)
+      ∙ ap (λ (s : Lines.State). lineEnded (f .machine) (f .long) (on (rowStays (messageOf f) (f .lines) s (f .staged) st) (f .staged + 1) (f .staged)) s f) step
 
 -- ---- what the parts of a line's end ask
 
@@ -173,14 +177,14 @@ module _ (register text : List ℕ) (f : Feed) (line staging after : List ℕ) (
       ∙ sym (ended-over register (f .machine) (heldAll text (lent f line staging)) (sym (ap (λ (x : Feed). x .long) is) ∙ h) (omega arith))
 
   module _ (few : g .size < 4096) (none : g .long ≡ 0) (st : List ℕ) (l : List ℕ) (e : r ≡ lineOn register l g staging)
-      (s : st ≡ lineStaged Tables.Message register (g .sender) (g .lines) l staging) where
+      (s : st ≡ lineStaged (messageOf g) register (g .sender) (g .lines) l staging) where
     pub read-ends : l ≡ take (f .size + length text - 1) (over (f .size) text (over 0 (take (f .size) line) noBytes))
         → lent r after st ≡ ended register (f .machine) (heldAll text (lent f line staging))
     read-ends p =
         let k = take (f .size + length text - 1) (over (f .size) text (over 0 (take (f .size) line) noBytes)) in
         let q : r ≡ lineOn register k (longer (length text) f) staging = e ∙ ap (λ (x : Feed). lineOn register l x staging) is ∙ ap (λ (y : List ℕ). lineOn register y (longer (length text) f) staging) p in
-        let t : st ≡ lineStaged Tables.Message register (f .sender) (f .lines) k staging =
-        s ∙ ap (λ (x : Feed). lineStaged Tables.Message register (x .sender) (x .lines) l staging) is ∙ ap (λ (y : List ℕ). lineStaged Tables.Message register (f .sender) (f .lines) y staging) p in
+        let t : st ≡ lineStaged (messageOf f) register (f .sender) (f .lines) k staging =
+        s ∙ ap (λ (x : Feed). lineStaged (messageOf x) register (x .sender) (x .lines) l staging) is ∙ ap (λ (y : List ℕ). lineStaged (messageOf f) register (f .sender) (f .lines) y staging) p in
         let z = ap (λ (x : Feed). x .size) is in
         lent-none r after st (ap (λ (x : Feed). x .size) q)
         ∙ ap (λ (x : Feed). fedAs x noBytes st) q

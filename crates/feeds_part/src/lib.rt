@@ -14,7 +14,7 @@ ghost use Rattle.syntax.specs.declared.State.{State};
 ghost use Rattle.syntax_scan.specs.declared.Scanned.the-variants.{To};
 ghost use Rattle.syntax_scan.specs.Scanned.{scanned};
 ghost use Rattle.reader_step.specs.Step.{moved, lineStaged};
-ghost use Rattle.feeds.specs.Feed.{noBytes, faulted, lineEnded, ended, fed};
+ghost use Rattle.feeds.specs.Feed.{noBytes, messageOf, faulted, lineEnded, ended, fed};
 ghost use Rattle.feeds.specs.Kept.{readOf};
 ghost use Rattle.feeds.specs.Claims.{FeedFits};
 ghost use Rattle.feeds.specs.Feeding.{feeding, feedLeaves};
@@ -31,6 +31,7 @@ fn lengthen(feed: Feed, more: usize) -> Feed
     let lines = feed.lines;
     Feed {
         sender: feed.sender,
+        form: feed.form,
         at: feed.at + more,
         machine,
         fault: feed.fault,
@@ -48,6 +49,7 @@ fn stand(feed: Feed, machine: State) -> Feed
     let lines = feed.lines;
     Feed {
         sender: feed.sender,
+        form: feed.form,
         at: feed.at,
         machine,
         fault: feed.fault,
@@ -77,6 +79,7 @@ fn move_to(feed: Feed, at: usize) -> Feed
     let lines = feed.lines;
     Feed {
         sender: feed.sender,
+        form: feed.form,
         at,
         machine,
         fault: feed.fault,
@@ -96,6 +99,7 @@ fn at_fault(feed: Feed) -> Feed
     let lines = feed.lines;
     Feed {
         sender: feed.sender,
+        form: feed.form,
         at: feed.at + 1,
         machine,
         fault: feed.at + 1,
@@ -114,6 +118,7 @@ fn end_line(feed: Feed, long: usize, staged: usize, lines: reader_step::State) -
     let machine = feed.machine;
     Feed {
         sender: feed.sender,
+        form: feed.form,
         at: feed.at + 1,
         machine,
         fault: feed.fault,
@@ -138,11 +143,11 @@ fn skip(feed: Feed, long: usize) -> Feed
 }
 
 // How many rows lie in the staging area: one more where a row came, all before it lie there, and it does too.
-fn staged_after(before: usize, after: usize, staged: usize, room: usize) -> usize
+fn staged_after(table: Table, before: usize, after: usize, staged: usize, room: usize) -> usize
     requires { ⌜ (after < 4294967296) × (staged < 4294967296) ⌝ }
-    ensures { λ r. ⌜ r ≡ on (rowsStay before after staged room) (staged + 1) staged ⌝ }
+    ensures { λ r. ⌜ r ≡ on (rowsStay table before after staged room) (staged + 1) staged ⌝ }
 {
-    let end = after * columns::row_width(Table::Message);
+    let end = after * columns::row_width(table);
     if (before < after) & ((staged == before) & (end <= room)) {
         return staged + 1;
     }
@@ -163,19 +168,20 @@ fn without_return(size: usize) -> usize
 fn read_line(feed: Feed, bytes: &[u8], register: &[u8], staging: &mut [u8]) -> Feed
     requires { ⌜ (feed .at < 65536) × FeedFits feed ⌝ }
     ensures feed { λ r. ⌜ r ≡ lineOn (now (register .entry)) (take (length (now (bytes .entry)) - 1) (now (bytes .entry))) feed (now (staging .entry)) ⌝ }
-    ensures area { λ _. ⌜ now (staging .exit) ≡ lineStaged Table.Message (now (register .entry)) (feed .sender) (feed .lines) (take (length (now (bytes .entry)) - 1) (now (bytes .entry))) (now (staging .entry)) ⌝ }
+    ensures area { λ _. ⌜ now (staging .exit) ≡ lineStaged (messageOf feed) (now (register .entry)) (feed .sender) (feed .lines) (take (length (now (bytes .entry)) - 1) (now (bytes .entry))) (now (staging .entry)) ⌝ }
 {
     let end = without_return(bytes.len());
     let before = feed.lines;
+    let table = feeds::message_of(feed.form);
     let after = reader_step::line_step(
-        Table::Message,
+        table,
         before,
         &bytes[..end],
         register,
         feed.sender,
         staging,
     );
-    let more = staged_after(before.rows, after.rows, feed.staged, staging.len());
+    let more = staged_after(table, before.rows, after.rows, feed.staged, staging.len());
     end_line(feed, feed.long, more, after)
 }
 

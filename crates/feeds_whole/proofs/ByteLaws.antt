@@ -19,12 +19,14 @@ use Rattle.syntax.specs.declared.Verdict.the-variants.{Fine, FaultAt}
 use Rattle.syntax.specs.Machine.{step, follow, accepting, run}
 use Rattle.turbo_lines.specs.Lines.{longest-line, isLong}
 use Rattle.turbo_lines.specs.Ended.{withoutReturn, endedLines}
+use Rattle.columns.specs.declared.Table.{Table}
 use Rattle.columns.specs.declared.Table.the-variants as Tables
+use Rattle.columns.specs.Tables.{formOf}
 use Rattle.reader_step.specs.declared.State as Lines
 use Rattle.reader_step.specs.Step.{moved, lineStep, lineStaged}
 use Rattle.reader.specs.Rules.{largest}
 use Rattle.feeds.specs.declared.Feed.{Feed}
-use Rattle.feeds.specs.Feed.{Fed, noBytes, counted, faulted, runsOver, rowStays, skipped, lineRead, ended, heldOn, taken, isOpen, fedByte, fed}
+use Rattle.feeds.specs.Feed.{Fed, noBytes, messageOf, counted, faulted, runsOver, rowStays, skipped, lineRead, ended, heldOn, taken, isOpen, fedByte, fed}
 
 -- A feed byte by byte: what its bytes make of it is what their lines make of it. Assumes nothing.
 
@@ -44,22 +46,22 @@ abbrev pub passed : ℕ → Core → Core
 passed long c = record { long = long; staged = c .staged; lines = moved (c .lines) (c .lines .place); staging = c .staging }
 
 -- a line that is read
-abbrev pub stepped : List ℕ → ℕ → List ℕ → Core → Core
-stepped register sender l c =
-    let after = lineStep Tables.Message register sender (c .lines) l in
+abbrev pub stepped : Table → List ℕ → ℕ → List ℕ → Core → Core
+stepped t register sender l c =
+    let after = lineStep t register sender (c .lines) l in
     record {
       long = c .long;
-      staged = on (rowStays (c .lines) after (c .staged) (c .staging)) (c .staged + 1) (c .staged);
+      staged = on (rowStays t (c .lines) after (c .staged) (c .staging)) (c .staged + 1) (c .staged);
       lines = after;
-      staging = lineStaged Tables.Message register sender (c .lines) l (c .staging);
+      staging = lineStaged t register sender (c .lines) l (c .staging);
     }
 
-unfoldable pub lineOn : List ℕ → ℕ → Core → List ℕ → Core
-lineOn register sender c l = on (eqb (c .long) 0) (on (isLong l) (passed (c .lines .line) c) (stepped register sender l c)) (passed (c .long) c)
+unfoldable pub lineOn : Table → List ℕ → ℕ → Core → List ℕ → Core
+lineOn t register sender c l = on (eqb (c .long) 0) (on (isLong l) (passed (c .lines .line) c) (stepped t register sender l c)) (passed (c .long) c)
 
-unfoldable pub linesOn : List ℕ → ℕ → Core → List (List ℕ) → Core
-linesOn register sender c [] = c
-linesOn register sender c (l ∷ ls) = linesOn register sender (lineOn register sender c l) ls
+unfoldable pub linesOn : Table → List ℕ → ℕ → Core → List (List ℕ) → Core
+linesOn t register sender c [] = c
+linesOn t register sender c (l ∷ ls) = linesOn t register sender (lineOn t register sender c l) ls
 
 -- ---- the unfinished line
 
@@ -93,6 +95,7 @@ room-length = length-replicate {A = ℕ} longest-line 0
 -- y is x with a byte more, behind which the machine stands at t and the bytes h are held
 pub record Turned (x y : Fed) (t : Machine.State) (h : List ℕ) : Type 0 where
   pub sender : y .feed .sender ≡ x .feed .sender
+  pub form : y .feed .form ≡ x .feed .form
   pub at : y .feed .at ≡ x .feed .at + 1
   pub machine : y .feed .machine ≡ t
   pub fault : y .feed .fault ≡ x .feed .fault
@@ -103,10 +106,10 @@ on-turned true x y z t h p q = p
 on-turned false x y z t h p q = q
 
 skipped-turned : (m : Machine.State) (long : ℕ) (x : Fed) → Turned x (skipped m long x) m []
-skipped-turned m long x = record { sender = refl; at = refl; machine = refl; fault = refl; held = record { line = sym (over-nil 0 noBytes); size = refl } }
+skipped-turned m long x = record { sender = refl; form = refl; at = refl; machine = refl; fault = refl; held = record { line = sym (over-nil 0 noBytes); size = refl } }
 
 read-turned : (register : List ℕ) (m : Machine.State) (l : List ℕ) (x : Fed) → Turned x (lineRead register m l x) m []
-read-turned register m l x = record { sender = refl; at = refl; machine = refl; fault = refl; held = record { line = sym (over-nil 0 noBytes); size = refl } }
+read-turned register m l x = record { sender = refl; form = refl; at = refl; machine = refl; fault = refl; held = record { line = sym (over-nil 0 noBytes); size = refl } }
 
 pub ended-turned : (register : List ℕ) (m : Machine.State) (x : Fed) → Turned x (ended register m x) m []
 unfolding ended
@@ -122,6 +125,7 @@ pub held-turned : (m : Machine.State) (b : ℕ) (x : Fed) (h : List ℕ) → Hel
 held-turned m b x h now =
     record {
       sender = refl;
+      form = refl;
       at = refl;
       machine = refl;
       fault = refl;
@@ -134,21 +138,21 @@ held-turned m b x h now =
 
 -- the core after a line's end
 ended-core : (register : List ℕ) (m : Machine.State) (x : Fed) (h : List ℕ) → Held x h
-    → coreOf (ended register m x) ≡ lineOn register (x .feed .sender) (coreOf x) (withoutReturn h)
+    → coreOf (ended register m x) ≡ lineOn (messageOf (x .feed)) register (x .feed .sender) (coreOf x) (withoutReturn h)
 unfolding ended lineOn
 ended-core register m x h now = go (eqb (x .feed .long) 0) (runsOver (x .feed .size)) refl
   where
     go : (a b : Bool) → runsOver (x .feed .size) ≡ b
         → coreOf (on a (on b (skipped m (x .feed .lines .line) x) (lineRead register m (take (x .feed .size - 1) (x .line)) x)) (skipped m (x .feed .long) x))
-        ≡ on a (on (isLong (withoutReturn h)) (passed (x .feed .lines .line) (coreOf x)) (stepped register (x .feed .sender) (withoutReturn h) (coreOf x))) (passed (x .feed .long) (coreOf x))
+        ≡ on a (on (isLong (withoutReturn h)) (passed (x .feed .lines .line) (coreOf x)) (stepped (messageOf (x .feed)) register (x .feed .sender) (withoutReturn h) (coreOf x))) (passed (x .feed .long) (coreOf x))
     go false b e = refl
-    go true true e = ap (λ (t : Bool). on t (passed (x .feed .lines .line) (coreOf x)) (stepped register (x .feed .sender) (withoutReturn h) (coreOf x))) (sym e ∙ ap runsOver (now .size) ∙ long-same h)
+    go true true e = ap (λ (t : Bool). on t (passed (x .feed .lines .line) (coreOf x)) (stepped (messageOf (x .feed)) register (x .feed .sender) (withoutReturn h) (coreOf x))) (sym e ∙ ap runsOver (now .size) ∙ long-same h)
     go true false e =
         let few : length h < longest-line = leb-false longest-line (length h) (sym (ap runsOver (now .size)) ∙ e) in
         let l : take (x .feed .size - 1) (x .line) ≡ withoutReturn h =
         ap (λ (n : ℕ). take (n - 1) (x .line)) (now .size) ∙ ap (take (length h - 1)) (now .line) ∙ held-line h noBytes (omega (arith, room-length)) in
-        ap (λ (k : List ℕ). stepped register (x .feed .sender) k (coreOf x)) l
-        ∙ ap (λ (t : Bool). on t (passed (x .feed .lines .line) (coreOf x)) (stepped register (x .feed .sender) (withoutReturn h) (coreOf x))) (sym e ∙ ap runsOver (now .size) ∙ long-same h)
+        ap (λ (k : List ℕ). stepped (messageOf (x .feed)) register (x .feed .sender) k (coreOf x)) l
+        ∙ ap (λ (t : Bool). on t (passed (x .feed .lines .line) (coreOf x)) (stepped (messageOf (x .feed)) register (x .feed .sender) (withoutReturn h) (coreOf x))) (sym e ∙ ap runsOver (now .size) ∙ long-same h)
 
 -- ---- bytes that are only counted
 
@@ -164,6 +168,7 @@ counted-closed f = go (leb (f .at) largest) (eqb (f .fault) 0)
 pub record Counted (x y : Fed) (n : ℕ) : Type 0 where
   pub core : coreOf y ≡ coreOf x
   pub sender : y .feed .sender ≡ x .feed .sender
+  pub form : y .feed .form ≡ x .feed .form
   pub machine : y .feed .machine ≡ x .feed .machine
   pub fault : y .feed .fault ≡ x .feed .fault
   pub few : x .feed .at + n ≤ largest + 1 → y .feed .at ≡ x .feed .at + n
@@ -186,6 +191,7 @@ counted-one x y n c =
     record {
       core = c .core;
       sender = c .sender;
+      form = c .form;
       machine = c .machine;
       fault = c .fault;
       few = λ h. c .few (omega (arith, k .0 h)) ∙ k .0 h;
@@ -194,7 +200,7 @@ counted-one x y n c =
 
 pub closed-bytes : (register w : List ℕ) (x : Fed) → isOpen (x .feed) ≡ false → Counted x (fed register x w) (length w)
 unfolding fed
-closed-bytes register [] x e = record { core = refl; sender = refl; machine = refl; fault = refl; few = λ h. omega arith; many = λ h. omega arith }
+closed-bytes register [] x e = record { core = refl; sender = refl; form = refl; machine = refl; fault = refl; few = λ h. omega arith; many = λ h. omega arith }
 closed-bytes register (b ∷ w) x e =
     subst (λ (y : Fed). Counted x (fed register y w) (suc (length w))) (sym (closed-byte register x b e))
     (counted-one x (fed register (oneCounted x) w) (length w) (closed-bytes register w (oneCounted x) (counted-closed (x .feed) e)))
@@ -212,28 +218,30 @@ verdictOf f = on (eqb (f .fault) 0) (on (accepting (f .machine)) Fine (FaultAt (
 
 -- y is x with the bytes w more, of which some are lines that end, the first of which has the bytes h already
 pub record After (register : List ℕ) (x y : Fed) (h w : List ℕ) : Type 0 where
-  pub core : coreOf y ≡ linesOn register (x .feed .sender) (coreOf x) (endedLines h (valid (x .feed .machine) w))
+  pub core : coreOf y ≡ linesOn (messageOf (x .feed)) register (x .feed .sender) (coreOf x) (endedLines h (valid (x .feed .machine) w))
   pub verdict : verdictOf (y .feed) ≡ run (x .feed .machine) w (x .feed .at)
   pub at : y .feed .at ≡ x .feed .at + length w
   pub sender : y .feed .sender ≡ x .feed .sender
+  pub form : y .feed .form ≡ x .feed .form
 
 after-none : (register : List ℕ) (x : Fed) (h : List ℕ) → x .feed .fault ≡ 0 → After register x x h []
 unfolding valid endedLines linesOn run
-after-none register x h e = record { core = refl; verdict = rw (eq-eqb (x .feed .fault) 0 e) refl; at = omega arith; sender = refl }
+after-none register x h e = record { core = refl; verdict = rw (eq-eqb (x .feed .fault) 0 e) refl; at = omega arith; sender = refl; form = refl }
 
 -- a byte that the machine takes
 lines-more : (register : List ℕ) (x y z : Fed) (t : Machine.State) (h k : List ℕ) (b : ℕ) (w : List ℕ) → Turned x y t k → step (x .feed .machine) b ≡ To t
-    → linesOn register (x .feed .sender) (coreOf y) (endedLines k (valid t w)) ≡ linesOn register (x .feed .sender) (coreOf x) (endedLines h (b ∷ valid t w))
+    → linesOn (messageOf (x .feed)) register (x .feed .sender) (coreOf y) (endedLines k (valid t w)) ≡ linesOn (messageOf (x .feed)) register (x .feed .sender) (coreOf x) (endedLines h (b ∷ valid t w))
     → After register y z k w → After register x z h (b ∷ w)
 unfolding valid run
 lines-more register x y z t h k b w now e more rest =
     record {
       core =
           rest .core
-          ∙ ap (λ (n : ℕ). linesOn register n (coreOf y) (endedLines k (valid (y .feed .machine) w))) (now .sender)
-          ∙ ap (λ (s : Machine.State). linesOn register (x .feed .sender) (coreOf y) (endedLines k (valid s w))) (now .machine)
+          ∙ ap (λ (n : ℕ). linesOn (Tables.Message (formOf n)) register (y .feed .sender) (coreOf y) (endedLines k (valid (y .feed .machine) w))) (now .form)
+          ∙ ap (λ (n : ℕ). linesOn (messageOf (x .feed)) register n (coreOf y) (endedLines k (valid (y .feed .machine) w))) (now .sender)
+          ∙ ap (λ (s : Machine.State). linesOn (messageOf (x .feed)) register (x .feed .sender) (coreOf y) (endedLines k (valid s w))) (now .machine)
           ∙ more
-          ∙ sym (ap (λ (n : Next). linesOn register (x .feed .sender) (coreOf x) (endedLines h (follow n (λ u. b ∷ valid u w) []))) e);
+          ∙ sym (ap (λ (n : Next). linesOn (messageOf (x .feed)) register (x .feed .sender) (coreOf x) (endedLines h (follow n (λ u. b ∷ valid u w) []))) e);
       verdict =
           rest .verdict
           ∙ ap (λ (s : Machine.State). run s w (y .feed .at)) (now .machine)
@@ -241,17 +249,18 @@ lines-more register x y z t h k b w now e more rest =
           ∙ sym (ap (λ (n : Next). follow n (λ u. run u w (x .feed .at + 1)) (FaultAt (x .feed .at))) e);
       at = omega (arith, rest .at, now .at);
       sender = rest .sender ∙ now .sender;
+      form = rest .form ∙ now .form;
     }
 
 -- at a line's end, and inside one
 ended-more : (register : List ℕ) (x : Fed) (t : Machine.State) (h : List ℕ) (b : ℕ) (v : List ℕ) → Held x h → b ≡ 10
-    → linesOn register (x .feed .sender) (coreOf (ended register t x)) (endedLines [] v) ≡ linesOn register (x .feed .sender) (coreOf x) (endedLines h (b ∷ v))
+    → linesOn (messageOf (x .feed)) register (x .feed .sender) (coreOf (ended register t x)) (endedLines [] v) ≡ linesOn (messageOf (x .feed)) register (x .feed .sender) (coreOf x) (endedLines h (b ∷ v))
 unfolding endedLines linesOn
 ended-more register x t h b v now e =
-    rw (eq-eqb b 10 e) (ap (λ (c : Core). linesOn register (x .feed .sender) c (endedLines [] v)) (ended-core register t x h now))
+    rw (eq-eqb b 10 e) (ap (λ (c : Core). linesOn (messageOf (x .feed)) register (x .feed .sender) c (endedLines [] v)) (ended-core register t x h now))
 
 held-more : (register : List ℕ) (x : Fed) (t : Machine.State) (h : List ℕ) (b : ℕ) (v : List ℕ) → (b ≡ 10 → ⊥)
-    → linesOn register (x .feed .sender) (coreOf (heldOn t b x)) (endedLines (h ++ b ∷ []) v) ≡ linesOn register (x .feed .sender) (coreOf x) (endedLines h (b ∷ v))
+    → linesOn (messageOf (x .feed)) register (x .feed .sender) (coreOf (heldOn t b x)) (endedLines (h ++ b ∷ []) v) ≡ linesOn (messageOf (x .feed)) register (x .feed .sender) (coreOf x) (endedLines h (b ∷ v))
 unfolding endedLines
 held-more register x t h b v e = rw (ne-eqb b 10 e) refl
 
@@ -261,13 +270,14 @@ after-fault : (register : List ℕ) (x z : Fed) (h : List ℕ) (b : ℕ) (w : Li
 unfolding valid run endedLines linesOn
 after-fault register x z h b w e few c =
     record {
-      core = c .core ∙ sym (ap (λ (n : Next). linesOn register (x .feed .sender) (coreOf x) (endedLines h (follow n (λ u. b ∷ valid u w) []))) e);
+      core = c .core ∙ sym (ap (λ (n : Next). linesOn (messageOf (x .feed)) register (x .feed .sender) (coreOf x) (endedLines h (follow n (λ u. b ∷ valid u w) []))) e);
       verdict =
           ap (λ (n : ℕ). on (eqb n 0) (on (accepting (z .feed .machine)) Fine (FaultAt (z .feed .at))) (FaultAt (n - 1))) (c .fault)
           ∙ fault-one (x .feed .at) (on (accepting (z .feed .machine)) Fine (FaultAt (z .feed .at)))
           ∙ sym (ap (λ (n : Next). follow n (λ u. run u w (x .feed .at + 1)) (FaultAt (x .feed .at))) e);
       at = let k = c .few (omega arith) in omega arith;
       sender = c .sender;
+      form = c .form;
     }
   where
     fault-one : (n : ℕ) (v : Verdict) → on (eqb (n + 1) 0) v (FaultAt (n + 1 - 1)) ≡ FaultAt n

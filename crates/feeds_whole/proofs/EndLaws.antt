@@ -26,9 +26,10 @@ use Rattle.turbo_lines.proofs.LongLaws.{none-long, front-whole, all-short}
 use Rattle.turbo_lines.specs.Claims.{Short}
 use Rattle.passage.specs.Layout.{body-wide, ownerOf}
 use Rattle.passage.specs.Ranges.{updateInRange}
+use Rattle.columns.specs.declared.Form.{Form}
 use Rattle.columns.specs.declared.Table.the-variants.{Message}
-use Rattle.columns.specs.Cell.{width}
-use Rattle.columns.specs.Tables.{messageColumns, columnsIn, rowWidth, rowOf}
+use Rattle.columns.specs.Tables.{isForm, formOf, rowWidth, rowOf}
+use Rattle.columns.proofs.FormLaws.{message-wide}
 use Rattle.register.specs.Register.{grants}
 use Rattle.reader.specs.declared.Reading.{Reading}
 use Rattle.reader.specs.declared.Reading.the-variants as Readings
@@ -43,10 +44,10 @@ use Rattle.feeds.specs.declared.Feed.{Feed}
 use Rattle.feeds.specs.Feed.{Fed}
 use Rattle.feeds.specs.Kept.{feedOf, isBegun}
 use Rattle.calls.specs.declared.Answer.{Answer}
-use Rattle.calls.specs.declared.Answer.the-variants.{Unsound, Owner, StagingShort}
+use Rattle.calls.specs.declared.Answer.the-variants.{Unsound, Owner, StagingShort, UnknownForm}
 use Rattle.calls.specs.declared.Counts.{Counts}
 use Rattle.calls.specs.Answers.{unlessRefused}
-use Rattle.calls.specs.Message.{messageSound, messageRows, roomFor}
+use Rattle.calls.specs.Message.{messageSound, messageTable, messageRows, roomFor}
 use Rattle.calls.specs.End.{least, stagedRows, allInRange, anyDenied, fallsShort, most-rows, endSound, readingKept, postAnswer, endAnswer}
 use Rattle.turbo_lines.specs.Ended.{endedLines}
 use Rattle.feeds_whole.specs.Parts.{validFront}
@@ -60,9 +61,8 @@ use Rattle.feeds_whole.proofs.WholeLaws.{Whole, front-fine, front-few}
 
 -- ---- rows laid in an area
 
-wide-message : rowWidth Message ≡ body-wide
-unfolding rowWidth columnsIn messageColumns width
-wide-message = refl
+wide-message : (f : Form) → rowWidth (Message f) ≡ body-wide
+wide-message f = message-wide f
 
 over-rows : (w : ℕ) (rs : List (List ℕ)) (st : List ℕ) → Wide w rs → length rs * w ≤ length st → rowsOf w (length rs) (over 0 (flat rs) st) ≡ rs
 unfolding over
@@ -96,19 +96,19 @@ each-on : (P : List ℕ → Type 0) (b : Bool) (rs : List (List ℕ)) → Each P
 each-on P true rs h = h
 each-on P false rs h = tt
 
-rows-granted : (register : List ℕ) (sender : ℕ) (xs : List Item) → Each (λ (r : List ℕ). grants register sender (ownerOf r) ≡ true) (rowsUpTo Message register sender xs)
+rows-granted : (f : Form) (register : List ℕ) (sender : ℕ) (xs : List Item) → Each (λ (r : List ℕ). grants register sender (ownerOf r) ≡ true) (rowsUpTo (Message f) register sender xs)
 unfolding rowsUpTo
-rows-granted register sender [] = tt
-rows-granted register sender (head n ls ∷ xs) =
-    each-on (λ (r : List ℕ). grants register sender (ownerOf r) ≡ true) (fine Message register sender (head n ls)) (rowsUpTo Message register sender xs) (rows-granted register sender xs)
-rows-granted register sender (row n ls l ∷ xs) = go (grants register sender (ownerOf (rowOf Message ls l))) refl (rows-granted register sender xs)
+rows-granted f register sender [] = tt
+rows-granted f register sender (head n ls ∷ xs) =
+    each-on (λ (r : List ℕ). grants register sender (ownerOf r) ≡ true) (fine (Message f) register sender (head n ls)) (rowsUpTo (Message f) register sender xs) (rows-granted f register sender xs)
+rows-granted f register sender (row n ls l ∷ xs) = go (grants register sender (ownerOf (rowOf (Message f) ls l))) refl (rows-granted f register sender xs)
   where
-    go : (b : Bool) → grants register sender (ownerOf (rowOf Message ls l)) ≡ b → Each (λ (r : List ℕ). grants register sender (ownerOf r) ≡ true) (rowsUpTo Message register sender xs)
+    go : (b : Bool) → grants register sender (ownerOf (rowOf (Message f) ls l)) ≡ b → Each (λ (r : List ℕ). grants register sender (ownerOf r) ≡ true) (rowsUpTo (Message f) register sender xs)
         → Each (λ (r : List ℕ). grants register sender (ownerOf r) ≡ true)
-        (on (not (formBad Message (row n ls l)) && (not (isWrong Message (row n ls l)) && not (not b))) (rowOf Message ls l ∷ rowsUpTo Message register sender xs) [])
+        (on (not (formBad (Message f) (row n ls l)) && (not (isWrong (Message f) (row n ls l)) && not (not b))) (rowOf (Message f) ls l ∷ rowsUpTo (Message f) register sender xs) [])
     go true e h =
-        each-on (λ (r : List ℕ). grants register sender (ownerOf r) ≡ true) (not (formBad Message (row n ls l)) && (not (isWrong Message (row n ls l)) && true)) (rowOf Message ls l ∷ rowsUpTo Message register sender xs) (e, h)
-    go false e h = rw (and-false (not (isWrong Message (row n ls l))), and-false (not (formBad Message (row n ls l)))) tt
+        each-on (λ (r : List ℕ). grants register sender (ownerOf r) ≡ true) (not (formBad (Message f) (row n ls l)) && (not (isWrong (Message f) (row n ls l)) && true)) (rowOf (Message f) ls l ∷ rowsUpTo (Message f) register sender xs) (e, h)
+    go false e h = rw (and-false (not (isWrong (Message f) (row n ls l))), and-false (not (formBad (Message f) (row n ls l)))) tt
 
 -- ---- the reading
 
@@ -161,20 +161,20 @@ least-few a b = go (leb a b) refl
     go true e = omega arith
     go false e = let k : b < a = leb-false a b e in omega arith
 
-module _ (register : List ℕ) (sender : ℕ) (staging d : List ℕ) (y : Fed) (whole : Whole register sender staging d y) where
+module _ (register : List ℕ) (sender form : ℕ) (staging d : List ℕ) (y : Fed) (whole : Whole register sender form staging d y) where
   abbrev ls : List (List ℕ)
   ls = endedLines [] (validFront d)
 
   abbrev rs : List (List ℕ)
-  rs = rowsUpTo Message register sender (items Message outside 1 (shortFront ls))
+  rs = rowsUpTo (messageTable form) register sender (items (messageTable form) outside 1 (shortFront ls))
 
   abbrev kept-rows : ℕ
   kept-rows = y .feed .lines .rows
 
-  final : Final register sender (shortFront ls) staging (firstLong 1 ls) (coreOf y)
-  final = subst (Final register sender (shortFront ls) staging (firstLong 1 ls)) (sym (whole .core)) (lines-final register sender staging ls)
+  final : Final (messageTable form) register sender (shortFront ls) staging (firstLong 1 ls) (coreOf y)
+  final = subst (Final (messageTable form) register sender (shortFront ls) staging (firstLong 1 ls)) (sym (whole .core)) (lines-final (messageTable form) register sender staging ls)
 
-  pub area-holds : y .staging ≡ laid Message rs staging
+  pub area-holds : y .staging ≡ laid (messageTable form) rs staging
   area-holds = final .staging
 
   area-length : length (y .staging) ≡ length staging
@@ -185,7 +185,7 @@ module _ (register : List ℕ) (sender : ℕ) (staging d : List ℕ) (y : Fed) (
   room = length staging / body-wide
 
   staged-is : y .feed .staged ≡ least kept-rows room
-  staged-is = final .staged ∙ ap (λ (w : ℕ). least kept-rows (length staging / w)) wide-message
+  staged-is = final .staged ∙ ap (λ (w : ℕ). least kept-rows (length staging / w)) (wide-message (formOf form))
 
   pub staged-rows : stagedRows (y .staging) (y .feed) ≡ take (least kept-rows room) rs
   unfolding stagedRows
@@ -193,27 +193,27 @@ module _ (register : List ℕ) (sender : ℕ) (staging d : List ℕ) (y : Fed) (
       let k = least kept-rows room in
       let e : least (y .feed .staged) (length (y .staging) / body-wide) ≡ k =
       ap (λ (n : ℕ). least n (length (y .staging) / body-wide)) staged-is ∙ ap (λ (n : ℕ). least k (n / body-wide)) area-length ∙ least-low k room (least-most kept-rows room) in
-      let wide : Wide body-wide rs = subst (λ (w : ℕ). Wide w rs) wide-message (rows-wide Message register sender (items Message outside 1 (shortFront ls))) in
+      let wide : Wide body-wide rs = subst (λ (w : ℕ). Wide w rs) (wide-message (formOf form)) (rows-wide (messageTable form) register sender (items (messageTable form) outside 1 (shortFront ls))) in
       ap (λ (n : ℕ). rowsOf body-wide n (y .staging)) e
-      ∙ ap (rowsOf body-wide k) (area-holds ∙ ap (λ (w : ℕ). over 0 (flat (take (length staging / w) rs)) staging) wide-message)
+      ∙ ap (rowsOf body-wide k) (area-holds ∙ ap (λ (w : ℕ). over 0 (flat (take (length staging / w) rs)) staging) (wide-message (formOf form)))
       ∙ laid-rows body-wide rs staging k (omega arith) wide (omega (arith, least-few kept-rows room, final .few)) (least-most kept-rows room)
 
   in-range : allInRange (stagedRows (y .staging) (y .feed)) ≡ true
   in-range =
       ap allInRange staged-rows
-      ∙ each-in-range (take (least kept-rows room) rs) (each-take (λ (r : List ℕ). updateInRange r ≡ true) (least kept-rows room) rs (rows-in-range register sender (items Message outside 1 (shortFront ls))))
+      ∙ each-in-range (take (least kept-rows room) rs) (each-take (λ (r : List ℕ). updateInRange r ≡ true) (least kept-rows room) rs (rows-in-range (formOf form) register sender (items (messageTable form) outside 1 (shortFront ls))))
 
   granted : anyDenied register (y .feed .sender) (stagedRows (y .staging) (y .feed)) ≡ false
   granted =
       ap (λ (n : ℕ). anyDenied register n (stagedRows (y .staging) (y .feed))) (whole .sent)
       ∙ ap (anyDenied register sender) staged-rows
       ∙ each-granted register sender (take (least kept-rows room) rs)
-      (each-take (λ (r : List ℕ). grants register sender (ownerOf r) ≡ true) (least kept-rows room) rs (rows-granted register sender (items Message outside 1 (shortFront ls))))
+      (each-take (λ (r : List ℕ). grants register sender (ownerOf r) ≡ true) (least kept-rows room) rs (rows-granted (formOf form) register sender (items (messageTable form) outside 1 (shortFront ls))))
 
   few-rows : leb kept-rows most-rows ≡ true
   few-rows =
       let k = front-few d in
-      let m : length rs ≤ 2427 = subst (λ (v : List ℕ). length (rowsUpTo Message register sender (items Message outside 1 (shortFront (endedLines [] v)))) ≤ 2427) (sym (k .2)) (rows-few register sender (k .0) (k .1)) in
+      let m : length rs ≤ 2427 = subst (λ (v : List ℕ). length (rowsUpTo (messageTable form) register sender (items (messageTable form) outside 1 (shortFront (endedLines [] v)))) ≤ 2427) (sym (k .2)) (rows-few (formOf form) register sender (k .0) (k .1)) in
       le-leb kept-rows most-rows (omega (arith, m, final .few))
 
   -- ---- a dossier without a fault of syntax
@@ -228,11 +228,11 @@ module _ (register : List ℕ) (sender : ℕ) (staging d : List ℕ) (y : Fed) (
     all-lines z = ap shortFront lines-are ∙ front-whole (lines d) (none-long 1 (lines d) (omega arith) z)
 
     answers : firstLong 1 (lines d) ≡ 0
-        → answeredBy (y .feed .lines .form) (y .feed .lines .wrong) (y .feed .lines .column) (y .feed .lines .owner) kept-rows ≡ answerTo Message register sender (itemsOf Message d)
-    answers z = final .answer (long-is ∙ z) ∙ ap (λ (x : List (List ℕ)). answerTo Message register sender (items Message outside 1 x)) (all-lines z)
+        → answeredBy (y .feed .lines .form) (y .feed .lines .wrong) (y .feed .lines .column) (y .feed .lines .owner) kept-rows ≡ answerTo (messageTable form) register sender (itemsOf (messageTable form) d)
+    answers z = final .answer (long-is ∙ z) ∙ ap (λ (x : List (List ℕ)). answerTo (messageTable form) register sender (items (messageTable form) outside 1 x)) (all-lines z)
 
     tail-is : unlessLong (y .feed .long) (answeredBy (y .feed .lines .form) (y .feed .lines .wrong) (y .feed .lines .column) (y .feed .lines .owner) kept-rows)
-        ≡ unlessLong (firstLong 1 (lines d)) (answerTo Message register sender (itemsOf Message d))
+        ≡ unlessLong (firstLong 1 (lines d)) (answerTo (messageTable form) register sender (itemsOf (messageTable form) d))
     tail-is =
         ap (λ (n : ℕ). unlessLong n (answeredBy (y .feed .lines .form) (y .feed .lines .wrong) (y .feed .lines .column) (y .feed .lines .owner) kept-rows)) long-is
         ∙ long-then (firstLong 1 (lines d)) _ _ answers
@@ -242,14 +242,14 @@ module _ (register : List ℕ) (sender : ℕ) (staging d : List ℕ) (y : Fed) (
   abbrev later : Reading
   later = unlessLong (y .feed .long) (answeredBy (y .feed .lines .form) (y .feed .lines .wrong) (y .feed .lines .column) (y .feed .lines .owner) kept-rows)
 
-  reading-is : readingKept (y .feed) ≡ readingOf Message register sender d
+  reading-is : readingKept (y .feed) ≡ readingOf (messageTable form) register sender d
   unfolding readingKept readingOf
   reading-is = go (ltb largest (length d)) refl
     where
       go : (b : Bool) → ltb largest (length d) ≡ b
           → on (ltb largest (y .feed .at)) Readings.TooLong (on (isLine (y .feed .fault)) (Readings.Syntax (y .feed .fault - 1)) (on (not (accepting (y .feed .machine))) (Readings.Syntax (y .feed .at)) later))
           ≡ on b Readings.TooLong
-          (on (faults (fault d)) (Readings.Syntax (faultPlace (fault d))) (unlessLong (firstLong 1 (lines d)) (answerTo Message register sender (itemsOf Message d))))
+          (on (faults (fault d)) (Readings.Syntax (faultPlace (fault d))) (unlessLong (firstLong 1 (lines d)) (answerTo (messageTable form) register sender (itemsOf (messageTable form) d))))
       go true e = rw (lt-ltb largest (y .feed .at) (whole .over (ltb-true largest (length d) e))) refl
       go false e =
           let small : length d ≤ largest = ltb-false largest (length d) e in
@@ -265,53 +265,56 @@ module _ (register : List ℕ) (sender : ℕ) (staging d : List ℕ) (y : Fed) (
         ∙ rw (begun, few-rows, in-range) (and-true (messageSound register book table c))
 
     -- where nothing is refused in the dossier
-    module _ (n : ℕ) (e : readingOf Message register sender d ≡ Readings.Rows n) where
+    module _ (n : ℕ) (e : readingOf (messageTable form) register sender d ≡ Readings.Rows n) where
       short-lines : firstLong 1 (lines d) ≡ 0
-      short-lines = let k = reading-looked Message register sender d n e in none-found (lines d) (k .2)
+      short-lines = let k = reading-looked (messageTable form) register sender d n e in none-found (lines d) (k .2)
         where
           none-found : (x : List (List ℕ)) → Each Short x → firstLong 1 x ≡ 0
           none-found x h = all-short 1 x h
 
-      rows-are : rs ≡ messageRows d
+      rows-are : rs ≡ messageRows form d
       unfolding messageRows
       rows-are =
-          let k = reading-looked Message register sender d n e in
-          ap (λ (x : List (List ℕ)). rowsUpTo Message register sender (items Message outside 1 x)) (all-lines (k .0) (k .1) short-lines) ∙ accepted-rows Message register sender d n e
+          let k = reading-looked (messageTable form) register sender d n e in
+          ap (λ (x : List (List ℕ)). rowsUpTo (messageTable form) register sender (items (messageTable form) outside 1 x)) (all-lines (k .0) (k .1) short-lines) ∙ accepted-rows (messageTable form) register sender d n e
 
-      count-is : kept-rows ≡ length (messageRows d)
+      count-is : kept-rows ≡ length (messageRows form d)
       unfolding messageRows
       count-is =
-          let k = reading-looked Message register sender d n e in
-          answered-rows (y .feed .lines .form) (y .feed .lines .wrong) (y .feed .lines .column) (y .feed .lines .owner) kept-rows n (answers (k .0) (k .1) short-lines ∙ k .3) ∙ rows-counted Message register sender d n e
+          let k = reading-looked (messageTable form) register sender d n e in
+          answered-rows (y .feed .lines .form) (y .feed .lines .wrong) (y .feed .lines .column) (y .feed .lines .owner) kept-rows n (answers (k .0) (k .1) short-lines ∙ k .3) ∙ rows-counted (messageTable form) register sender d n e
 
       -- and they fit
-      pub all-staged : length (messageRows d) ≤ room → stagedRows (y .staging) (y .feed) ≡ messageRows d
+      pub all-staged : length (messageRows form d) ≤ room → stagedRows (y .staging) (y .feed) ≡ messageRows form d
       all-staged k =
           let m : least kept-rows room ≡ kept-rows = least-low kept-rows room (omega (arith, count-is, k)) in
-          staged-rows ∙ ap (λ (i : ℕ). take i rs) m ∙ ap (take kept-rows) rows-are ∙ take-all kept-rows (messageRows d) (omega (arith, count-is))
+          staged-rows ∙ ap (λ (i : ℕ). take i rs) m ∙ ap (take kept-rows) rows-are ∙ take-all kept-rows (messageRows form d) (omega (arith, count-is))
 
-      post-is : postAnswer register (y .staging) book table c (y .feed) ≡ on (ltb room (length (messageRows d))) StagingShort (roomFor (messageRows d) book table c)
+      post-is : postAnswer register (y .staging) book table c (y .feed) ≡ on (ltb room (length (messageRows form d))) StagingShort (roomFor (messageRows form d) book table c)
       unfolding postAnswer
-      post-is = ap (λ (b : Bool). on b (Owner 0) (on (fallsShort (y .staging) (y .feed)) StagingShort (roomFor (stagedRows (y .staging) (y .feed)) book table c))) granted ∙ go (ltb room (length (messageRows d))) refl
+      post-is = ap (λ (b : Bool). on b (Owner 0) (on (fallsShort (y .staging) (y .feed)) StagingShort (roomFor (stagedRows (y .staging) (y .feed)) book table c))) granted ∙ go (ltb room (length (messageRows form d))) refl
         where
-          go : (b : Bool) → ltb room (length (messageRows d)) ≡ b → on (fallsShort (y .staging) (y .feed)) StagingShort (roomFor (stagedRows (y .staging) (y .feed)) book table c) ≡ on b StagingShort (roomFor (messageRows d) book table c)
+          go : (b : Bool) → ltb room (length (messageRows form d)) ≡ b → on (fallsShort (y .staging) (y .feed)) StagingShort (roomFor (stagedRows (y .staging) (y .feed)) book table c) ≡ on b StagingShort (roomFor (messageRows form d) book table c)
           go true h =
-              let k : room < length (messageRows d) = ltb-true room (length (messageRows d)) h in
+              let k : room < length (messageRows form d) = ltb-true room (length (messageRows form d)) h in
               let m : y .feed .staged ≡ room = staged-is ∙ least-high kept-rows room (omega (arith, count-is)) in
               rw (lt-ltb (y .feed .staged) kept-rows (omega (arith, m, count-is, k))) refl
           go false h =
-              let k : length (messageRows d) ≤ room = ltb-false room (length (messageRows d)) h in
+              let k : length (messageRows form d) ≤ room = ltb-false room (length (messageRows form d)) h in
               let m : least kept-rows room ≡ kept-rows = least-low kept-rows room (omega (arith, count-is)) in
               let fits : kept-rows * body-wide ≤ length (y .staging) = subst (λ (x : ℕ). kept-rows * body-wide ≤ x) (sym area-length) (le-div-iff-mul-le (omega arith) .0 (let z : kept-rows ≤ room = omega (arith, count-is, k) in z)) in
               rw (le-ltb (y .feed .staged) kept-rows (omega (arith, staged-is, m)), le-ltb (length (y .staging)) (kept-rows * body-wide) fits) (ap (λ (x : List (List ℕ)). roomFor x book table c) (all-staged k))
 
     pub end-is : endAnswer register (y .staging) book table c kept
         ≡ on (messageSound register book table c)
-        (unlessRefused 0 (readingOf Message register sender d) (on (ltb room (length (messageRows d))) StagingShort (roomFor (messageRows d) book table c)))
+        (on (isForm form)
+        (unlessRefused 0 (readingOf (messageTable form) register sender d) (on (ltb room (length (messageRows form d))) StagingShort (roomFor (messageRows form d) book table c)))
+        UnknownForm)
         Unsound
     unfolding endAnswer
     end-is =
-        ap (λ (b : Bool). on b (unlessRefused 0 (readingKept (feedOf kept)) (postAnswer register (y .staging) book table c (feedOf kept))) Unsound) sound-is
-        ∙ ap (λ (f : Feed). on (messageSound register book table c) (unlessRefused 0 (readingKept f) (postAnswer register (y .staging) book table c f)) Unsound) is
-        ∙ ap (λ (r : Reading). on (messageSound register book table c) (unlessRefused 0 r (postAnswer register (y .staging) book table c (y .feed))) Unsound) reading-is
-        ∙ ap (λ (a : Answer). on (messageSound register book table c) a Unsound) (next-same (readingOf Message register sender d) _ _ post-is)
+        ap (λ (b : Bool). on b (on (isForm (feedOf kept .form)) (unlessRefused 0 (readingKept (feedOf kept)) (postAnswer register (y .staging) book table c (feedOf kept))) UnknownForm) Unsound) sound-is
+        ∙ ap (λ (f : Feed). on (messageSound register book table c) (on (isForm (f .form)) (unlessRefused 0 (readingKept f) (postAnswer register (y .staging) book table c f)) UnknownForm) Unsound) is
+        ∙ ap (λ (n : ℕ). on (messageSound register book table c) (on (isForm n) (unlessRefused 0 (readingKept (y .feed)) (postAnswer register (y .staging) book table c (y .feed))) UnknownForm) Unsound) (whole .stated)
+        ∙ ap (λ (r : Reading). on (messageSound register book table c) (on (isForm form) (unlessRefused 0 r (postAnswer register (y .staging) book table c (y .feed))) UnknownForm) Unsound) reading-is
+        ∙ ap (λ (a : Answer). on (messageSound register book table c) (on (isForm form) a UnknownForm) Unsound) (next-same (readingOf (messageTable form) register sender d) _ _ post-is)

@@ -158,33 +158,33 @@ parts-fed register (p ∷ ps) x t =
     ∙ parts-fed register ps (fed register x p) (tells-fed register p x t)
     ∙ ap lentOf (sym (fed-append register p (flat ps) x))
 
-module _ (register : List ℕ) (sender : ℕ) (line staging : List ℕ) (low : sender < 256) where
-  start-tells : Tells (start sender staging)
-  start-tells = record { fits = new-fits sender low; long = room-length; held = ([], start-held sender staging) }
+module _ (register : List ℕ) (sender form : ℕ) (line staging : List ℕ) (low : sender < 256) (small : form < 4294967296) where
+  start-tells : Tells (start sender form staging)
+  start-tells = record { fits = new-fits sender form low small; long = room-length; held = ([], start-held sender form staging) }
 
-  start-in : fedIn (begunBy sender) line staging ≡ start sender staging
+  start-in : fedIn (begunBy sender form) line staging ≡ start sender form staging
   unfolding fedIn begunBy
   start-in =
-      let k = kept-read (newFeed sender) (new-fits sender low) in
-      ap (λ (f : Feed). fedWith f (over 0 (take (f .size) line) noBytes) staging) (k .1) ∙ ap (λ (l : List ℕ). fedWith (newFeed sender) l staging) (over-nil 0 noBytes)
+      let k = kept-read (newFeed sender form) (new-fits sender form low small) in
+      ap (λ (f : Feed). fedWith f (over 0 (take (f .size) line) noBytes) staging) (k .1) ∙ ap (λ (l : List ℕ). fedWith (newFeed sender form) l staging) (over-nil 0 noBytes)
 
-  start-begun : isBegun (begunBy sender) ≡ true
+  start-begun : isBegun (begunBy sender form) ≡ true
   unfolding begunBy
-  start-begun = kept-read (newFeed sender) (new-fits sender low) .0
+  start-begun = kept-read (newFeed sender form) (new-fits sender form low small) .0
 
   -- the numbers and the staging area, once all parts came
   pub parts-from : (parts : List (List ℕ))
-      → let y = fed register (start sender staging) (flat parts) in
-      (fedFrom register sender line staging parts .kept ≡ keptOf (y .feed)) × (fedFrom register sender line staging parts .staging ≡ y .staging)
+      → let y = fed register (start sender form staging) (flat parts) in
+      (fedFrom register sender form line staging parts .kept ≡ keptOf (y .feed)) × (fedFrom register sender form line staging parts .staging ≡ y .staging)
   unfolding fedParts flat fed begunBy
   parts-from [] = (refl, refl)
   parts-from (p ∷ ps) =
-      let z = fed register (start sender staging) p in
-      let e = ap (λ (f : Feeding). fedParts register (lentAfter f) ps) (fed-begun p register staging line (begunBy sender) start-begun ∙ ap (λ (x : Fed). fedOut (fed register x p)) start-in)
-      ∙ parts-fed register ps z (tells-fed register p (start sender staging) start-tells)
-      ∙ ap lentOf (sym (fed-append register p (flat ps) (start sender staging))) in
+      let z = fed register (start sender form staging) p in
+      let e = ap (λ (f : Feeding). fedParts register (lentAfter f) ps) (fed-begun p register staging line (begunBy sender form) start-begun ∙ ap (λ (x : Fed). fedOut (fed register x p)) start-in)
+      ∙ parts-fed register ps z (tells-fed register p (start sender form staging) start-tells)
+      ∙ ap lentOf (sym (fed-append register p (flat ps) (start sender form staging))) in
       (ap (λ (m : Lent). m .kept) e, ap (λ (m : Lent). m .staging) e)
 
   -- and they are those of a begun feed
-  pub parts-begun : (parts : List (List ℕ)) → let y = fed register (start sender staging) (flat parts) in (isBegun (keptOf (y .feed)) ≡ true) × (feedOf (keptOf (y .feed)) ≡ y .feed)
-  parts-begun parts = kept-read _ (tells-fed register (flat parts) (start sender staging) start-tells .fits)
+  pub parts-begun : (parts : List (List ℕ)) → let y = fed register (start sender form staging) (flat parts) in (isBegun (keptOf (y .feed)) ≡ true) × (feedOf (keptOf (y .feed)) ≡ y .feed)
+  parts-begun parts = kept-read _ (tells-fed register (flat parts) (start sender form staging) start-tells .fits)

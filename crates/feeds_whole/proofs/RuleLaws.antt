@@ -4,7 +4,7 @@ use native.Mathlib.Nat.{le-div-iff-mul-le}
 use mathlib.Core.Path.{_≡_, refl, sym, ap, _∙_}
 use mathlib.Core.Bool.{Bool, true, false, not, _&&_}
 use mathlib.Core.List.{List, [], _∷_}
-use borrow.Author.Tests.{not-false}
+use borrow.Author.Tests.{not-false, le-leb}
 use lib.Dec.{leb}
 use lib.ListN.{length, getD}
 use Rattle.lists.specs.Logic.{on}
@@ -13,6 +13,7 @@ use Rattle.lists.proofs.LogicLaws.{and-false, and-pass, or-fail}
 use Rattle.lists.proofs.RowLaws.{length-rowsOf, row-at}
 use Rattle.passage.specs.Layout.{body-wide, ownerOf}
 use Rattle.passage.specs.Ranges.{updateInRange}
+use Rattle.columns.specs.Tables.{isForm}
 use Rattle.register.specs.Register.{grants}
 use Rattle.reader.specs.declared.Reading.the-variants as Readings
 use Rattle.feeds.specs.Kept.{feedOf, isBegun}
@@ -100,16 +101,16 @@ rows-out-of-range register staging book table kept c i s e = go (allInRange (sta
         absurd (let z : _≡_ {A = ℕ} 0 1 = cc in omega arith)
     go false h = unsound register staging book table kept c (range-sound register staging book table kept c h)
 
-denied-post : (register staging book table kept : List ℕ) (c : Counts) (n : ℕ) → endSound register staging book table c kept ≡ true → readingKept (feedOf kept) ≡ Readings.Rows n
+denied-post : (register staging book table kept : List ℕ) (c : Counts) (n : ℕ) → endSound register staging book table c kept ≡ true → isForm (feedOf kept .form) ≡ true → readingKept (feedOf kept) ≡ Readings.Rows n
     → anyDenied register (feedOf kept .sender) (stagedRows staging (feedOf kept)) ≡ true → endAnswer register staging book table c kept ≡ Owner 0
 unfolding endAnswer postAnswer
-denied-post register staging book table kept c n s r d = rw (s, r, d) refl
+denied-post register staging book table kept c n s o r d = rw (s, o, r, d) refl
 
 pub unregistered : Unregistered
-unregistered register staging book table kept c n i sound reading s e = go (anyDenied register (feedOf kept .sender) (stagedRows staging (feedOf kept))) refl
+unregistered register staging book table kept c n i sound known reading s e = go (anyDenied register (feedOf kept .sender) (stagedRows staging (feedOf kept))) refl
   where
     go : (b : Bool) → anyDenied register (feedOf kept .sender) (stagedRows staging (feedOf kept)) ≡ b → endAnswer register staging book table c kept ≡ Owner 0
-    go true h = denied-post register staging book table kept c n sound reading h
+    go true h = denied-post register staging book table kept c n sound (le-leb _ _ known) reading h
     go false h =
         let k = staged-at staging kept i s in
         let m : true ≡ false =

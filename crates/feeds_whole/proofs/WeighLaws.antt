@@ -18,6 +18,7 @@ use Rattle.syntax.specs.declared.Verdict.the-variants.{Fine, FaultAt}
 use Rattle.syntax.specs.Machine.{fieldStep, escapeStep, firstEscapeStep, nullStep, returnStep, startStep, markStep, step, follow, accepting, run}
 use Rattle.turbo_lines.specs.declared.Mark.{Mark}
 use Rattle.turbo_lines.specs.Lines.{isLong, shortFront}
+use Rattle.columns.specs.declared.Form.{Form}
 use Rattle.columns.specs.declared.Table.the-variants.{Message}
 use Rattle.reader.specs.Items.{row, outside, items}
 use Rattle.reader.specs.Rules.{faults, faultPlace}
@@ -106,11 +107,11 @@ ended-weigh (b ∷ w) s h r = go (step s b) refl (eqb b 10) refl (λ t k. ended-
     go (To t) e false q ih = on-line h b (valid t w) (length w) q (ih t (h ++ b ∷ []) (λ y. omega (arith, length-append h (b ∷ []))))
 
 -- the rows of lines that the first bytes of a dossier end
-pub rows-few : (register : List ℕ) (sender : ℕ) (w : List ℕ) → length w ≤ 65536
-    → length (rowsUpTo Message register sender (items Message outside 1 (shortFront (endedLines [] (valid (States.Open Kinds.Nothing) w))))) ≤ 2427
-rows-few register sender w h =
+pub rows-few : (f : Form) (register : List ℕ) (sender : ℕ) (w : List ℕ) → length w ≤ 65536
+    → length (rowsUpTo (Message f) register sender (items (Message f) outside 1 (shortFront (endedLines [] (valid (States.Open Kinds.Nothing) w))))) ≤ 2427
+rows-few f register sender w h =
     let ls = endedLines [] (valid (States.Open Kinds.Nothing) w) in
-    let a = rows-weigh Message 27 message-long register sender outside 1 (shortFront ls) in
+    let a = rows-weigh (Message f) 27 (message-long f) register sender outside 1 (shortFront ls) in
     let b = front-weigh ls in
     let c = ended-weigh w (States.Open Kinds.Nothing) [] (λ e. absurd (let f : _≡_ {A = ℕ} 0 1 = cc in omega arith)) in
     omega (arith, a, b, c, h)

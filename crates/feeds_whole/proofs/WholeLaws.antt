@@ -18,6 +18,7 @@ use Rattle.reader.specs.Rules.{largest, faults, faultPlace}
 use Rattle.feeds.specs.Feed.{Fed, noBytes, isOpen, fed}
 use Rattle.feeds.specs.Kept.{newFeed}
 use Rattle.turbo_lines.specs.Ended.{endedLines}
+use Rattle.calls.specs.Message.{messageTable}
 use Rattle.feeds_whole.specs.Parts.{validFront}
 use Rattle.feeds_whole.proofs.ByteLaws.{coreOf, linesOn, Held, closed-bytes, valid, verdictOf, fed-bytes, fed-append}
 use Rattle.feeds_whole.proofs.FoldLaws.{newCore}
@@ -25,16 +26,17 @@ use Rattle.feeds_whole.proofs.WeighLaws.{valid-front}
 
 -- A feed from its beginning, once all bytes of a dossier came. Assumes nothing.
 
-abbrev pub start : ℕ → List ℕ → Fed
-start sender staging = record { feed = newFeed sender; line = noBytes; staging = staging }
+abbrev pub start : ℕ → ℕ → List ℕ → Fed
+start sender form staging = record { feed = newFeed sender form; line = noBytes; staging = staging }
 
-pub start-held : (sender : ℕ) (staging : List ℕ) → Held (start sender staging) []
-start-held sender staging = record { line = sym (over-nil 0 noBytes); size = refl }
+pub start-held : (sender form : ℕ) (staging : List ℕ) → Held (start sender form staging) []
+start-held sender form staging = record { line = sym (over-nil 0 noBytes); size = refl }
 
 -- the bytes d came
-pub record Whole (register : List ℕ) (sender : ℕ) (staging d : List ℕ) (y : Fed) : Type 0 where
+pub record Whole (register : List ℕ) (sender form : ℕ) (staging d : List ℕ) (y : Fed) : Type 0 where
   pub sent : y .feed .sender ≡ sender
-  pub core : coreOf y ≡ linesOn register sender (newCore staging) (endedLines [] (validFront d))
+  pub stated : y .feed .form ≡ form
+  pub core : coreOf y ≡ linesOn (messageTable form) register sender (newCore staging) (endedLines [] (validFront d))
   pub at : length d ≤ largest → y .feed .at ≡ length d
   pub verdict : length d ≤ largest → verdictOf (y .feed) ≡ fault d
   pub over : largest < length d → largest < y .feed .at
@@ -66,41 +68,43 @@ front-few d = go (ltb largest (length d)) refl
     go true e = let k : largest < length d = ltb-true largest (length d) e in (take largest d, omega (arith, length-take-le largest d (omega arith)), front-is d)
     go false e = (d, ltb-false largest (length d) e, front-short d (ltb-false largest (length d) e))
 
-module _ (register : List ℕ) (sender : ℕ) (staging d : List ℕ) where
-  whole-short : length d ≤ largest → Whole register sender staging d (fed register (start sender staging) d)
+module _ (register : List ℕ) (sender form : ℕ) (staging d : List ℕ) where
+  whole-short : length d ≤ largest → Whole register sender form staging d (fed register (start sender form staging) d)
   unfolding fault
   whole-short h =
-      let a = fed-bytes register d (start sender staging) [] refl (omega arith) (start-held sender staging) in
+      let a = fed-bytes register d (start sender form staging) [] refl (omega arith) (start-held sender form staging) in
       record {
         sent = a .sender;
-        core = a .core ∙ ap (λ (v : List ℕ). linesOn register sender (newCore staging) (endedLines [] v)) (sym (front-short d h));
+        stated = a .form;
+        core = a .core ∙ ap (λ (v : List ℕ). linesOn (messageTable form) register sender (newCore staging) (endedLines [] v)) (sym (front-short d h));
         at = λ f. omega (arith, a .at);
         verdict = λ f. a .verdict;
         over = λ f. absurd (omega arith);
       }
 
-  whole-long : largest < length d → Whole register sender staging d (fed register (start sender staging) d)
+  whole-long : largest < length d → Whole register sender form staging d (fed register (start sender form staging) d)
   whole-long h =
       let w = take largest d in
       let n : length w ≡ largest = length-take-le largest d (omega arith) in
-      let a = fed-bytes register w (start sender staging) [] refl (omega (arith, n)) (start-held sender staging) in
-      let m : fed register (start sender staging) w .feed .at ≡ largest = omega (arith, a .at, n) in
-      let closed : isOpen (fed register (start sender staging) w .feed) ≡ false = ap (λ (t : Bool). t && eqb (fed register (start sender staging) w .feed .fault) 0) (le-ltb (fed register (start sender staging) w .feed .at) largest (omega (arith, m))) in
-      let c = closed-bytes register (drop largest d) (fed register (start sender staging) w) closed in
-      let e : fed register (start sender staging) d ≡ fed register (fed register (start sender staging) w) (drop largest d) =
-      ap (fed register (start sender staging)) (sym (take-append-drop largest d)) ∙ fed-append register w (drop largest d) (start sender staging) in
-      subst (Whole register sender staging d) (sym e)
+      let a = fed-bytes register w (start sender form staging) [] refl (omega (arith, n)) (start-held sender form staging) in
+      let m : fed register (start sender form staging) w .feed .at ≡ largest = omega (arith, a .at, n) in
+      let closed : isOpen (fed register (start sender form staging) w .feed) ≡ false = ap (λ (t : Bool). t && eqb (fed register (start sender form staging) w .feed .fault) 0) (le-ltb (fed register (start sender form staging) w .feed .at) largest (omega (arith, m))) in
+      let c = closed-bytes register (drop largest d) (fed register (start sender form staging) w) closed in
+      let e : fed register (start sender form staging) d ≡ fed register (fed register (start sender form staging) w) (drop largest d) =
+      ap (fed register (start sender form staging)) (sym (take-append-drop largest d)) ∙ fed-append register w (drop largest d) (start sender form staging) in
+      subst (Whole register sender form staging d) (sym e)
       (record {
         sent = c .sender ∙ a .sender;
-        core = c .core ∙ a .core ∙ ap (λ (v : List ℕ). linesOn register sender (newCore staging) (endedLines [] v)) (sym (front-is d));
+        stated = c .form ∙ a .form;
+        core = c .core ∙ a .core ∙ ap (λ (v : List ℕ). linesOn (messageTable form) register sender (newCore staging) (endedLines [] v)) (sym (front-is d));
         at = λ f. absurd (omega arith);
         verdict = λ f. absurd (omega arith);
         over = λ f. c .many (omega (arith, m, length-drop largest d, h));
       })
 
-  pub whole-fed : Whole register sender staging d (fed register (start sender staging) d)
+  pub whole-fed : Whole register sender form staging d (fed register (start sender form staging) d)
   whole-fed = go (ltb largest (length d)) refl
     where
-      go : (b : Bool) → ltb largest (length d) ≡ b → Whole register sender staging d (fed register (start sender staging) d)
+      go : (b : Bool) → ltb largest (length d) ≡ b → Whole register sender form staging d (fed register (start sender form staging) d)
       go true e = whole-long (ltb-true largest (length d) e)
       go false e = whole-short (ltb-false largest (length d) e)

@@ -10,7 +10,6 @@ use Rattle.lists.specs.Rows.{flat}
 use Rattle.passage.specs.Layout.{body-wide, ownerOf}
 use Rattle.passage.specs.Ranges.{updateInRange}
 use Rattle.register.specs.Register.{grants}
-use Rattle.columns.specs.declared.Table.the-variants.{Message}
 use Rattle.reader.specs.declared.Reading.the-variants as Readings
 use Rattle.reader.specs.Rules.{readingOf}
 use Rattle.reader.specs.Staging.{laid}
@@ -20,7 +19,7 @@ use Rattle.calls.specs.declared.Answer.the-variants.{Unsound, Owner}
 use Rattle.calls.specs.declared.Counts.{Counts}
 use Rattle.calls.specs.Answers.{numbers, isAccepted}
 use Rattle.calls.specs.Leaves.{outcomeOf}
-use Rattle.calls.specs.Message.{messageSound, messageLeaves}
+use Rattle.calls.specs.Message.{messageSound, messageTable, messageLeaves}
 use Rattle.calls.specs.End.{readingKept, endSound, endAnswer, endLeaves, cleared}
 use Rattle.feeds_whole.specs.Parts.{fedFrom, rowsBefore}
 
@@ -34,24 +33,25 @@ CuttingIsFree =
     feedLeaves b register (first .staging) (first .line) (first .kept) ≡ feedLeaves (a ++ b) register staging line kept
 
 -- **however a dossier is cut, the end leaves what the one call on the whole dossier leaves**: answer with its places, counts, book and table; unless it is 14,
--- which it is exactly where what is lent is sound, the one call finds nothing to refuse in the dossier, and its rows are more than the staging area has room for
+-- which it is exactly where what is lent is sound, the form is known, the one call finds nothing to refuse in the dossier, and its rows are more than the staging area has room for
 abbrev pub PartsAreWhole : Type 0
 PartsAreWhole =
-    (parts : List (List ℕ)) (register line staging book table : List ℕ) (sender : ℕ) (c : Counts) → sender < 256
-    → let m = fedFrom register sender line staging parts in
+    (parts : List (List ℕ)) (register line staging book table : List ℕ) (sender form : ℕ) (c : Counts) → sender < 256 → form < 4294967296
+    → let m = fedFrom register sender form line staging parts in
     let left = endLeaves register (m .staging) book table c (m .kept) in
-    let whole = messageLeaves (flat parts) sender register book table c in
+    let whole = messageLeaves (flat parts) sender form register book table c in
     let number = numbers (left .outcome .answer) .0 in
     ((number ≡ 14 → ⊥) → (left .outcome ≡ whole .outcome) × (left .book ≡ whole .book) × (left .table ≡ whole .table))
     × ((number ≡ 14)
     ↔ ((messageSound register book table c ≡ true)
-    × ((n : ℕ) × (readingOf Message register sender (flat parts) ≡ Readings.Rows n) × (length staging / body-wide < n))))
+    × (form ≤ 1)
+    × ((n : ℕ) × (readingOf (messageTable form) register sender (flat parts) ≡ Readings.Rows n) × (length staging / body-wide < n))))
 
 -- the staging area holds the rows before the first line at fault, as many as fit, and behind them what it held; the end is not lent it to write, so on a refusal too
 abbrev pub StagingHolds : Type 0
 StagingHolds =
-    (parts : List (List ℕ)) (register line staging : List ℕ) (sender : ℕ) → sender < 256
-    → fedFrom register sender line staging parts .staging ≡ laid Message (rowsBefore register sender (flat parts)) staging
+    (parts : List (List ℕ)) (register line staging : List ℕ) (sender form : ℕ) → sender < 256 → form < 4294967296
+    → fedFrom register sender form line staging parts .staging ≡ laid (messageTable form) (rowsBefore register sender form (flat parts)) staging
 
 -- ---- the end, of any bytes and numbers whatever; that a refusal gives everything back, and which numbers there are, is claimed in `calls`
 
@@ -82,10 +82,10 @@ RowsOutOfRange =
     → updateInRange (part (i * body-wide) body-wide staging) ≡ false
     → endAnswer register staging book table c kept ≡ Unsound
 
--- where what is lent is sound and reading found nothing, a staged row whose owner the register does not grant now gets 6, with line 0
+-- where what is lent is sound, the form is known and reading found nothing, a staged row whose owner the register does not grant now gets 6, with line 0
 abbrev pub Unregistered : Type 0
 Unregistered =
-    (register staging book table kept : List ℕ) (c : Counts) (n i : ℕ) → endSound register staging book table c kept ≡ true → readingKept (feedOf kept) ≡ Readings.Rows n
+    (register staging book table kept : List ℕ) (c : Counts) (n i : ℕ) → endSound register staging book table c kept ≡ true → feedOf kept .form ≤ 1 → readingKept (feedOf kept) ≡ Readings.Rows n
     → Staged staging kept i → grants register (feedOf kept .sender) (ownerOf (part (i * body-wide) body-wide staging)) ≡ false
     → endAnswer register staging book table c kept ≡ Owner 0
 

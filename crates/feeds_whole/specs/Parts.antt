@@ -5,13 +5,13 @@ use lib.ListN.{take}
 use Rattle.lists.specs.Logic.{on}
 use Rattle.syntax.specs.Machine.{fault}
 use Rattle.turbo_lines.specs.Lines.{shortFront}
-use Rattle.columns.specs.declared.Table.the-variants.{Message}
 use Rattle.reader.specs.Items.{outside, items}
 use Rattle.reader.specs.Rules.{largest, faults, faultPlace}
 use Rattle.reader.specs.Staging.{rowsUpTo}
 use Rattle.feeds.specs.Kept.{begunBy}
 use Rattle.feeds.specs.Feeding.{Feeding, feedLeaves}
 use Rattle.turbo_lines.specs.Ended.{endedLines}
+use Rattle.calls.specs.Message.{messageTable}
 
 -- what is lent while parts come: the numbers, the unfinished line, the staging area
 pub record Lent : Type 0 where
@@ -32,8 +32,8 @@ fedParts register m [] = m
 fedParts register m (p ∷ ps) = fedParts register (lentAfter (feedLeaves p register (m .staging) (m .line) (m .kept))) ps
 
 -- from the beginning, whatever stood in the line
-abbrev pub fedFrom : List ℕ → ℕ → List ℕ → List ℕ → List (List ℕ) → Lent
-fedFrom register sender line staging parts = fedParts register (lent (begunBy sender) line staging) parts
+abbrev pub fedFrom : List ℕ → ℕ → ℕ → List ℕ → List ℕ → List (List ℕ) → Lent
+fedFrom register sender form line staging parts = fedParts register (lent (begunBy sender form) line staging) parts
 
 -- ---- what is staged
 
@@ -41,6 +41,6 @@ fedFrom register sender line staging parts = fedParts register (lent (begunBy se
 unfoldable pub validFront : List ℕ → List ℕ
 validFront d = let w = take largest d in on (faults (fault w)) (take (faultPlace (fault w)) w) w
 
--- the rows of the lines that end in them, before the first line at fault and before the first that is too long
-unfoldable pub rowsBefore : List ℕ → ℕ → List ℕ → List (List ℕ)
-rowsBefore register sender d = rowsUpTo Message register sender (items Message outside 1 (shortFront (endedLines [] (validFront d))))
+-- the rows that the lines that end in them give in this form, an unknown one being read as the old, before the first line at fault and before the first that is too long
+unfoldable pub rowsBefore : List ℕ → ℕ → ℕ → List ℕ → List (List ℕ)
+rowsBefore register sender form d = rowsUpTo (messageTable form) register sender (items (messageTable form) outside 1 (shortFront (endedLines [] (validFront d))))

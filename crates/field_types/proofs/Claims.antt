@@ -17,7 +17,7 @@ use Rattle.field_types.specs.Digits.{numeral, triple}
 use Rattle.field_types.specs.Times.{clock, timeOf, time}
 use Rattle.field_types.specs.Dates.{date}
 use Rattle.field_types.specs.Stamps.{stamp}
-use Rattle.field_types.specs.Names.{nameFrom, bits, statuses, stopTypes, flexibles, bit, status, stopType, flexible}
+use Rattle.field_types.specs.Names.{nameFrom, bits, statuses, stopTypes, flexibles, truths, showns, bit, status, stopType, flexible, truth, shown}
 use Rattle.field_types.specs.Written.{written}
 use Rattle.field_types.specs.Claims.{NumbersRead, TimesRead, DatesRead, WrittenAs, StampsRead, StampsGiven, StampsTested, WordsExactly, WordsWithin, Words, EmptyOutside, NoContentOutside, All}
 use Rattle.field_types.proofs.DigitLaws.{number-told, number-none, number-other, written-read}
@@ -129,32 +129,49 @@ flexibles-read (suc zero) h = refl
 flexibles-read (suc (suc zero)) h = refl
 flexibles-read (suc (suc (suc n))) h = absurd (omega arith)
 
+truths-read : (n : ℕ) → n < 2 → nameFrom 0 truths (bytes (getD truths n "")) ≡ Is (0 + n)
+unfolding same
+truths-read zero h = refl
+truths-read (suc zero) h = refl
+truths-read (suc (suc n)) h = absurd (omega arith)
+
+showns-read : (n : ℕ) → n < 3 → nameFrom 0 showns (bytes (getD showns n "")) ≡ Is (0 + n)
+unfolding same
+showns-read zero h = refl
+showns-read (suc zero) h = refl
+showns-read (suc (suc zero)) h = refl
+showns-read (suc (suc (suc n))) h = absurd (omega arith)
+
 words-exactly :
     (k : ℕ) (ws : List String) → ((n : ℕ) → n < length ws → nameFrom k ws (bytes (getD ws n "")) ≡ Is (k + n)) → WordsExactly (nameFrom k ws) k ws
 words-exactly k ws read f n = (words-only k ws f n, λ p. rw (p .1) (read n (p .0)))
 
 pub words : Words
-unfolding bit status stopType flexible
+unfolding bit status stopType flexible truth shown
 words = (
   words-within 0 bits,
   words-within 0 statuses,
   words-within 0 stopTypes,
   words-within 1 flexibles,
+  words-within 0 truths,
+  words-within 0 showns,
   words-exactly 0 bits bits-read,
   words-exactly 0 statuses statuses-read,
   words-exactly 0 stopTypes stop-types-read,
   words-exactly 1 flexibles flexibles-read,
+  words-exactly 0 truths truths-read,
+  words-exactly 0 showns showns-read,
 )
 
 -- ---- fields outside every type
 
 empty-outside : EmptyOutside
-unfolding time clock date triple stamp bit status stopType flexible same
-empty-outside = (λ most. sym (number-none most [] refl), refl, refl, refl, refl, refl, refl, refl)
+unfolding time clock date triple stamp bit status stopType flexible truth shown same
+empty-outside = (λ most. sym (number-none most [] refl), refl, refl, refl, refl, refl, refl, refl, refl, refl)
 
 pub no-content-outside : NoContentOutside
-unfolding time clock date triple stamp bit status stopType flexible same
-no-content-outside = (λ most. sym (number-other most (bytes "\\0") refl), refl, refl, refl, refl, refl, refl, refl)
+unfolding time clock date triple stamp bit status stopType flexible truth shown same
+no-content-outside = (λ most. sym (number-other most (bytes "\\0") refl), refl, refl, refl, refl, refl, refl, refl, refl, refl)
 
 pub claims : All
 claims = (

@@ -21,6 +21,10 @@ use Rattle.field_types.proofs.read_stop_type.Kinds as read-stop-type
 use Rattle.field_types.proofs.read_stop_type.Reads as read-stop-type-reads
 use Rattle.field_types.proofs.read_flexible.Kinds as read-flexible
 use Rattle.field_types.proofs.read_flexible.Reads as read-flexible-reads
+use Rattle.field_types.proofs.read_truth.Kinds as read-truth
+use Rattle.field_types.proofs.read_truth.Reads as read-truth-reads
+use Rattle.field_types.proofs.read_shown.Kinds as read-shown
+use Rattle.field_types.proofs.read_shown.Reads as read-shown-reads
 
 pub read-number-determined : OneResult 1 read-number.ps read-number.r read-number-reads.Post
 read-number-determined κs a x y s t p q = p ∙ sym q
@@ -51,3 +55,9 @@ read-stop-type-determined κs a x y s t p q = p ∙ sym q
 
 pub read-flexible-determined : OneResult 1 read-flexible.ps read-flexible.r read-flexible-reads.Post
 read-flexible-determined κs a x y s t p q = p ∙ sym q
+
+pub read-truth-determined : OneResult 1 read-truth.ps read-truth.r read-truth-reads.Post
+read-truth-determined κs a x y s t p q = p ∙ sym q
+
+pub read-shown-determined : OneResult 1 read-shown.ps read-shown.r read-shown-reads.Post
+read-shown-determined κs a x y s t p q = p ∙ sym q

@@ -9,7 +9,7 @@ use Rattle.field_types.specs.Digits.{numeral, triple}
 use Rattle.field_types.specs.Times.{clock, time}
 use Rattle.field_types.specs.Dates.{date}
 use Rattle.field_types.specs.Stamps.{utcOffset, stampSeconds, stamp}
-use Rattle.field_types.specs.Names.{bit, status, stopType, flexible}
+use Rattle.field_types.specs.Names.{bit, status, stopType, flexible, truth, shown}
 
 -- P1: 31:59:59 is 115,199; 32:00:00 is refused
 pub P1 : (time (bytes "31:59:59") ≡ Times.Is (record { 0 = 115199 })) × (time (bytes "32:00:00") ≡ Times.Wrong)
@@ -77,3 +77,16 @@ pub words-read :
     × (flexible (bytes "REALTIME") ≡ Is 3)
 unfolding stopType flexible same
 words-read = (refl, refl, refl, refl, refl, refl)
+
+-- the words of the 8.5 form, in lower case only
+pub new-words-read :
+    (truth (bytes "true") ≡ Is 1)
+    × (truth (bytes "TRUE") ≡ Wrong)
+    × (truth (bytes "message") ≡ Wrong)
+    × (truth (bytes "1") ≡ Wrong)
+    × (shown (bytes "false") ≡ Is 0)
+    × (shown (bytes "message") ≡ Is 2)
+    × (shown (bytes "Message") ≡ Wrong)
+    × (shown (bytes "0") ≡ Wrong)
+unfolding truth shown same
+new-words-read = (refl, refl, refl, refl, refl, refl, refl, refl)

@@ -16,7 +16,7 @@ use Rattle.field_types.specs.Digits.{numeral}
 use Rattle.field_types.specs.Times.{time}
 use Rattle.field_types.specs.Dates.{date}
 use Rattle.field_types.specs.Stamps.{stampSeconds, stamp, inStampRange}
-use Rattle.field_types.specs.Names.{bit, status, stopType, flexible}
+use Rattle.field_types.specs.Names.{bit, status, stopType, flexible, truth, shown}
 use Rattle.field_types.specs.Written.{written, writtenTime, writtenDate, writtenStamp}
 
 -- ---- numbers, times, dates and stamps: what is read is exactly what is written
@@ -68,17 +68,22 @@ WordsExactly rule k ws = (f : List ℕ) (n : ℕ) → (rule f ≡ Is (k + n)) �
 abbrev pub WordsWithin : (List ℕ → Number) → ℕ → ℕ → Type 0
 WordsWithin rule k m = (f : List ℕ) (n : ℕ) → rule f ≡ Is n → (k ≤ n) × (n < m)
 
--- B gives 0 or 1, a status 0 to 5, a stop type 0 to 2, a ShowFlexibleTrip 1 to 3, each for its own word and for no other bytes.
+-- B gives 0 or 1, a status 0 to 5, a stop type 0 to 2, a ShowFlexibleTrip 1 to 3, a yes or no of the 8.5 form 0 or 1, a ShowCancelledJourney 0 to 2,
+-- each for its own word and for no other bytes.
 abbrev pub Words : Type 0
 Words =
     WordsWithin bit 0 2
     × WordsWithin status 0 6
     × WordsWithin stopType 0 3
     × WordsWithin flexible 1 4
+    × WordsWithin truth 0 2
+    × WordsWithin shown 0 3
     × WordsExactly bit 0 ("0" ∷ "1" ∷ [])
     × WordsExactly status 0 ("PLANNED" ∷ "CANCEL" ∷ "UNKNOWN" ∷ "DRIVING" ∷ "ARRIVED" ∷ "PASSED" ∷ [])
     × WordsExactly stopType 0 ("FIRST" ∷ "INTERMEDIATE" ∷ "LAST" ∷ [])
     × WordsExactly flexible 1 ("TRUE" ∷ "FALSE" ∷ "REALTIME" ∷ [])
+    × WordsExactly truth 0 ("false" ∷ "true" ∷ [])
+    × WordsExactly shown 0 ("false" ∷ "true" ∷ "message" ∷ [])
 
 -- ---- fields outside every type
 
@@ -93,6 +98,8 @@ Outside f =
     × (status f ≡ Wrong)
     × (stopType f ≡ Wrong)
     × (flexible f ≡ Wrong)
+    × (truth f ≡ Wrong)
+    × (shown f ≡ Wrong)
 
 -- A field with no bytes is outside every type.
 abbrev pub EmptyOutside : Type 0

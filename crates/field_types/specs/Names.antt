@@ -28,6 +28,14 @@ stopTypes = "FIRST" ∷ "INTERMEDIATE" ∷ "LAST" ∷ []
 abbrev pub flexibles : List String
 flexibles = "TRUE" ∷ "FALSE" ∷ "REALTIME" ∷ []
 
+-- the words of a yes or no in the 8.5 form, from 0
+abbrev pub truths : List String
+truths = "false" ∷ "true" ∷ []
+
+-- the words of a ShowCancelledJourney, from 0
+abbrev pub showns : List String
+showns = "false" ∷ "true" ∷ "message" ∷ []
+
 -- B: 0 or 1
 unfoldable pub bit : List ℕ → Number
 bit f = nameFrom 0 bits f
@@ -43,3 +51,11 @@ stopType f = nameFrom 0 stopTypes f
 -- a ShowFlexibleTrip, coded 1 to 3
 unfoldable pub flexible : List ℕ → Number
 flexible f = nameFrom 1 flexibles f
+
+-- a yes or no in the 8.5 form, coded as B is
+unfoldable pub truth : List ℕ → Number
+truth f = nameFrom 0 truths f
+
+-- a ShowCancelledJourney, coded 0 to 2
+unfoldable pub shown : List ℕ → Number
+shown f = nameFrom 0 showns f

@@ -9,7 +9,7 @@ ghost use Rattle.field_types.specs.Digits.{numeral, tripleOf, triple};
 ghost use Rattle.field_types.specs.Times.{clock, time};
 ghost use Rattle.field_types.specs.Dates.{date};
 ghost use Rattle.field_types.specs.Stamps.{utcOffset, stampSeconds, stampShape, stamp, inStampRange};
-ghost use Rattle.field_types.specs.Names.{bit, status, stopType, flexible};
+ghost use Rattle.field_types.specs.Names.{bit, status, stopType, flexible, truth, shown};
 
 // ---- numbers
 
@@ -295,6 +295,38 @@ pub fn read_flexible(field: &[u8]) -> Number
     }
     if lists::same_bytes(field, b"REALTIME") {
         return Number::Is(3);
+    }
+    Number::Wrong
+}
+
+// Monitored in the 8.5 form, coded as B is.
+pub fn read_truth(field: &[u8]) -> Number
+    ensures { λ r. ⌜ r ≡ truth (now (field .entry)) ⌝ }
+{
+    if lists::same_bytes(field, b"false") {
+        return Number::Is(0);
+    }
+    if lists::same_bytes(field, b"true") {
+        return Number::Is(1);
+    }
+    Number::Wrong
+}
+
+// A journey that is cancelled with a message.
+const MESSAGE: u32 = 2;
+
+// A ShowCancelledJourney, coded 0 to 2.
+pub fn read_shown(field: &[u8]) -> Number
+    ensures { λ r. ⌜ r ≡ shown (now (field .entry)) ⌝ }
+{
+    if lists::same_bytes(field, b"false") {
+        return Number::Is(0);
+    }
+    if lists::same_bytes(field, b"true") {
+        return Number::Is(1);
+    }
+    if lists::same_bytes(field, b"message") {
+        return Number::Is(MESSAGE);
     }
     Number::Wrong
 }

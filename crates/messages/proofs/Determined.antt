@@ -10,7 +10,7 @@ use Rattle.messages.proofs.is_sound.Reads as is-sound-reads
 use Rattle.messages.proofs.take_rows.Kinds as take-rows
 use Rattle.messages.proofs.take_rows.Reads as take-rows-reads
 
-pub message-determined : Determined 4 message.ps message.r message-reads.Post (λ κs x s. leaves x (now (s .1 .1 .1 .0)) (now (s .1 .1 .1 .1 .0)))
+pub message-determined : Determined 4 message.ps message.r message-reads.Post (λ κs x s. leaves x (now (s .1 .1 .1 .1 .0)) (now (s .1 .1 .1 .1 .1 .0)))
 message-determined κs a x y s t p q = p .0 ∙ sym (q .0)
 
 pub take-rows-determined : Determined 3 take-rows.ps take-rows.r take-rows-reads.Post (λ κs x s. leaves x (now (s .1 .1 .1 .0)) (now (s .1 .1 .1 .1 .0)))

@@ -9,6 +9,7 @@ ghost use Prim.Native.Nat.{_+_, _*_, _≤_};
 ghost use lib.ListN.{length};
 ghost use Rattle.lists.specs.Rows.{rowsOf};
 ghost use Rattle.passage.specs.Layout.{body-wide};
+ghost use Rattle.columns.specs.Tables.{isForm};
 ghost use Rattle.table.specs.Rules.{tableSound};
 ghost use Rattle.book.specs.Entries.{entry-wide, updatesIn};
 ghost use Rattle.book.specs.Rules.{bookSound, bookRoom, nextNumber};
@@ -50,61 +51,85 @@ pub fn is_sound(register: &[u8], book: &[u8], table: &[u8], counts: Counts) -> b
 fn read_and_take(
     dossier: &[u8],
     sender: u8,
+    form: u32,
     register: &[u8],
     staging: &mut [u8],
     book: &mut [u8],
     table: &mut [u8],
     counts: Counts,
 ) -> Outcome
-    requires { ⌜ messageSound (now register) (now book) (now table) counts ≡ true ⌝ }
+    requires { ⌜ (messageSound (now register) (now book) (now table) counts ≡ true) × (isForm form ≡ true) ⌝ }
     requires { ⌜ HoldsRows (now dossier) (length (now staging)) ⌝ }
     ensures { λ r. ⌜ leaves r (now (book .exit)) (now (table .exit))
-        ≡ messageLeaves (now (dossier .entry)) sender (now (register .entry)) (now (book .entry)) (now (table .entry)) counts ⌝ }
+        ≡ messageLeaves (now (dossier .entry)) sender form (now (register .entry)) (now (book .entry)) (now (table .entry)) counts ⌝ }
 {
-    let reading = reader::read_message(dossier, register, sender, staging);
+    let reading = reader::read_message(columns::form_of(form), dossier, register, sender, staging);
     match calls::passed(reading, 0) {
         Next::On(count) => take_rows(staging, count, sender, book, table, counts),
         Next::Off(answer) => calls::unchanged(answer, counts),
     }
 }
 
-// A message on a sound state, with a staging area of its dossier's size.
+// A message in a known form on a sound state, with a staging area of its dossier's size.
 fn take_sound(
     dossier: &[u8],
     sender: u8,
+    form: u32,
     register: &[u8],
     book: &mut [u8],
     table: &mut [u8],
     counts: Counts,
 ) -> Outcome
-    requires { ⌜ messageSound (now register) (now book) (now table) counts ≡ true ⌝ }
+    requires { ⌜ (messageSound (now register) (now book) (now table) counts ≡ true) × (isForm form ≡ true) ⌝ }
     ensures { λ r. ⌜ leaves r (now (book .exit)) (now (table .exit))
-        ≡ messageLeaves (now (dossier .entry)) sender (now (register .entry)) (now (book .entry)) (now (table .entry)) counts ⌝ }
+        ≡ messageLeaves (now (dossier .entry)) sender form (now (register .entry)) (now (book .entry)) (now (table .entry)) counts ⌝ }
 {
     if dossier.len() <= SHORT {
         let mut staging = [0u8; SHORT_STAGED];
-        return read_and_take(dossier, sender, register, &mut staging, book, table, counts);
+        return read_and_take(
+            dossier,
+            sender,
+            form,
+            register,
+            &mut staging,
+            book,
+            table,
+            counts,
+        );
     }
     let mut staging = [0u8; STAGED];
-    read_and_take(dossier, sender, register, &mut staging, book, table, counts)
+    read_and_take(
+        dossier,
+        sender,
+        form,
+        register,
+        &mut staging,
+        book,
+        table,
+        counts,
+    )
 }
 
-// A message: refusals 1, 2, 3, 15 and 4 to 8, or its number and the new counts.
+// A message: refusals 1, 18, 2, 3, 15 and 4 to 8, or its number and the new counts.
 pub fn message(
     dossier: &[u8],
     sender: u8,
+    form: u32,
     register: &[u8],
     book: &mut [u8],
     table: &mut [u8],
     counts: Counts,
 ) -> Outcome
     ensures lent { λ r. ⌜ leaves r (now (book .exit)) (now (table .exit))
-        ≡ messageLeaves (now (dossier .entry)) sender (now (register .entry)) (now (book .entry)) (now (table .entry)) counts ⌝ }
+        ≡ messageLeaves (now (dossier .entry)) sender form (now (register .entry)) (now (book .entry)) (now (table .entry)) counts ⌝ }
     ensures numbers { λ r. ⌜ numbers (r .answer)
-        ≡ messageNumbers (now (dossier .entry)) sender (now (register .entry)) (now (book .entry)) (now (table .entry)) counts ⌝ }
+        ≡ messageNumbers (now (dossier .entry)) sender form (now (register .entry)) (now (book .entry)) (now (table .entry)) counts ⌝ }
 {
     if is_sound(register, book, table, counts) {
-        return take_sound(dossier, sender, register, book, table, counts);
+        if columns::is_form(form) {
+            return take_sound(dossier, sender, form, register, book, table, counts);
+        }
+        return calls::unchanged(Answer::UnknownForm, counts);
     }
     calls::unchanged(Answer::Unsound, counts)
 }

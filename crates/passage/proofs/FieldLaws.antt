@@ -14,7 +14,7 @@ use Rattle.lists.proofs.PartLaws.{part-part, part-at}
 use Rattle.clock.specs.Date.{isDate}
 use Rattle.field_types.specs.Stamps.{inStampRange}
 use Rattle.passage.specs.Layout.{text-wide, date-wide, journey-wide, order-wide, time-wide, owner-at, date-at, line-at, journey-at, fortify-at, stop-at, order-at, key-wide, destination-at, arrival-at, departure-at, stop-type-at, body-wide, keyOf, ownerOf, dateOf, lineOf, journeyOf, fortifyOf, stopOf, orderOf, destinationOf, arrivalOf, departureOf, stopTypeOf, bodyOf, stamp-wide, stamp-at, status-at, show-cancelled-at, flexible-at, monitored-at, heard-at, row-wide, kept}
-use Rattle.passage.specs.Ranges.{paddedText, keyInRange, timesInRange, commonInRange, isBit, updateInRange, planInRange, heardInRange, rowInRange}
+use Rattle.passage.specs.Ranges.{paddedText, keyInRange, timesInRange, commonInRange, isBit, isShown, updateInRange, planInRange, heardInRange, rowInRange}
 use Rattle.passage.specs.inner.Roles.{textsPadded}
 use Rattle.lists.proofs.LogicLaws.{all-pass, tests-equal}
 
@@ -126,7 +126,7 @@ module _ (at : ℕ) (s : List ℕ) where
       (commonInRange (part at body-wide s)
       && inStampRange (number (part (at + stamp-at) stamp-wide s))
       && leb (getD s (at + status-at) 0) 5
-      && (isBit (getD s (at + show-cancelled-at) 0) || eqb (getD s (at + show-cancelled-at) 0) kept)
+      && (isShown (getD s (at + show-cancelled-at) 0) || eqb (getD s (at + show-cancelled-at) 0) kept)
       && (within 1 3 (getD s (at + flexible-at) 0) || eqb (getD s (at + flexible-at) 0) kept)
       && (isBit (getD s (at + monitored-at) 0) || eqb (getD s (at + monitored-at) 0) kept))
   unfolding updateInRange
@@ -163,7 +163,7 @@ module _ (at : ℕ) (s : List ℕ) where
       (commonInRange (part at body-wide s)
       && heardInRange (getD s (at + heard-at) 0) (number (part (at + stamp-at) stamp-wide s))
       && leb (getD s (at + status-at) 0) 5
-      && isBit (getD s (at + show-cancelled-at) 0)
+      && isShown (getD s (at + show-cancelled-at) 0)
       && leb (getD s (at + flexible-at) 0) 3
       && isBit (getD s (at + monitored-at) 0))
   unfolding rowInRange

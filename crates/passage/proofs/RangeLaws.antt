@@ -11,7 +11,7 @@ use Rattle.lists.proofs.LogicLaws.{and-pass, or-pass, pass-or, all-pass, in-ran
 use Rattle.clock.specs.Date.{isDate}
 use Rattle.field_types.specs.Stamps.{inStampRange}
 use Rattle.passage.specs.Layout.{missing, kept, keyOf, ownerOf, dateOf, lineOf, journeyOf, fortifyOf, stopOf, orderOf, destinationOf, stampOf, statusOf, arrivalOf, departureOf, stopTypeOf, showCancelledOf, flexibleOf, monitoredOf, heardOf}
-use Rattle.passage.specs.Ranges.{paddedText, keyInRange, timeInRange, timesInRange, commonInRange, isBit, updateInRange, planInRange, heardInRange, rowInRange}
+use Rattle.passage.specs.Ranges.{paddedText, keyInRange, timeInRange, timesInRange, commonInRange, isBit, isShown, updateInRange, planInRange, heardInRange, rowInRange}
 use Rattle.passage.specs.Facts.{KeyFacts, TimeFacts, CommonFacts, UpdateFacts, PlanFacts, RowFacts}
 use Rattle.passage.proofs.FieldLaws.{key-of}
 
@@ -83,11 +83,11 @@ facts-common b f =
 
 -- ---- optionals of an update
 
-or-kept : (n : ℕ) → isBit n || eqb n kept ≡ true → (n ≤ 1) ⊎ (n ≡ kept)
-or-kept n e = ⊎-elim (λ p. inl (leb-true n 1 p)) (λ p. inr (eqb-true n kept p)) (or-pass (isBit n) (eqb n kept) e)
+or-kept : (m n : ℕ) → leb n m || eqb n kept ≡ true → (n ≤ m) ⊎ (n ≡ kept)
+or-kept m n e = ⊎-elim (λ p. inl (leb-true n m p)) (λ p. inr (eqb-true n kept p)) (or-pass (leb n m) (eqb n kept) e)
 
-kept-or : (n : ℕ) → (n ≤ 1) ⊎ (n ≡ kept) → isBit n || eqb n kept ≡ true
-kept-or n f = pass-or (isBit n) (eqb n kept) (⊎-elim (λ p. inl (le-leb n 1 p)) (λ p. inr (eq-eqb n kept p)) f)
+kept-or : (m n : ℕ) → (n ≤ m) ⊎ (n ≡ kept) → leb n m || eqb n kept ≡ true
+kept-or m n f = pass-or (leb n m) (eqb n kept) (⊎-elim (λ p. inl (le-leb n m p)) (λ p. inr (eq-eqb n kept p)) f)
 
 flexible-or-kept : (n : ℕ) → within 1 3 n || eqb n kept ≡ true → ((1 ≤ n) × (n ≤ 3)) ⊎ (n ≡ kept)
 flexible-or-kept n e = ⊎-elim (λ p. inl (within-true 1 3 n p)) (λ p. inr (eqb-true n kept p)) (or-pass (within 1 3 n) (eqb n kept) e)
@@ -105,7 +105,7 @@ update-facts b e =
     all-pass (commonInRange b)
     (inStampRange (stampOf b)
     ∷ leb (statusOf b) 5
-    ∷ (isBit (showCancelledOf b) || eqb (showCancelledOf b) kept)
+    ∷ (isShown (showCancelledOf b) || eqb (showCancelledOf b) kept)
     ∷ (within 1 3 (flexibleOf b) || eqb (flexibleOf b) kept)
     ∷ (isBit (monitoredOf b) || eqb (monitoredOf b) kept)
     ∷ [])
@@ -114,9 +114,9 @@ update-facts b e =
       common = common-facts b (p 0);
       stamp = p 1;
       status = leb-true _ _ (p 2);
-      show-cancelled = or-kept _ (p 3);
+      show-cancelled = or-kept 2 _ (p 3);
       flexible = flexible-or-kept _ (p 4);
-      monitored = or-kept _ (p 5);
+      monitored = or-kept 1 _ (p 5);
     }
 
 pub facts-update : (b : List ℕ) → UpdateFacts b → updateInRange b ≡ true
@@ -126,10 +126,10 @@ facts-update b f =
       facts-common b (f .common),
       f .stamp,
       le-leb _ _ (f .status),
-      kept-or (showCancelledOf b) (f .show-cancelled),
+      kept-or 2 (showCancelledOf b) (f .show-cancelled),
       kept-or-flexible (flexibleOf b) (f .flexible),
     )
-    (kept-or (monitoredOf b) (f .monitored))
+    (kept-or 1 (monitoredOf b) (f .monitored))
 
 pub plan-facts : (b : List ℕ) → planInRange b ≡ true → PlanFacts b
 unfolding planInRange
@@ -184,7 +184,7 @@ unfolding rowInRange
 row-facts r e =
     let p =
     all-pass (commonInRange r)
-    (heardInRange (heardOf r) (stampOf r) ∷ leb (statusOf r) 5 ∷ isBit (showCancelledOf r) ∷ leb (flexibleOf r) 3 ∷ isBit (monitoredOf r) ∷ [])
+    (heardInRange (heardOf r) (stampOf r) ∷ leb (statusOf r) 5 ∷ isShown (showCancelledOf r) ∷ leb (flexibleOf r) 3 ∷ isBit (monitoredOf r) ∷ [])
     e in
     record {
       common = common-facts r (p 0);

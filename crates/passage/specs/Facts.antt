@@ -36,7 +36,7 @@ pub record UpdateFacts (b : List ℕ) : Type 0 where
   pub common : CommonFacts b
   pub stamp : inStampRange (stampOf b) ≡ true
   pub status : statusOf b ≤ 5
-  pub show-cancelled : (showCancelledOf b ≤ 1) ⊎ (showCancelledOf b ≡ kept)
+  pub show-cancelled : (showCancelledOf b ≤ 2) ⊎ (showCancelledOf b ≡ kept)
   pub flexible : ((1 ≤ flexibleOf b) × (flexibleOf b ≤ 3)) ⊎ (flexibleOf b ≡ kept)
   pub monitored : (monitoredOf b ≤ 1) ⊎ (monitoredOf b ≡ kept)
 
@@ -54,6 +54,6 @@ pub record RowFacts (r : List ℕ) : Type 0 where
   pub common : CommonFacts r
   pub heard : ((heardOf r ≡ 0) × (stampOf r ≡ 0)) ⊎ ((heardOf r ≡ 1) × (inStampRange (stampOf r) ≡ true))
   pub status : statusOf r ≤ 5
-  pub show-cancelled : showCancelledOf r ≤ 1
+  pub show-cancelled : showCancelledOf r ≤ 2
   pub flexible : flexibleOf r ≤ 3
   pub monitored : monitoredOf r ≤ 1

@@ -54,13 +54,17 @@ commonInRange b =
 abbrev pub isBit : ℕ → Bool
 isBit n = leb n 1
 
+-- how a cancelled journey is shown: not, or so, or with a message
+abbrev pub isShown : ℕ → Bool
+isShown n = leb n 2
+
 -- an update's body: a timestamp that a U field can give, and optionals that may say that the held content stays
 unfoldable pub updateInRange : List ℕ → Bool
 updateInRange b =
     commonInRange b
     && inStampRange (stampOf b)
     && leb (statusOf b) 5
-    && (isBit (showCancelledOf b) || eqb (showCancelledOf b) kept)
+    && (isShown (showCancelledOf b) || eqb (showCancelledOf b) kept)
     && (within 1 3 (flexibleOf b) || eqb (flexibleOf b) kept)
     && (isBit (monitoredOf b) || eqb (monitoredOf b) kept)
 
@@ -84,6 +88,6 @@ rowInRange r =
     commonInRange r
     && heardInRange (heardOf r) (stampOf r)
     && leb (statusOf r) 5
-    && isBit (showCancelledOf r)
+    && isShown (showCancelledOf r)
     && leb (flexibleOf r) 3
     && isBit (monitoredOf r)

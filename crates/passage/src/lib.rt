@@ -194,7 +194,7 @@ pub fn update_in_range(bytes: &[u8], at: usize) -> bool
     let monitored = bytes[at + MONITORED_AT];
     field_types::in_stamp_range(stamp)
         & (bytes[at + STATUS_AT] <= 5)
-        & ((show <= 1) | (show == KEPT))
+        & ((show <= 2) | (show == KEPT))
         & ((1 <= flexible) & (flexible <= 3) | (flexible == KEPT))
         & ((monitored <= 1) | (monitored == KEPT))
 }
@@ -229,7 +229,7 @@ pub fn row_in_range(bytes: &[u8], at: usize) -> bool
     let stamp = lists::get_number(bytes, at + STAMP_AT, STAMP_WIDE);
     heard_in_range(bytes[at + HEARD_AT], stamp)
         & (bytes[at + STATUS_AT] <= 5)
-        & (bytes[at + SHOW_CANCELLED_AT] <= 1)
+        & (bytes[at + SHOW_CANCELLED_AT] <= 2)
         & (bytes[at + FLEXIBLE_AT] <= 3)
         & (bytes[at + MONITORED_AT] <= 1)
 }

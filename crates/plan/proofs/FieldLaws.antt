@@ -11,6 +11,7 @@ use Rattle.lists.specs.BigEndian.{number}
 use Rattle.lists.proofs.LogicLaws.{and-pass}
 use Rattle.lists.proofs.TextLaws.{same-refl, same-equal}
 use Rattle.turbo_labels.specs.Columns.{columnOf}
+use Rattle.columns.specs.declared.Form.the-variants.{Old, New}
 use Rattle.columns.specs.Cell.{width}
 use Rattle.columns.specs.Tables.{columnsIn, messageColumns, planningColumns, calendarColumns, names, rowWidth}
 use Rattle.columns.specs.Layout.{columnAt, kindAt, widths, total, offset}
@@ -32,7 +33,28 @@ byte-number (suc at) (x ∷ l) = byte-number at l
 
 pub update-is-row : UpdateIsRow
 unfolding columnOf same names rowWidth columnsIn messageColumns width columnAt kindAt widths total offset
-update-is-row = (
+update-is-row Old = (
+  refl,
+  λ b. (
+    refl,
+    refl,
+    refl,
+    refl,
+    byte-number fortify-at b,
+    refl,
+    refl,
+    refl,
+    refl,
+    byte-number status-at b,
+    refl,
+    refl,
+    byte-number stop-type-at b,
+    byte-number show-cancelled-at b,
+    byte-number flexible-at b,
+    byte-number monitored-at b,
+  ),
+)
+update-is-row New = (
   refl,
   λ b. (
     refl,

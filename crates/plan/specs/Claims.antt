@@ -14,9 +14,10 @@ use Rattle.lists.specs.BigEndian.{number}
 use Rattle.clock.specs.Date.{isDate}
 use Rattle.turbo_labels.specs.Columns.{columnOf}
 use Rattle.columns.specs.declared.Table.{Table}
+use Rattle.columns.specs.declared.Form.{Form}
 use Rattle.columns.specs.declared.Table.the-variants.{Message, Planning, Calendar}
 use Rattle.columns.specs.Cell.{width}
-use Rattle.columns.specs.Tables.{names, rowWidth}
+use Rattle.columns.specs.Tables.{cancelledName, names, rowWidth}
 use Rattle.columns.specs.Layout.{kindAt, offset}
 use Rattle.passage.specs.Layout.{body-wide, keyOf, ownerOf, dateOf, lineOf, journeyOf, fortifyOf, stopOf, orderOf, destinationOf, stampOf, statusOf, arrivalOf, departureOf, stopTypeOf, showCancelledOf, flexibleOf, monitoredOf}
 use Rattle.passage.specs.Ranges.{paddedText, planInRange}
@@ -40,27 +41,28 @@ held t name row = part (offset t (placeIn t name)) (width (kindAt t (placeIn t n
 abbrev pub numberHeld : Table → String → List ℕ → ℕ
 numberHeld t name row = number (held t name row)
 
--- an update is a message's row as it stands: each field is the cell of the column of its name, and there is nothing behind the last
+-- an update is a message's row as it stands, in either form: each field is the cell of the column of its name, and there is nothing behind the last
 abbrev pub UpdateIsRow : Type 0
 UpdateIsRow =
-    (rowWidth Message ≡ body-wide)
+    (f : Form)
+    → (rowWidth (Message f) ≡ body-wide)
     × ((b : List ℕ) →
-    (ownerOf b ≡ held Message "DataOwnerCode" b)
-    × (dateOf b ≡ numberHeld Message "OperationDate" b)
-    × (lineOf b ≡ held Message "LinePlanningNumber" b)
-    × (journeyOf b ≡ numberHeld Message "VehicleJourneyNumber" b)
-    × (fortifyOf b ≡ numberHeld Message "FortifyOrderNumber" b)
-    × (stopOf b ≡ held Message "UserStopCode" b)
-    × (orderOf b ≡ numberHeld Message "UserStopOrderNumber" b)
-    × (destinationOf b ≡ held Message "DestinationCode" b)
-    × (stampOf b ≡ numberHeld Message "LastUpdateTimeStamp" b)
-    × (statusOf b ≡ numberHeld Message "TripStopStatus" b)
-    × (arrivalOf b ≡ numberHeld Message "ExpectedArrivalTime" b)
-    × (departureOf b ≡ numberHeld Message "ExpectedDepartureTime" b)
-    × (stopTypeOf b ≡ numberHeld Message "JourneyStopType" b)
-    × (showCancelledOf b ≡ numberHeld Message "ShowCancelledTrip" b)
-    × (flexibleOf b ≡ numberHeld Message "ShowFlexibleTrip" b)
-    × (monitoredOf b ≡ numberHeld Message "Monitored" b))
+    (ownerOf b ≡ held (Message f) "DataOwnerCode" b)
+    × (dateOf b ≡ numberHeld (Message f) "OperationDate" b)
+    × (lineOf b ≡ held (Message f) "LinePlanningNumber" b)
+    × (journeyOf b ≡ numberHeld (Message f) "VehicleJourneyNumber" b)
+    × (fortifyOf b ≡ numberHeld (Message f) "FortifyOrderNumber" b)
+    × (stopOf b ≡ held (Message f) "UserStopCode" b)
+    × (orderOf b ≡ numberHeld (Message f) "UserStopOrderNumber" b)
+    × (destinationOf b ≡ held (Message f) "DestinationCode" b)
+    × (stampOf b ≡ numberHeld (Message f) "LastUpdateTimeStamp" b)
+    × (statusOf b ≡ numberHeld (Message f) "TripStopStatus" b)
+    × (arrivalOf b ≡ numberHeld (Message f) "ExpectedArrivalTime" b)
+    × (departureOf b ≡ numberHeld (Message f) "ExpectedDepartureTime" b)
+    × (stopTypeOf b ≡ numberHeld (Message f) "JourneyStopType" b)
+    × (showCancelledOf b ≡ numberHeld (Message f) (cancelledName f) b)
+    × (flexibleOf b ≡ numberHeld (Message f) "ShowFlexibleTrip" b)
+    × (monitoredOf b ≡ numberHeld (Message f) "Monitored" b))
 
 -- the facts of a staged pass time and of a staged validity are those of the columns of their names
 abbrev pub PassByName : Type 0

@@ -19,6 +19,7 @@ use Rattle.syntax.proofs.GrammarLaws.{fine, formed}
 use Rattle.turbo_lines.specs.Lines.{lines, firstLong}
 use Rattle.turbo_lines.specs.Claims.{Short}
 use Rattle.turbo_lines.proofs.LongLaws.{none-long, all-short}
+use Rattle.columns.specs.declared.Form as Forms
 use Rattle.columns.specs.declared.Table.{Table}
 use Rattle.columns.specs.declared.Table.the-variants.{Message, Planning, Calendar}
 use Rattle.columns.specs.Tables.{rowOf}
@@ -110,17 +111,17 @@ desk-never register owner q =
     let y : grants register 0 owner ≡ false = grants-desk register 0 owner refl in
     absurd (let z : _≡_ {A = ℕ} 0 1 = cc in omega arith)
 
-desk-rows : (register : List ℕ) (xs : List Item) → Each (λ (x : Item). ownerBad Message register 0 x ≡ false) xs → dataRows Message xs ≡ []
+desk-rows : (f : Forms.Form) (register : List ℕ) (xs : List Item) → Each (λ (x : Item). ownerBad (Message f) register 0 x ≡ false) xs → dataRows (Message f) xs ≡ []
 unfolding dataRows
-desk-rows register [] e = refl
-desk-rows register (head n ls ∷ xs) e = desk-rows register xs (e .1)
-desk-rows register (row n ls l ∷ xs) e = desk-never register (part 0 10 (rowOf Message ls l)) (e .0)
+desk-rows f register [] e = refl
+desk-rows f register (head n ls ∷ xs) e = desk-rows f register xs (e .1)
+desk-rows f register (row n ls l ∷ xs) e = desk-never register (part 0 10 (rowOf (Message f) ls l)) (e .0)
 
-pub desk-nothing : (register d : List ℕ) (n : ℕ) → readingOf Message register 0 d ≡ Rows n → n ≡ 0
-desk-nothing register d n e =
-    let k = reading-looked Message register 0 d n e in
-    let a = answer-right Message register 0 d n (k .3) in
-    sym (a .3) ∙ ap length (desk-rows register (itemsOf Message d) (a .2))
+pub desk-nothing : (f : Forms.Form) (register d : List ℕ) (n : ℕ) → readingOf (Message f) register 0 d ≡ Rows n → n ≡ 0
+desk-nothing f register d n e =
+    let k = reading-looked (Message f) register 0 d n e in
+    let a = answer-right (Message f) register 0 d n (k .3) in
+    sym (a .3) ∙ ap length (desk-rows f register (itemsOf (Message f) d) (a .2))
 
 pub area-length : (t : Table) (register : List ℕ) (sender : ℕ) (d staging : List ℕ) → length (stagedBy t register sender d staging) ≡ length staging
 unfolding stagedBy
@@ -138,8 +139,8 @@ module _ (t : Table) (register : List ℕ) (sender least : ℕ) (bounded : (d : 
       let b : length (rowsUpTo t register sender (itemsOf t d)) * least ≤ length d + 2 = bounded d in
       (rw (← c) at b, reading-looked t register sender d n e .0)
 
-pub rows-few : (register : List ℕ) (sender : ℕ) (d : List ℕ) (n : ℕ) → readingOf Message register sender d ≡ Rows n → (n * 27 ≤ length d + 2) × (n ≤ 2427)
-rows-few register sender d n e = let f = few-rows Message register sender 27 (message-bounded register sender) d n e in (f .0, omega arith)
+pub rows-few : (f : Forms.Form) (register : List ℕ) (sender : ℕ) (d : List ℕ) (n : ℕ) → readingOf (Message f) register sender d ≡ Rows n → (n * 27 ≤ length d + 2) × (n ≤ 2427)
+rows-few f register sender d n e = let b = few-rows (Message f) register sender 27 (message-bounded f register sender) d n e in (b .0, omega arith)
 
 pub planning-few : (d : List ℕ) (n : ℕ) → readingOf Planning [] 0 d ≡ Rows n → (n * 10 ≤ length d + 2) × (n ≤ 6553)
 planning-few d n e = let f = few-rows Planning [] 0 10 (planning-bounded [] 0) d n e in (f .0, omega arith)

@@ -26,6 +26,7 @@ use Rattle.turbo_lines.specs.Lines.{lines, markOf, afterMark}
 use Rattle.turbo_labels.specs.Columns.{columnOf}
 use Rattle.turbo.proofs.SplitLaws.{until-le, past-drop, field-tail}
 use Rattle.turbo_lines.proofs.LineLaws.{lines-cons, lines-none}
+use Rattle.columns.specs.declared.Form.{Form}
 use Rattle.columns.specs.declared.Table.{Table}
 use Rattle.columns.specs.declared.Table.the-variants.{Message, Planning, Calendar}
 use Rattle.columns.specs.Cell.{null, missingTime, cell, numberCell, timeCell, timeAt}
@@ -133,10 +134,10 @@ kept-of :
 kept-of t ls l e name h = all-right t ls l e (columnOf (bytes name) (names t)) h
 
 -- a message has its stamp
-pub message-long : (ls : List (List ℕ)) (l : List ℕ) → wrongColumn Message ls l ≡ 0 → 27 ≤ length l + 2
+pub message-long : (f : Form) (ls : List (List ℕ)) (l : List ℕ) → wrongColumn (Message f) ls l ≡ 0 → 27 ≤ length l + 2
 unfolding columnsIn messageColumns columnAt names columnOf same
-message-long ls l e =
-    let m = right ls l "LastUpdateTimeStamp" Kinds.Stamp (kept-of Message ls l e "LastUpdateTimeStamp" (omega arith)) in
+message-long f ls l e =
+    let m = right ls l "LastUpdateTimeStamp" Kinds.Stamp (kept-of (Message f) ls l e "LastUpdateTimeStamp" (omega arith)) in
     omega (arith, field-shorter (columnOf (bytes "LastUpdateTimeStamp") ls) l, stamp-long _ _ m)
 
 -- a planning its times
@@ -205,8 +206,8 @@ module _ (t : Table) (least : ℕ) (long : (ls : List (List ℕ)) (l : List ℕ)
   rows-bounded : (d : List ℕ) → bytesOf (staged (itemsOf t d)) ≤ length d + 2
   rows-bounded d = let a = rows-weigh outside 1 (lines d) in let b = lines-weigh (length d) d (omega arith) in omega arith
 
-pub message-bounded : (register : List ℕ) (sender : ℕ) (d : List ℕ) → length (rowsUpTo Message register sender (itemsOf Message d)) * 27 ≤ length d + 2
-message-bounded = rows-bounded Message 27 message-long
+pub message-bounded : (f : Form) (register : List ℕ) (sender : ℕ) (d : List ℕ) → length (rowsUpTo (Message f) register sender (itemsOf (Message f) d)) * 27 ≤ length d + 2
+message-bounded f = rows-bounded (Message f) 27 (message-long f)
 
 pub planning-bounded : (register : List ℕ) (sender : ℕ) (d : List ℕ) → length (rowsUpTo Planning register sender (itemsOf Planning d)) * 10 ≤ length d + 2
 planning-bounded = rows-bounded Planning 10 planning-long

@@ -17,6 +17,7 @@ use Rattle.reader.proofs.RefusalLaws.{too-long-exactly, syntax-exactly,
 use Rattle.reader.proofs.ItemLaws.{items-exactly, items-in-order}
 use Rattle.reader.proofs.SaidLaws.{rows-say-lines}
 use Rattle.reader.proofs.StagedLaws.{staged-rows}
+use Rattle.reader.proofs.AlikeLaws.{forms-read-alike}
 
 pub claims : All
 claims = (
@@ -36,11 +37,12 @@ claims = (
   rows-few,
   planning-few,
   calendar-few,
-  λ register sender d. accepted-each Message register sender d (λ (r : List ℕ). updateInRange r ≡ true) (rows-in-range register sender (itemsOf Message d)),
+  λ f register sender d. accepted-each (Message f) register sender d (λ (r : List ℕ). updateInRange r ≡ true) (rows-in-range f register sender (itemsOf (Message f) d)),
   λ d. accepted-each Planning [] 0 d PassFacts (passes-in-range [] 0 (itemsOf Planning d)),
   λ d. accepted-each Calendar [] 0 d ValidityFacts (validities-in-range [] 0 (itemsOf Calendar d)),
-  λ register sender d.
-      (rows-in-range register sender (shortItems Message d), passes-in-range register sender (shortItems Planning d), validities-in-range register sender (shortItems Calendar d)),
+  λ f register sender d.
+      (rows-in-range f register sender (shortItems (Message f) d), passes-in-range register sender (shortItems Planning d), validities-in-range register sender (shortItems Calendar d)),
   area-length,
   staged-rows,
+  forms-read-alike,
 )

@@ -12,7 +12,7 @@ use Rattle.reader.proofs.read_calendar.Reads as read-calendar-reads
 pub read-message-determined : OneResult 3 read-message.ps read-message.r read-message-reads.Post
 read-message-determined κs a x y s t p q = p .0 ∙ sym (q .0)
 
-pub read-message-area-determined : Determined 3 read-message.ps read-message.r read-message-reads.Post (λ κs x s. now (s .1 .1 .1 .0))
+pub read-message-area-determined : Determined 3 read-message.ps read-message.r read-message-reads.Post (λ κs x s. now (s .1 .1 .1 .1 .0))
 read-message-area-determined κs a x y s t p q = p .1 .0 ∙ sym (q .1 .0)
 
 pub read-planning-determined : OneResult 2 read-planning.ps read-planning.r read-planning-reads.Post

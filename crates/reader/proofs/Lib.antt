@@ -15,5 +15,6 @@ pub mod RefusalLaws
 pub mod ItemLaws
 pub mod SaidLaws
 pub mod StagedLaws
+pub mod AlikeLaws
 pub mod Claims
 pub mod Determined

@@ -34,7 +34,7 @@ module _ (t : Table) (r : List ℕ) (w : length r ≡ rowWidth t) where
   owner-front = sym (take-take 10 (rowWidth t) (over 0 r (replicate widest-row 0)) (width-owner t)) ∙ ap (take 10) row-front
 
 pub sends-front : (t : Table) (register : List ℕ) (sender : ℕ) (r : List ℕ) → length r ≡ rowWidth t → maySend t register sender (over 0 r (replicate widest-row 0)) ≡ maySend t register sender r
-sends-front Message register sender r w = ap (grants register sender) (owner-front Message r w)
+sends-front (Message f) register sender r w = ap (grants register sender) (owner-front (Message f) r w)
 sends-front Planning register sender r w = refl
 sends-front Calendar register sender r w = refl
 

@@ -1,7 +1,7 @@
 use Prim.Native.Nat.{ℕ, _*_, _/_, _≤_}
 use native.Mathlib.Omega.{arith}
 use native.Mathlib.Nat.{le-div-iff-mul-le}
-use mathlib.Core.Path.{_≡_}
+use mathlib.Core.Path.{_≡_, sym, subst}
 use mathlib.Core.List.{List, []}
 use borrow.Author.Tests.{le-ltb}
 use lib.ListN.{length}
@@ -13,10 +13,12 @@ use Rattle.lists.proofs.WideLaws.{length-flat, rowsOf-flat}
 use Rattle.turbo_lines.specs.Lines.{lines}
 use Rattle.turbo_lines.proofs.LongLaws.{front-whole}
 use Rattle.passage.specs.Layout.{body-wide}
+use Rattle.columns.specs.declared.Form.{Form}
 use Rattle.columns.specs.declared.Table.{Table}
 use Rattle.columns.specs.declared.Table.the-variants.{Message, Planning, Calendar}
 use Rattle.columns.specs.Cell.{width}
-use Rattle.columns.specs.Tables.{messageColumns, planningColumns, calendarColumns, columnsIn, rowWidth}
+use Rattle.columns.specs.Tables.{planningColumns, calendarColumns, columnsIn, rowWidth}
+use Rattle.columns.proofs.FormLaws.{message-wide}
 use Rattle.reader.specs.declared.Reading.the-variants.{Rows}
 use Rattle.reader.specs.Rules.{largest, dataRows, itemsOf, readingOf}
 use Rattle.reader.specs.Staging.{stagedBy}
@@ -57,10 +59,11 @@ module _ (t : Table) (register : List ℕ) (sender : ℕ) (d staging : List ℕ)
 
 -- with the width of each table's rows by its name
 
-pub staged-updates : (register : List ℕ) (sender : ℕ) (d staging : List ℕ) (n : ℕ) → readingOf Message register sender d ≡ Rows n → n * body-wide ≤ length staging
-    → rowsOf body-wide n (stagedBy Message register sender d staging) ≡ dataRows Message (itemsOf Message d)
-unfolding rowWidth columnsIn messageColumns width
-staged-updates = staged-rows Message
+pub staged-updates : (f : Form) (register : List ℕ) (sender : ℕ) (d staging : List ℕ) (n : ℕ) → readingOf (Message f) register sender d ≡ Rows n → n * body-wide ≤ length staging
+    → rowsOf body-wide n (stagedBy (Message f) register sender d staging) ≡ dataRows (Message f) (itemsOf (Message f) d)
+staged-updates f register sender d staging n e room =
+    subst (λ (w : ℕ). rowsOf w n (stagedBy (Message f) register sender d staging) ≡ dataRows (Message f) (itemsOf (Message f) d)) (message-wide f)
+    (staged-rows (Message f) register sender d staging n e (subst (λ (w : ℕ). n * w ≤ length staging) (sym (message-wide f)) room))
 
 pub staged-passes : (d staging : List ℕ) (n : ℕ) → readingOf Planning [] 0 d ≡ Rows n → n * pass-wide ≤ length staging
     → rowsOf pass-wide n (stagedBy Planning [] 0 d staging) ≡ dataRows Planning (itemsOf Planning d)

@@ -19,8 +19,10 @@ use Rattle.field_types.specs.Digits.{numeral, triple}
 use Rattle.field_types.specs.Times.{clock, time}
 use Rattle.field_types.specs.Dates.{date}
 use Rattle.field_types.specs.Stamps.{utcOffset, stampSeconds, stamp}
-use Rattle.field_types.specs.Names.{bit, status, stopType, flexible}
+use Rattle.field_types.specs.Names.{bit, status, stopType, flexible, truth, shown}
 use Rattle.texts.specs.Texts.{text}
+use Rattle.columns.specs.declared.Form as Forms
+use Rattle.columns.specs.declared.Form.the-variants.{Old, New}
 use Rattle.columns.specs.declared.Table.the-variants.{Message, Calendar}
 use Rattle.columns.specs.Cell.{cell}
 use Rattle.columns.specs.Tables.{messageColumns, calendarColumns, columnsIn, tableName, names, misses, rowOf, wrongColumn, labelFault}
@@ -59,16 +61,14 @@ calendars = (refl, refl, refl, refl, refl, refl, refl)
 abbrev register : List ℕ
 register = 1 ∷ bytes "CXX" ++ replicate 7 0 ++ 0 ∷ bytes "CXX" ++ replicate 7 0
 
+abbrev messageIn : Forms.Form → ℕ → String → String → Reading
+messageIn form sender labels row = readingOf (Message form) register sender (joined ("\\G" ∷ "\\TDATEDPASSTIME" ∷ labels ∷ row ∷ []))
+
 abbrev message : ℕ → String → Reading
 message sender row =
-    readingOf
-    Message
-    register
-    sender
-    (joined
-    ("\\G" ∷ "\\TDATEDPASSTIME" ∷
+    messageIn Old sender
     "\\LDataOwnerCode|OperationDate|LinePlanningNumber|VehicleJourneyNumber|FortifyOrderNumber|UserStopCode|UserStopOrderNumber|DestinationCode|LastUpdateTimeStamp|TripStopStatus|ExpectedArrivalTime|ExpectedDepartureTime|JourneyStopType"
-    ∷ row ∷ []))
+    row
 
 pub messages :
     (message 1 "CXX|2016-03-01|A031|122|0|S1|15|CIOS|2016-03-01T15:15:30+01:00|CANCEL|24:10:00|24:10:30|INTERMEDIATE" ≡ Rows 1)
@@ -80,6 +80,23 @@ pub messages :
     × (message 1 "CXX|2016-03-01|A031|122|0|S1|15|CIOS|2016-03-01T15:15:30+01:00|CANCEL|24:10:00|\\0|LAST" ≡ Rows 1)
 unfolding readingOf fault run accepting step markStep startStep returnStep nullStep firstEscapeStep escapeStep fieldStep answerTo firstLine firstColumn dataRows items linesFrom firstLong markOf afterMark until past fields fieldAt fieldUnder tableName labelFault anyTwice count columnOf names columnsIn messageColumns misses same wrongColumn rowOf flat cell spelled text decode escaped date isDate daysIn triple numeral stamp stampSeconds monthStart dayCount utcOffset clock time status stopType bit flexible part hasPair grants rowsOf
 messages = (refl, refl, refl, refl, refl, refl)
+
+-- the 8.5 form: its own words, and its own name of what is shown of a cancelled journey; the old name is not wanted there, nor the new one in the old form
+abbrev either : Forms.Form → String → Reading
+either form row =
+    messageIn form 1
+    "\\LDataOwnerCode|OperationDate|LinePlanningNumber|VehicleJourneyNumber|FortifyOrderNumber|UserStopCode|UserStopOrderNumber|DestinationCode|LastUpdateTimeStamp|TripStopStatus|ExpectedArrivalTime|ExpectedDepartureTime|JourneyStopType|ShowCancelledJourney|Monitored|ShowCancelledTrip"
+    row
+
+pub forms :
+    (either New "CXX|2016-03-01|A031|122|0|S1|15|CIOS|2016-03-01T15:15:30+01:00|CANCEL|24:10:00|24:10:30|INTERMEDIATE|message|true|?" ≡ Rows 1)
+    × (either New "CXX|2016-03-01|A031|122|0|S1|15|CIOS|2016-03-01T15:15:30+01:00|CANCEL|24:10:00|24:10:30|INTERMEDIATE|TRUE|true|?" ≡ Field 4 14)
+    × (either New "CXX|2016-03-01|A031|122|0|S1|15|CIOS|2016-03-01T15:15:30+01:00|CANCEL|24:10:00|24:10:30|INTERMEDIATE|message|1|1" ≡ Field 4 15)
+    × (either Old "CXX|2016-03-01|A031|122|0|S1|15|CIOS|2016-03-01T15:15:30+01:00|CANCEL|24:10:00|24:10:30|INTERMEDIATE|?|1|0" ≡ Rows 1)
+    × (either Old "CXX|2016-03-01|A031|122|0|S1|15|CIOS|2016-03-01T15:15:30+01:00|CANCEL|24:10:00|24:10:30|INTERMEDIATE|message|true|1" ≡ Field 4 15)
+    × (either Old "CXX|2016-03-01|A031|122|0|S1|15|CIOS|2016-03-01T15:15:30+01:00|CANCEL|24:10:00|24:10:30|INTERMEDIATE|message|1|true" ≡ Field 4 16)
+unfolding readingOf fault run accepting step markStep startStep returnStep nullStep firstEscapeStep escapeStep fieldStep answerTo firstLine firstColumn dataRows items linesFrom firstLong markOf afterMark until past fields fieldAt fieldUnder tableName labelFault anyTwice count columnOf names columnsIn messageColumns misses same wrongColumn rowOf flat cell spelled text decode escaped date isDate daysIn triple numeral stamp stampSeconds monthStart dayCount utcOffset clock time status stopType bit flexible truth shown part hasPair grants rowsOf
+forms = (refl, refl, refl, refl, refl, refl)
 
 -- ---- a line of 4,096 bytes with its line end, and of 4,097; a fault of form before it and one of syntax behind it
 

@@ -15,10 +15,12 @@ use Rattle.turbo_lines.specs.declared.Mark.the-variants as Marks
 use Rattle.turbo_lines.specs.Lines.{lines, markOf, afterMark}
 use Rattle.turbo_lines.specs.Claims.{Short, LongAt}
 use Rattle.turbo_labels.specs.Claims.{Twice}
+use Rattle.columns.specs.declared.Form as Forms
 use Rattle.columns.specs.declared.Table.{Table}
 use Rattle.columns.specs.declared.Table.the-variants.{Message, Planning, Calendar}
 use Rattle.columns.specs.Tables.{tableName, nameOf, rowWidth, rowOf}
 use Rattle.columns.specs.Layout.{wanted, columnAt, optionalAt}
+use Rattle.columns.specs.Claims.{Unlabelled}
 use Rattle.register.specs.Register.{maySend}
 use Rattle.rows.specs.Claims.{Stands, cellBy, partOf, OutsideType}
 use Rattle.reader.specs.declared.Reading.the-variants.{TooLong, Syntax, Long, Form, Field, Owner, Rows}
@@ -195,11 +197,11 @@ RowsCounted =
 
 -- the desk, sender 0, sends no row
 abbrev pub DeskSendsNothing : Type 0
-DeskSendsNothing = (register d : List ℕ) (n : ℕ) → readingOf Message register 0 d ≡ Rows n → n ≡ 0
+DeskSendsNothing = (f : Forms.Form) (register d : List ℕ) (n : ℕ) → readingOf (Message f) register 0 d ≡ Rows n → n ≡ 0
 
 -- a message has at most 2,427 rows: a row's line holds a stamp of 25 bytes and ends in two, so a staging area of 160,182 bytes suffices
 abbrev pub RowsBounded : Type 0
-RowsBounded = (register : List ℕ) (sender : ℕ) (d : List ℕ) (n : ℕ) → readingOf Message register sender d ≡ Rows n → (n * 27 ≤ length d + 2) × (n ≤ 2427)
+RowsBounded = (f : Forms.Form) (register : List ℕ) (sender : ℕ) (d : List ℕ) (n : ℕ) → readingOf (Message f) register sender d ≡ Rows n → (n * 27 ≤ length d + 2) × (n ≤ 2427)
 
 -- a planning has at most 6,553 rows: a row's line holds a time of eight bytes, as an arrival is missing only at the first stop and a departure
 -- only at the last; a calendar has at most 5,461: a row's line holds a date of ten
@@ -212,8 +214,8 @@ CalendarBounded = (d : List ℕ) (n : ℕ) → readingOf Calendar [] 0 d ≡ Row
 -- every row of an accepted message is an update in range
 abbrev pub UpdatesInRange : Type 0
 UpdatesInRange =
-    (register : List ℕ) (sender : ℕ) (d : List ℕ) (n : ℕ) → readingOf Message register sender d ≡ Rows n
-    → Each (λ (r : List ℕ). updateInRange r ≡ true) (dataRows Message (itemsOf Message d))
+    (f : Forms.Form) (register : List ℕ) (sender : ℕ) (d : List ℕ) (n : ℕ) → readingOf (Message f) register sender d ≡ Rows n
+    → Each (λ (r : List ℕ). updateInRange r ≡ true) (dataRows (Message f) (itemsOf (Message f) d))
 
 -- every row of an accepted planning is a pass time in range, and every row of an accepted calendar a validity
 abbrev pub PassesInRange : Type 0
@@ -225,8 +227,8 @@ ValiditiesInRange = (d : List ℕ) (n : ℕ) → readingOf Calendar [] 0 d ≡ R
 -- so is each row that is staged before a refusal 15 or 4 to 6
 abbrev pub StagedInRange : Type 0
 StagedInRange =
-    (register : List ℕ) (sender : ℕ) (d : List ℕ)
-    → Each (λ (r : List ℕ). updateInRange r ≡ true) (rowsUpTo Message register sender (shortItems Message d))
+    (f : Forms.Form) (register : List ℕ) (sender : ℕ) (d : List ℕ)
+    → Each (λ (r : List ℕ). updateInRange r ≡ true) (rowsUpTo (Message f) register sender (shortItems (Message f) d))
     × Each PassFacts (rowsUpTo Planning register sender (shortItems Planning d))
     × Each ValidityFacts (rowsUpTo Calendar register sender (shortItems Calendar d))
 
@@ -240,7 +242,19 @@ StagedRowsAreRows =
     (t : Table) (register : List ℕ) (sender : ℕ) (d staging : List ℕ) (n : ℕ) → readingOf t register sender d ≡ Rows n → n * rowWidth t ≤ length staging
     → rowsOf (rowWidth t) n (stagedBy t register sender d staging) ≡ dataRows t (itemsOf t d)
 
+-- the item's labels have none of the three names in which the forms of a message differ
+abbrev pub Plain : Item → Type 0
+Plain (head n ls) = Unlabelled "ShowCancelledTrip" ls × Unlabelled "ShowCancelledJourney" ls × Unlabelled "Monitored" ls
+Plain (row n ls l) = Unlabelled "ShowCancelledTrip" ls × Unlabelled "ShowCancelledJourney" ls × Unlabelled "Monitored" ls
+
+-- a message without them is read the same in both forms: the answer, and the rows
+abbrev pub FormsReadAlike : Type 0
+FormsReadAlike =
+    (f g : Forms.Form) (register : List ℕ) (sender : ℕ) (d : List ℕ) → Each Plain (itemsOf (Message f) d)
+    → (readingOf (Message f) register sender d ≡ readingOf (Message g) register sender d)
+    × (dataRows (Message f) (itemsOf (Message f) d) ≡ dataRows (Message g) (itemsOf (Message g) d))
+
 abbrev pub All : Type 0
 All =
     ItemsExactly × ItemsInOrder × RowsSayLines × AcceptedExactly × TooLongExactly × SyntaxExactly × LongExactly × FormExactly × FieldExactly × OwnerExactly × NumbersByTable × RowsCounted × DeskSendsNothing × RowsBounded × PlanningBounded × CalendarBounded × UpdatesInRange × PassesInRange × ValiditiesInRange
-    × StagedInRange × AreaKeepsLength × StagedRowsAreRows
+    × StagedInRange × AreaKeepsLength × StagedRowsAreRows × FormsReadAlike

@@ -93,13 +93,19 @@ fn read(table: Table, dossier: &[u8], register: &[u8], sender: u8, staging: &mut
     }
 }
 
-// A message: its rows, a body each, into the staging area.
-pub fn read_message(dossier: &[u8], register: &[u8], sender: u8, staging: &mut [u8]) -> Reading
-    ensures answer { λ r. ⌜ r ≡ readingOf Table.Message (now (register .entry)) sender (now (dossier .entry)) ⌝ }
-    ensures area { λ _. ⌜ now (staging .exit) ≡ stagedBy Table.Message (now (register .entry)) sender (now (dossier .entry)) (now (staging .entry)) ⌝ }
-    ensures numbers { λ r. ⌜ readingNumbers r ≡ readingTable Table.Message (now (register .entry)) sender (now (dossier .entry)) ⌝ }
+// A message in its form: its rows, a body each, into the staging area.
+pub fn read_message(
+    form: columns::Form,
+    dossier: &[u8],
+    register: &[u8],
+    sender: u8,
+    staging: &mut [u8],
+) -> Reading
+    ensures answer { λ r. ⌜ r ≡ readingOf (Table.Message form) (now (register .entry)) sender (now (dossier .entry)) ⌝ }
+    ensures area { λ _. ⌜ now (staging .exit) ≡ stagedBy (Table.Message form) (now (register .entry)) sender (now (dossier .entry)) (now (staging .entry)) ⌝ }
+    ensures numbers { λ r. ⌜ readingNumbers r ≡ readingTable (Table.Message form) (now (register .entry)) sender (now (dossier .entry)) ⌝ }
 {
-    read(Table::Message, dossier, register, sender, staging)
+    read(Table::Message(form), dossier, register, sender, staging)
 }
 
 // The planning: pass times, without a date and with their service level.

@@ -10,6 +10,7 @@ use lib.ListN.{length, take}
 use borrow.Author.Tests.{le-leb, lt-leb}
 use Rattle.lists.specs.Part.{over}
 use Rattle.columns.specs.declared.Table.{Table}
+use Rattle.columns.specs.declared.Form.the-variants.{Old, New}
 use Rattle.columns.specs.declared.Table.the-variants.{Message, Planning, Calendar}
 use Rattle.columns.specs.Cell.{width}
 use Rattle.columns.specs.Tables.{messageColumns, planningColumns, calendarColumns, columnsIn, rowWidth}
@@ -20,20 +21,23 @@ use Rattle.reader_step.specs.Step.{staged}
 
 pub width-some : (t : Table) → 0 < rowWidth t
 unfolding rowWidth columnsIn messageColumns planningColumns calendarColumns width
-width-some Message = omega arith
+width-some (Message Old) = omega arith
+width-some (Message New) = omega arith
 width-some Planning = omega arith
 width-some Calendar = omega arith
 
 pub width-most : (t : Table) → rowWidth t ≤ widest-row
 unfolding rowWidth columnsIn messageColumns planningColumns calendarColumns width
-width-most Message = omega arith
+width-most (Message Old) = omega arith
+width-most (Message New) = omega arith
 width-most Planning = omega arith
 width-most Calendar = omega arith
 
 -- every row begins with its owner, ten bytes
 pub width-owner : (t : Table) → 10 ≤ rowWidth t
 unfolding rowWidth columnsIn messageColumns planningColumns calendarColumns width
-width-owner Message = omega arith
+width-owner (Message Old) = omega arith
+width-owner (Message New) = omega arith
 width-owner Planning = omega arith
 width-owner Calendar = omega arith
 

@@ -182,7 +182,7 @@ fn is_named(table: Table, name: &[u8]) -> bool
     ensures { λ r. ⌜ r ≡ same (now (name .entry)) (tableName table) ⌝ }
 {
     match table {
-        Table::Message => lists::same_bytes(name, b"DATEDPASSTIME"),
+        Table::Message(_) => lists::same_bytes(name, b"DATEDPASSTIME"),
         Table::Planning => lists::same_bytes(name, b"LOCALSERVICEGROUPPASSTIME"),
         Table::Calendar => lists::same_bytes(name, b"LOCALSERVICEGROUPVALIDITY"),
     }

@@ -37,6 +37,6 @@ registerSound register = eqb (length register % pair-wide) 0 && leb (length regi
 
 -- whether the sender may send this row of a table: of a message, where it is registered for the row's owner; planning and calendar have no sender
 abbrev pub maySend : Table → List ℕ → ℕ → List ℕ → Bool
-maySend Tables.Message register sender row = grants register sender (ownerOf row)
+maySend (Tables.Message form) register sender row = grants register sender (ownerOf row)
 maySend Tables.Planning register sender row = true
 maySend Tables.Calendar register sender row = true

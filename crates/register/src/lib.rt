@@ -65,7 +65,7 @@ pub fn may_send(table: Table, register: &[u8], sender: u8, row: &[u8]) -> bool
     ensures { λ r. ⌜ r ≡ maySend table (now (register .entry)) sender (now (row .entry)) ⌝ }
 {
     match table {
-        Table::Message => registered(register, sender, row, OWNER_AT),
+        Table::Message(_) => registered(register, sender, row, OWNER_AT),
         Table::Planning => true,
         Table::Calendar => true,
     }

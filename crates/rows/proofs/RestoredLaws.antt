@@ -197,6 +197,6 @@ restored-labels t labels e = rw (shape-is t labels e) (restored-shape t (rightSh
 -- zeroed numbers give the shape of a label line at fault
 pub restored-none : (t : Table) → shapeAt t 0 0 (replicate most 0) ≡ noShape
 unfolding shapeAt columnsIn messageColumns planningColumns calendarColumns lacking visits nextFrom over onto
-restored-none Message = refl
+restored-none (Message f) = refl
 restored-none Planning = refl
 restored-none Calendar = refl

@@ -20,7 +20,7 @@ use Rattle.rows.specs.Shape.{placesOf, lacking, visits, readingOrder, no
 -- what must be there and is missing, by the places
 pub misses-lacking : (t : Table) (labels : List (List ℕ)) → misses t labels ≡ lacking (length labels) (columnsIn t) (placesOf t labels)
 unfolding misses lacking columnsIn messageColumns planningColumns calendarColumns names placesFrom
-misses-lacking Message labels = refl
+misses-lacking (Message f) labels = refl
 misses-lacking Planning labels = refl
 misses-lacking Calendar labels = refl
 

@@ -16,6 +16,7 @@ use Rattle.lists.proofs.TextLaws.{same-refl}
 use Rattle.turbo_labels.specs.Columns.{columnOf, anyTwice, placesFrom, columnsOf, most}
 use Rattle.turbo_labels.proofs.PlaceLaws.{place-there, each-place}
 use Rattle.columns.specs.declared.Table.{Table}
+use Rattle.columns.specs.declared.Form.the-variants.{Old, New}
 use Rattle.columns.specs.declared.Table.the-variants.{Message, Planning, Calendar}
 use Rattle.columns.specs.declared.Kind.the-variants as Kinds
 use Rattle.columns.specs.Tables.{Column, must, messageColumns, planningColumns, calendarColumns, columnsIn, names, nameOf, isOptional, missesIn, misses, stopPlace, labelFault}
@@ -57,7 +58,8 @@ different-at (w ∷ ws) (suc j) (suc k) e l h q = different-at ws j k (and-pass 
 
 names-different : (t : Table) → different (names t) ≡ true
 unfolding names columnsIn messageColumns planningColumns calendarColumns same
-names-different Message = refl
+names-different (Message Old) = refl
+names-different (Message New) = refl
 names-different Planning = refl
 names-different Calendar = refl
 

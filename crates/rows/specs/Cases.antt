@@ -5,7 +5,7 @@ use mathlib.Core.Bool.{true, false}
 use mathlib.Core.List.{List, [], _∷_, _++_}
 use lib.ListN.{take, drop, replicate}
 use Rattle.lists.specs.Text.{bytes, same}
-use Rattle.lists.specs.Part.{onto, over}
+use Rattle.lists.specs.Part.{part, onto, over}
 use Rattle.lists.specs.Rows.{flat}
 use Rattle.lists.specs.BigEndian.{spelled}
 use Rattle.clock.specs.Date.{daysIn, isDate}
@@ -17,8 +17,10 @@ use Rattle.field_types.specs.Digits.{numeral, triple}
 use Rattle.field_types.specs.Times.{clock, time}
 use Rattle.field_types.specs.Dates.{date}
 use Rattle.field_types.specs.Stamps.{utcOffset, stampSeconds, stamp}
-use Rattle.field_types.specs.Names.{bit, status, stopType, flexible}
+use Rattle.field_types.specs.Names.{bit, status, stopType, flexible, truth, shown}
 use Rattle.texts.specs.Texts.{text}
+use Rattle.columns.specs.declared.Form.{Form}
+use Rattle.columns.specs.declared.Form.the-variants.{Old, New}
 use Rattle.columns.specs.declared.Table.the-variants.{Message, Calendar}
 use Rattle.columns.specs.Cell.{cell}
 use Rattle.columns.specs.Tables.{messageColumns, calendarColumns, columnsIn, names, misses, rowOf, wrongColumn, labelFault}
@@ -78,9 +80,27 @@ messageRow =
     ∷ spelled 3 91200
     ++ 0 ∷ 255 ∷ 255 ∷ 255 ∷ []
 
-pub message-row : (wrongColumn Message messageLabels message ≡ 0) × (rowOf Message messageLabels message ≡ messageRow)
+pub message-row : (f : Form) → (wrongColumn (Message f) messageLabels message ≡ 0) × (rowOf (Message f) messageLabels message ≡ messageRow)
 unfolding messageLabels message messageRow wrongColumn rowOf flat columnsIn messageColumns columnOf fieldUnder same fieldAt fields cell spelled text decode escaped date isDate daysIn triple numeral stamp stampSeconds monthStart dayCount utcOffset clock time status stopType bit flexible
-message-row = (refl, refl)
+message-row Old = (refl, refl)
+message-row New = (refl, refl)
+
+-- the same with a cancelled journey's showing by either name: each form has its own words for its own
+unfoldable pub formLabels : List (List ℕ)
+formLabels = bytes "ShowCancelledTrip" ∷ bytes "ShowCancelledJourney" ∷ messageLabels
+
+abbrev shownAs : List ℕ → List ℕ → List ℕ
+shownAs trip journey = trip ++ bytes "|" ++ journey ++ bytes "|" ++ message
+
+pub forms-row :
+    (wrongColumn (Message New) formLabels (shownAs (bytes "?") (bytes "message")) ≡ 0)
+    × (part 63 3 (rowOf (Message New) formLabels (shownAs (bytes "?") (bytes "message"))) ≡ 2 ∷ 255 ∷ 255 ∷ [])
+    × (wrongColumn (Message New) formLabels (shownAs (bytes "1") (bytes "1")) ≡ 2)
+    × (wrongColumn (Message Old) formLabels (shownAs (bytes "1") (bytes "?")) ≡ 0)
+    × (part 63 3 (rowOf (Message Old) formLabels (shownAs (bytes "1") (bytes "?"))) ≡ 1 ∷ 255 ∷ 255 ∷ [])
+    × (wrongColumn (Message Old) formLabels (shownAs (bytes "true") (bytes "true")) ≡ 1)
+unfolding formLabels messageLabels message part wrongColumn rowOf flat columnsIn messageColumns columnOf fieldUnder same fieldAt fields cell spelled text decode escaped date isDate daysIn triple numeral stamp stampSeconds monthStart dayCount utcOffset clock time status stopType bit flexible truth shown
+forms-row = (refl, refl, refl, refl, refl, refl)
 
 -- the date in column 3 and the owner in column 5 are both outside their types: the first in the line's order is told, though the owner is the table's first column
 pub calendar-wrong :

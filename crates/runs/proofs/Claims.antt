@@ -38,9 +38,9 @@ open-refused : (planning calendar : List ℕ) (x : Day) → isDone (replyTo (Cal
 unfolding openLeaves openedBy
 open-refused planning calendar x e = rw e
 
-message-refused : (d : List ℕ) (sender : ℕ) (register : List ℕ) (x : Day) → isDone (replyTo (Call.message d sender register) x) ≡ false → after (Call.message d sender register) x ≡ x
+message-refused : (d : List ℕ) (sender form : ℕ) (register : List ℕ) (x : Day) → isDone (replyTo (Call.message d sender form register) x) ≡ false → after (Call.message d sender form register) x ≡ x
 unfolding messageLeaves takenBy
-message-refused d sender register x e = rw e
+message-refused d sender form register x e = rw e
 
 end-refused : (register staging kept : List ℕ) (x : Day) → isDone (replyTo (Call.endFeed register staging kept) x) ≡ false → after (Call.endFeed register staging kept) x ≡ x
 unfolding endLeaves takenBy
@@ -52,7 +52,7 @@ withdraw-refused n sender x e = rw e
 
 refused : RefusedChangesNothing
 refused (Call.reopen planning calendar) x e = (open-refused planning calendar x e, rw e)
-refused (Call.message d sender register) x e = (message-refused d sender register x e, rw e)
+refused (Call.message d sender form register) x e = (message-refused d sender form register x e, rw e)
 refused (Call.endFeed register staging kept) x e = (end-refused register staging kept x e, rw e)
 refused (Call.withdraw n sender) x e = (withdraw-refused n sender x e, rw e)
 refused (Call.look question places) x e = (refl, rw e)
@@ -66,7 +66,7 @@ FollowsFrom begun x log = Follows (begun .plan) (begun .lent) x log
 accepted-holds : (call : Call) (x : Day) (begun : Begun) (log : List Taken) → FollowsFrom begun x log → isDone (replyTo call x) ≡ true
     → Holds (begunIf true call x begun .plan) (begunIf true call x begun .lent) (after call x) (noted (deedOf call (replyTo call x)) log)
 accepted-holds (Call.reopen planning calendar) x begun log f e = rw e (open-follows planning calendar (x .book) (x .table) (x .counts) e .holds)
-accepted-holds (Call.message d sender register) x begun log f e = message-holds d sender register x e (begun .plan) (begun .lent) log (f .agrees .0 .0) (f .holds)
+accepted-holds (Call.message d sender form register) x begun log f e = message-holds d sender form register x e (begun .plan) (begun .lent) log (f .agrees .0 .0) (f .holds)
 accepted-holds (Call.endFeed register staging kept) x begun log f e = end-holds register staging kept x e (begun .plan) (begun .lent) log (f .agrees .0 .0) (f .holds)
 accepted-holds (Call.withdraw n sender) x begun log f e = withdraw-holds n sender x e (begun .plan) (begun .lent) log (f .agrees .0 .0) (f .holds)
 accepted-holds (Call.look question places) x begun log f e = rw e (f .holds)
@@ -155,7 +155,7 @@ calls-keep-sound call x s = go (isDone (replyTo call x)) refl
 accepted-deed : (call : Call) (x : Day) → isDone (replyTo call x) ≡ true → after call x ≡ done (deedOf call (replyTo call x)) x
 unfolding openLeaves openedBy withdrawLeaves withoutBy
 accepted-deed (Call.reopen planning calendar) x e = rw e
-accepted-deed (Call.message d sender register) x e = message-deed d sender register x e
+accepted-deed (Call.message d sender form register) x e = message-deed d sender form register x e
 accepted-deed (Call.endFeed register staging kept) x e = end-deed register staging kept x e
 accepted-deed (Call.withdraw n sender) x e = rw e
 accepted-deed (Call.look question places) x e = rw e

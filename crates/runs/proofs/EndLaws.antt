@@ -15,6 +15,7 @@ use Rattle.lists.proofs.LogicLaws.{and-pass, or-fail}
 use Rattle.lists.proofs.WideLaws.{wide-rowsOf}
 use Rattle.passage.specs.Layout.{body-wide, ownerOf}
 use Rattle.passage.specs.Ranges.{updateInRange}
+use Rattle.columns.specs.Tables.{isForm}
 use Rattle.register.specs.Register.{grants}
 use Rattle.register.proofs.RegisterLaws.{grants-desk}
 use Rattle.reader.specs.declared.Reading.the-variants as Readings
@@ -25,7 +26,7 @@ use Rattle.book.specs.Rules.{bookSound, bookRoom}
 use Rattle.feeds.specs.declared.Feed.{Feed}
 use Rattle.feeds.specs.Kept.{feedOf, isBegun}
 use Rattle.calls.specs.declared.Answer.{Answer}
-use Rattle.calls.specs.declared.Answer.the-variants.{Accepted, Unsound, Owner, StagingShort, BookShort, TableShort}
+use Rattle.calls.specs.declared.Answer.the-variants.{Accepted, Unsound, Owner, StagingShort, BookShort, TableShort, UnknownForm}
 use Rattle.calls.specs.Answers.{isAccepted, unlessRefused}
 use Rattle.calls.specs.Message.{messageSound, numberFor, rowsTaken, roomFor, takenBy}
 use Rattle.calls.specs.End.{least, stagedRows, allInRange, anyDenied, fallsShort, most-rows, endSound, readingKept, postAnswer, endAnswer, endLeaves}
@@ -89,6 +90,7 @@ module _ (register staging kept : List ℕ) (x : Day) where
   -- what an accepted end passed
   record Went : Type 0 where
     sound : endSound register staging (x .book) (x .table) (x .counts) kept ≡ true
+    known : isForm (feedOf kept .form) ≡ true
     rows : (n : ℕ) × (readingKept (feedOf kept) ≡ Readings.Rows n)
     granted : anyDenied register sender sent ≡ false
     all : fallsShort staging (feedOf kept) ≡ false
@@ -99,18 +101,20 @@ module _ (register staging kept : List ℕ) (x : Day) where
     went : Went
     unfolding endAnswer postAnswer roomFor
     went =
-        let s = first-of (endSound register staging (x .book) (x .table) (x .counts) kept) (unlessRefused 0 (readingKept (feedOf kept)) (postAnswer register staging (x .book) (x .table) (x .counts) (feedOf kept))) Unsound refl e in
-        let r = read-on 0 (readingKept (feedOf kept)) (postAnswer register staging (x .book) (x .table) (x .counts) (feedOf kept)) (s .1) in
+        let found = unlessRefused 0 (readingKept (feedOf kept)) (postAnswer register staging (x .book) (x .table) (x .counts) (feedOf kept)) in
+        let s = first-of (endSound register staging (x .book) (x .table) (x .counts) kept) (on (isForm (feedOf kept .form)) found UnknownForm) Unsound refl e in
+        let k = first-of (isForm (feedOf kept .form)) found UnknownForm refl (s .1) in
+        let r = read-on 0 (readingKept (feedOf kept)) (postAnswer register staging (x .book) (x .table) (x .counts) (feedOf kept)) (k .1) in
         let d = second-of (anyDenied register sender sent) (Owner 0) (on (fallsShort staging (feedOf kept)) StagingShort (roomFor sent (x .book) (x .table) (x .counts))) refl (r .1) in
         let f = second-of (fallsShort staging (feedOf kept)) StagingShort (roomFor sent (x .book) (x .table) (x .counts)) refl (d .1) in
         let b = first-of fits (on holds (Accepted (numberFor sent (x .counts .used) (x .book))) TableShort) BookShort refl (f .1) in
         let t = first-of holds (Accepted (numberFor sent (x .counts .used) (x .book))) TableShort refl (b .1) in
-        record { sound = s .0; rows = r .0; granted = d .0; all = f .0; in-book = b .0; in-table = t .0 }
+        record { sound = s .0; known = k .0; rows = r .0; granted = d .0; all = f .0; in-book = b .0; in-table = t .0 }
 
     -- and it is accepted with its number
     answer-is : endAnswer register staging (x .book) (x .table) (x .counts) kept ≡ Accepted (numberFor sent (x .counts .used) (x .book))
     unfolding endAnswer postAnswer roomFor
-    answer-is = let w = went in rw (w .sound, w .rows .1, w .granted, w .all, w .in-book, w .in-table) refl
+    answer-is = let w = went in rw (w .sound, w .known, w .rows .1, w .granted, w .all, w .in-book, w .in-table) refl
 
     in-range : allInRange sent ≡ true
     unfolding endSound

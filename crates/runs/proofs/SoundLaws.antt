@@ -184,8 +184,8 @@ module _ (n sender : ℕ) (x : Day) (s : Sound x) (e : isDone (replyTo (Call.wit
 
 pub accepted-sound : (call : Call) (x : Day) → Sound x → isDone (replyTo call x) ≡ true → Sound (after call x)
 accepted-sound (Call.reopen planning calendar) x s e = open-follows planning calendar (x .book) (x .table) (x .counts) e .agrees .0
-accepted-sound (Call.message d sender register) x s e =
-    took-sound (Message.sent d sender register x) sender x s (Message.takable d sender register x e) (after (Call.message d sender register) x) (Message.day-after d sender register x e)
+accepted-sound (Call.message d sender form register) x s e =
+    took-sound (Message.sent d sender form register x) sender x s (Message.takable d sender form register x e) (after (Call.message d sender form register) x) (Message.day-after d sender form register x e)
 accepted-sound (Call.endFeed register staging kept) x s e =
     took-sound (End.sent register staging kept x) (End.sender register staging kept x) x s (End.takable register staging kept x e) (after (Call.endFeed register staging kept) x) (End.day-after register staging kept x e)
 accepted-sound (Call.withdraw n sender) x s e = withdraw-sound n sender x s e
@@ -193,8 +193,8 @@ accepted-sound (Call.look question places) x s e = s
 
 pub accepted-agrees : (call : Call) (x : Day) → Agrees x → isDone (replyTo call x) ≡ true → Agrees (after call x)
 accepted-agrees (Call.reopen planning calendar) x a e = open-follows planning calendar (x .book) (x .table) (x .counts) e .agrees
-accepted-agrees (Call.message d sender register) x a e =
-    took-agrees (Message.sent d sender register x) sender x (a .0) (Message.takable d sender register x e) (after (Call.message d sender register) x) (Message.day-after d sender register x e) (a .1)
+accepted-agrees (Call.message d sender form register) x a e =
+    took-agrees (Message.sent d sender form register x) sender x (a .0) (Message.takable d sender form register x e) (after (Call.message d sender form register) x) (Message.day-after d sender form register x e) (a .1)
 accepted-agrees (Call.endFeed register staging kept) x a e =
     took-agrees (End.sent register staging kept x) (End.sender register staging kept x) x (a .0) (End.takable register staging kept x e) (after (Call.endFeed register staging kept) x) (End.day-after register staging kept x e) (a .1)
 accepted-agrees (Call.withdraw n sender) x a e = (withdraw-sound n sender x (a .0) e, withdraw-agrees n sender x (a .0) e (a .1))

@@ -22,11 +22,11 @@ use Rattle.board.specs.declared.Listing.the-variants.{Listed, Unsound, OutOfRan
 use Rattle.board.specs.Rules.{Board, boardLeaves}
 use Rattle.board_show.specs.Ask.{Question}
 
--- an open (planning, calendar), a message (dossier, sender, register), the end of a dossier that came in parts (register, staging area, the feed's numbers: whatever
+-- an open (planning, calendar), a message (dossier, sender, form, register), the end of a dossier that came in parts (register, staging area, the feed's numbers: whatever
 -- bytes and numbers these are), a withdrawal (message number, sender), or a board (a question, the places lent)
 pub data Call : Type 0 where
   reopen : List ℕ → List ℕ → Call
-  message : List ℕ → ℕ → List ℕ → Call
+  message : List ℕ → ℕ → ℕ → List ℕ → Call
   endFeed : List ℕ → List ℕ → List ℕ → Call
   withdraw : ℕ → ℕ → Call
   look : Question → List ℕ → Call
@@ -38,7 +38,7 @@ pub data Reply : Type 0 where
 
 abbrev pub replyTo : Call → Day → Reply
 replyTo (reopen planning calendar) x = answered (openAnswer planning calendar (x .book) (x .table))
-replyTo (message dossier sender register) x = answered (messageAnswer dossier sender register (x .book) (x .table) (x .counts))
+replyTo (message dossier sender form register) x = answered (messageAnswer dossier sender form register (x .book) (x .table) (x .counts))
 replyTo (endFeed register staging kept) x = answered (endAnswer register staging (x .book) (x .table) (x .counts) kept)
 replyTo (withdraw n sender) x = answered (withdrawAnswer n sender (x .book) (x .table) (x .counts))
 replyTo (look question places) x = showed (boardLeaves question (x .table) (x .counts .rows) places)
@@ -67,7 +67,7 @@ opened planning calendar book table c = dayLeft (openLeaves planning calendar bo
 -- the day after a call, by the promises of the calls; the next call is given the counts that this one returned
 abbrev pub after : Call → Day → Day
 after (reopen planning calendar) x = opened planning calendar (x .book) (x .table) (x .counts)
-after (message dossier sender register) x = dayLeft (messageLeaves dossier sender register (x .book) (x .table) (x .counts))
+after (message dossier sender form register) x = dayLeft (messageLeaves dossier sender form register (x .book) (x .table) (x .counts))
 after (endFeed register staging kept) x = dayEnded (endLeaves register staging (x .book) (x .table) (x .counts) kept)
 after (withdraw n sender) x = dayLeft (withdrawLeaves n sender (x .book) (x .table) (x .counts))
 after (look question places) x = x
@@ -104,7 +104,7 @@ numberGiven (showed board) = 0
 abbrev pub deedIf : Bool → Call → ℕ → Deed
 deedIf false call n = nothing
 deedIf true (reopen planning calendar) n = began (planOf planning calendar)
-deedIf true (message dossier sender register) n = on (eqb n 0) nothing (took n sender (messageRows dossier))
+deedIf true (message dossier sender form register) n = on (eqb n 0) nothing (took n sender (messageRows form dossier))
 deedIf true (endFeed register staging kept) n = on (eqb n 0) nothing (took n (feedOf kept .sender) (stagedRows staging (feedOf kept)))
 deedIf true (withdraw m sender) n = struckOut m
 deedIf true (look question places) n = nothing
@@ -151,7 +151,7 @@ begunBy planning calendar book = record { plan = planOf planning calendar; lent 
 abbrev pub begunIf : Bool → Call → Day → Begun → Begun
 begunIf false call x begun = begun
 begunIf true (reopen planning calendar) x begun = begunBy planning calendar (x .book)
-begunIf true (message dossier sender register) x begun = begun
+begunIf true (message dossier sender form register) x begun = begun
 begunIf true (endFeed register staging kept) x begun = begun
 begunIf true (withdraw n sender) x begun = begun
 begunIf true (look question places) x begun = begun

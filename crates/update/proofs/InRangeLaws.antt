@@ -26,7 +26,7 @@ keeps-most m held said h k = ⊎-elim (λ s. on-most m held said (eqb said kept)
 
 -- the four fields of what is held that a row can keep
 abbrev Bounds : List ℕ → Type 0
-Bounds r = (statusOf r ≤ 5) × (showCancelledOf r ≤ 1) × (flexibleOf r ≤ 3) × (monitoredOf r ≤ 1)
+Bounds r = (statusOf r ≤ 5) × (showCancelledOf r ≤ 2) × (flexibleOf r ≤ 3) × (monitoredOf r ≤ 1)
 
 begun-bounds : (h : List ℕ) → (h ≡ []) ⊎ (rowInRange h ≡ true) → Bounds (begun h)
 unfolding beginning
@@ -51,7 +51,7 @@ module _ (h u : List ℕ) (wide : length u ≡ body-wide) where
         common = common-facts (rowRule h u) (rule-common ∙ facts-common u (f .common));
         heard = inr (rule-heard h u wide, rw (rule-stamp h u wide) (f .stamp));
         status = rw (rule-status h u wide) (on-most 5 (statusOf u) (statusOf (begun h)) (mayMove (statusOf (begun h)) (statusOf u)) (f .status) (g .0));
-        show-cancelled = rw (rule-show h u wide) (keeps-most 1 _ _ (g .1) (f .show-cancelled));
+        show-cancelled = rw (rule-show h u wide) (keeps-most 2 _ _ (g .1) (f .show-cancelled));
         flexible = rw (rule-flexible h u wide) (keeps-most 3 _ _ (g .2) (⊎-elim (λ p. inl (p .1)) (λ p. inr p) (f .flexible)));
         monitored = rw (rule-monitored h u wide) (keeps-most 1 _ _ (g .3) (f .monitored));
       }

@@ -107,7 +107,7 @@ fn papers(line: &[u8], desk: &mut [u8], kept: &mut [u8], h: Held) -> Held {
     n
 }
 
-// O opens, M is a message from a sender, W withdraws a message for a sender.
+// O opens, M is a message from a sender, with its form behind it where that is not 0, W withdraws a message for a sender.
 fn ask(
     plan: &[u8],
     dossier: &[u8],
@@ -124,6 +124,7 @@ fn ask(
         b'M' => messages::message(
             dossier,
             script_text::low_byte(first),
+            script_text::low_word(second),
             register,
             book,
             table,

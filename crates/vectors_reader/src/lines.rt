@@ -2,6 +2,7 @@
 use crate::say;
 use crate::spell;
 use crate::staged;
+use columns::Form;
 use field_types::Number;
 use reader::Reading;
 
@@ -60,14 +61,22 @@ fn laid(line: &[u8], desk: &mut [u8], h: Held) -> Job {
     }
 }
 
-// P and p read the planning, C and c the calendar, the others messages.
+// P and p read the planning, C and c the calendar, N and n messages in the 8.5 form, the others in the old.
 fn read(desk: &[u8], area: &mut [u8], j: Job) -> Reading {
     let d = script_text::part(desk, DOSSIER, j.end);
     let letter = j.letter;
     match letter {
         b'P' | b'p' => reader::read_planning(d, area),
         b'C' | b'c' => reader::read_calendar(d, area),
+        b'N' | b'n' => reader::read_message(
+            Form::New,
+            d,
+            script_text::part(desk, 1, j.who),
+            script_text::at(desk, 0),
+            area,
+        ),
         _ => reader::read_message(
+            Form::Old,
             d,
             script_text::part(desk, 1, j.who),
             script_text::at(desk, 0),

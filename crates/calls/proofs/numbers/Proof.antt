@@ -102,6 +102,12 @@ enum-told-8 c = search needs
 with-numbers-requires-15 : tie.Need-with-numbers-requires-15
 with-numbers-requires-15 c κs = search needs
 
+enum-told-9 : tie.Need-enum-told-9
+enum-told-9 c = search needs
+
+with-numbers-requires-16 : tie.Need-with-numbers-requires-16
+with-numbers-requires-16 c κs = search needs
+
 -- the numbers r of the case a are those of an answer that is a
 case-of : (x a : Answer) (r : Four) → x ≡ a → r ≡ fourOf (numbers a) → r ≡ fourOf (numbers x)
 case-of x a r e told = told ∙ sym (ap (λ (y : Answer). fourOf (numbers y)) e)
@@ -151,6 +157,9 @@ returns-14 c = case-of _ _ _ (c .before .enum-told7 .given .1) (c .with-numbers1
 returns-15 : tie.Need-returns-15
 returns-15 c = case-of _ _ _ (c .before .enum-told8 .given .1) (c .with-numbers15 .ensures)
 
+returns-16 : tie.Need-returns-16
+returns-16 c = case-of _ _ _ (c .before .enum-told9 .given .1) (c .with-numbers16 .ensures)
+
 pub numbers-spec : {M : Type 1} → statement M
 numbers-spec =
     tie.close
@@ -186,6 +195,8 @@ numbers-spec =
     with-numbers-requires-14
     enum-told-8
     with-numbers-requires-15
+    enum-told-9
+    with-numbers-requires-16
     returns
     returns-2
     returns-3
@@ -200,4 +211,5 @@ numbers-spec =
     returns-12
     returns-13
     returns-14
-    returns-15)
+    returns-15
+    returns-16)

@@ -32,7 +32,7 @@ returns : tie.Need-returns
 unfolding columnsIn messageColumns
 returns c =
     let a = c .before .before .before in
-    rw (c .before .enum-told .given .1) (ap (λ (n : ℕ). eqb n 1) (c .digit .ensures .0) ∙ optionals-agree Message (a .args .index) (told-below (a .args .index) (c .before .enum-told .given .1) (a .pre)))
+    rw (c .before .enum-told .given .1) (ap (λ (n : ℕ). eqb n 1) (c .digit .ensures .0) ∙ optionals-agree (Message (c .before .enum-told .given .0 .0)) (a .args .index) (told-below (a .args .index) (c .before .enum-told .given .1) (a .pre)))
 
 returns-2 : tie.Need-returns-2
 unfolding columnsIn planningColumns

@@ -1,12 +1,12 @@
 use mathlib.Core.Path.{_∙_}
 use native.Mathlib.Omega.{arith}
 use borrow.Author.Needs.{needs}
-use Rattle.columns.specs.declared.Table.the-variants.{Message, Planning, Calendar}
+use Rattle.columns.specs.declared.Table.the-variants.{Planning, Calendar}
 use Rattle.columns.specs.Tables.{messageColumns, planningColumns, calendarColumns, columnsIn}
 use Rattle.columns.specs.Cell.{width}
 use Rattle.columns.specs.Layout.{widths}
 use Rattle.columns.proofs.LayoutLaws.{wanted-most, told-below}
-use Rattle.columns.proofs.DigitLaws.{two-told, offsets-agree}
+use Rattle.columns.proofs.DigitLaws.{two-told, offsets-agree, message-offsets}
 use Rattle.columns.proofs.offset_of.Statement.{statement}
 use Rattle.columns.proofs.offset_of.Tie as tie
 
@@ -51,7 +51,7 @@ unfolding widths width columnsIn messageColumns
 returns c =
     let a = c .before .before .before .before .before in
     let told = c .before .before .before .enum-told .given .1 in
-    rw told (two-told (c .two-digits .ensures) (c .before .before .digit .ensures .0) (c .before .digit2 .ensures .0) ∙ offsets-agree Message (a .args .index) (told-below (a .args .index) told (a .pre)))
+    rw told (two-told (c .two-digits .ensures) (c .before .before .digit .ensures .0) (c .before .digit2 .ensures .0) ∙ message-offsets (c .before .before .before .enum-told .given .0 .0) (a .args .index) (told-below (a .args .index) told (a .pre)))
 
 returns-2 : tie.Need-returns-2
 unfolding widths width columnsIn planningColumns

@@ -1,6 +1,8 @@
+use mathlib.Core.Path.{sym, ap, _∙_}
 use borrow.Author.Needs.{needs}
 use Rattle.columns.specs.Cell.{width}
-use Rattle.columns.specs.Tables.{messageColumns, planningColumns, calendarColumns, columnsIn, rowWidth}
+use Rattle.columns.specs.Tables.{planningColumns, calendarColumns, columnsIn, rowWidth}
+use Rattle.columns.proofs.FormLaws.{message-wide}
 use Rattle.columns.proofs.row_width.Statement.{statement}
 use Rattle.columns.proofs.row_width.Tie as tie
 
@@ -14,8 +16,7 @@ enum-told-3 : tie.Need-enum-told-3
 enum-told-3 c = search needs
 
 returns : tie.Need-returns
-unfolding rowWidth columnsIn messageColumns width
-returns c = rw (c .enum-told .given .1)
+returns c = sym (ap rowWidth (c .enum-told .given .1) ∙ message-wide (c .enum-told .given .0 .0))
 
 returns-2 : tie.Need-returns-2
 unfolding rowWidth columnsIn planningColumns width

@@ -1,9 +1,10 @@
-use mathlib.Core.Path.{sym, ap}
+use mathlib.Core.Path.{sym, ap, _∙_}
 use borrow.Author.Needs.{needs}
 use Rattle.lists.specs.Rows.{flat}
 use Rattle.columns.specs.Cell.{width}
-use Rattle.columns.specs.Tables.{messageColumns, planningColumns, calendarColumns, columnsIn, rowWidth}
+use Rattle.columns.specs.Tables.{planningColumns, calendarColumns, columnsIn, rowWidth}
 use Rattle.columns.specs.inner.Blank.{blankRow}
+use Rattle.columns_cells.proofs.BlankLaws.{blank-message}
 use Rattle.columns_cells.proofs.blank.Statement.{statement}
 use Rattle.columns_cells.proofs.blank.Tie as tie
 
@@ -26,8 +27,7 @@ enum-told-3 : tie.Need-enum-told-3
 enum-told-3 c = search needs
 
 returns : tie.Need-returns
-unfolding blankRow flat width rowWidth columnsIn messageColumns
-returns c = ap blankRow (sym (c .enum-told .given .1))
+returns c = sym (ap blankRow (c .enum-told .given .1) ∙ blank-message (c .enum-told .given .0 .0))
 
 returns-2 : tie.Need-returns-2
 unfolding blankRow flat width rowWidth columnsIn planningColumns

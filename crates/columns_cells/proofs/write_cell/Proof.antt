@@ -50,6 +50,12 @@ enum-told-11 c = search needs
 enum-told-12 : tie.Need-enum-told-12
 enum-told-12 c = search needs
 
+enum-told-13 : tie.Need-enum-told-13
+enum-told-13 c = search needs
+
+enum-told-14 : tie.Need-enum-told-14
+enum-told-14 c = search needs
+
 write-text-requires : tie.Need-write-text-requires
 unfolding width
 write-text-requires c κs = wide-as (c .before .before .before .before .before .before .args .at) _ (c .before .enum-told .given .1) (c .before .before .before .before .before .before .pre)
@@ -148,6 +154,24 @@ unfolding width
 write-number-requires-9 c κs =
     let start = c .before .before .before .before .before .before .before in
     (omega arith, wide-as (start .args .at) _ (c .before .before .enum-told12 .given .1) (start .pre))
+
+read-truth-requires : tie.Need-read-truth-requires
+read-truth-requires c κs = search needs
+
+write-number-requires-10 : tie.Need-write-number-requires-10
+unfolding width
+write-number-requires-10 c κs =
+    let start = c .before .before .before .before .before .before .before in
+    (omega arith, wide-as (start .args .at) _ (c .before .before .enum-told13 .given .1) (start .pre))
+
+read-shown-requires : tie.Need-read-shown-requires
+read-shown-requires c κs = search needs
+
+write-number-requires-11 : tie.Need-write-number-requires-11
+unfolding width
+write-number-requires-11 c κs =
+    let start = c .before .before .before .before .before .before .before in
+    (omega arith, wide-as (start .args .at) _ (c .before .before .enum-told14 .given .1) (start .pre))
 
 same-length : tie.Need-same-length
 same-length c = search needs
@@ -294,6 +318,30 @@ returns-12 c =
     let kind = kind-as stop (now (start .args .field)) (c .before .before .before .before .before .enum-told12 .given .1) in
     kept-as (start .args .at) (now (start .args .row)) (ap (numberCell 1) read ∙ kind) (c .before .before .write-number9 .ensures)
 
+same-length-13 : tie.Need-same-length-13
+same-length-13 c = search needs
+
+returns-13 : tie.Need-returns-13
+unfolding cell
+returns-13 c =
+    let start = c .before .before .before .before .before .before .before .before .before .before in
+    let stop = fieldUnder (start .args .stop) (start .args .columns) (now (start .args .line)) in
+    let read : c .before .before .before .before .read-truth .result ≡ Names.truth (now (start .args .field)) = c .before .before .before .before .read-truth .ensures in
+    let kind = kind-as stop (now (start .args .field)) (c .before .before .before .before .before .enum-told13 .given .1) in
+    kept-as (start .args .at) (now (start .args .row)) (ap (numberCell 1) read ∙ kind) (c .before .before .write-number10 .ensures)
+
+same-length-14 : tie.Need-same-length-14
+same-length-14 c = search needs
+
+returns-14 : tie.Need-returns-14
+unfolding cell
+returns-14 c =
+    let start = c .before .before .before .before .before .before .before .before .before .before in
+    let stop = fieldUnder (start .args .stop) (start .args .columns) (now (start .args .line)) in
+    let read : c .before .before .before .before .read-shown .result ≡ Names.shown (now (start .args .field)) = c .before .before .before .before .read-shown .ensures in
+    let kind = kind-as stop (now (start .args .field)) (c .before .before .before .before .before .enum-told14 .given .1) in
+    kept-as (start .args .at) (now (start .args .row)) (ap (numberCell 1) read ∙ kind) (c .before .before .write-number11 .ensures)
+
 pub write-cell-spec : {M : Type 1} → statement M
 write-cell-spec =
     tie.close
@@ -333,6 +381,12 @@ write-cell-spec =
     enum-told-12
     read-flexible-requires
     write-number-requires-9
+    enum-told-13
+    read-truth-requires
+    write-number-requires-10
+    enum-told-14
+    read-shown-requires
+    write-number-requires-11
     same-length
     returns
     same-length-2
@@ -356,4 +410,8 @@ write-cell-spec =
     same-length-11
     returns-11
     same-length-12
-    returns-12)
+    returns-12
+    same-length-13
+    returns-13
+    same-length-14
+    returns-14)

@@ -24,6 +24,9 @@ cast-t11 c = search needs
 array-read-t14 : tie.Need-array-read-t14
 array-read-t14 c = search needs
 
+cast-t15 : tie.Need-cast-t15
+cast-t15 c = search needs
+
 array-read-t18 : tie.Need-array-read-t18
 array-read-t18 c = search needs
 
@@ -35,6 +38,9 @@ array-read-t26 c = search needs
 
 array-read-t30 : tie.Need-array-read-t30
 array-read-t30 c = search needs
+
+array-read-t34 : tie.Need-array-read-t34
+array-read-t34 c = search needs
 
 returns : tie.Need-returns
 unfolding feedOf
@@ -52,8 +58,10 @@ feed-in-spec =
     array-read-t7
     cast-t11
     array-read-t14
+    cast-t15
     array-read-t18
     array-read-t22
     array-read-t26
     array-read-t30
+    array-read-t34
     returns)

@@ -9,7 +9,7 @@ start-requires : tie.Need-start-requires
 start-requires c κs = search needs
 
 returns : tie.Need-returns
-returns c = ap (beginning (c .before .args .sender)) (fresh-one (c .start .result) (c .start .ensures))
+returns c = ap (beginning (c .before .args .sender) (c .before .args .form)) (fresh-one (c .start .result) (c .start .ensures))
 
 pub new-feed-spec : {M : Type 1} → statement M
 new-feed-spec = tie.close (tie.spec start-requires returns)

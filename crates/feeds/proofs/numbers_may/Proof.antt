@@ -26,4 +26,13 @@ unfolding numbersMay
 returns c = rw (c .clear-behind .ensures)
 
 pub numbers-may-spec : {M : Type 1} → statement M
-numbers-may-spec = tie.close (tie.spec array-read-known array-read-known-2 array-read-known-3 array-read-result array-read-result-2 clear-behind-requires returns)
+numbers-may-spec =
+    tie.close
+    (tie.spec
+    array-read-known
+    array-read-known-2
+    array-read-known-3
+    array-read-result
+    array-read-result-2
+    clear-behind-requires
+    returns)

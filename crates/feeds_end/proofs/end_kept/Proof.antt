@@ -14,8 +14,8 @@ is-sound-requires c κs = search needs
 staged-right-requires : tie.Need-staged-right-requires
 staged-right-requires c κs = search needs
 
-end-read-requires : tie.Need-end-read-requires
-end-read-requires c κs =
+end-known-requires : tie.Need-end-known-requires
+end-known-requires c κs =
     let sound = c .before .before .before .before .before in
     let a = st sound .args in
     (sym (sound .is-sound .ensures) ∙ c .before .before .before .before .if1 .taken, right-few (a .staging .now) (a .kept) (sym (c .before .before .before .staged-right .ensures) ∙ c .before .before .if2 .taken) (st sound .pre))
@@ -31,7 +31,7 @@ returns c =
     let done = c .before .before .before .before in
     let sound = done .before .before .before .before .before .before in
     let a = st sound .args in
-    all-right (a .register .now) (a .staging .now) (a .book .now) (a .table .now) (a .counts) (a .kept) (sym (sound .is-sound .ensures) ∙ done .before .before .before .before .before .if1 .taken) (sym (done .before .before .before .before .staged-right .ensures) ∙ done .before .before .before .if2 .taken) _ (done .end-read .ensures)
+    all-right (a .register .now) (a .staging .now) (a .book .now) (a .table .now) (a .counts) (a .kept) (sym (sound .is-sound .ensures) ∙ done .before .before .before .before .before .if1 .taken) (sym (done .before .before .before .before .staged-right .ensures) ∙ done .before .before .before .if2 .taken) _ (done .end-known .ensures)
 
 unchanged-requires : tie.Need-unchanged-requires
 unchanged-requires c κs = search needs
@@ -69,7 +69,7 @@ end-kept-spec =
     (tie.spec
     is-sound-requires
     staged-right-requires
-    end-read-requires
+    end-known-requires
     same-length
     same-length-2
     returns

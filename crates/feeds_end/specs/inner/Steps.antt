@@ -4,13 +4,14 @@ use mathlib.Core.Bool.{Bool, _&&_}
 use mathlib.Core.List.{List, [], _∷_}
 use lib.Dec.{leb}
 use Rattle.lists.specs.Logic.{on, firstHeld}
+use Rattle.columns.specs.Tables.{isForm}
 use Rattle.reader.specs.declared.Reading.{Reading}
 use Rattle.reader.specs.declared.Reading.the-variants as Readings
 use Rattle.reader.specs.Rules.{isLine}
 use Rattle.feeds.specs.declared.Feed.{Feed}
 use Rattle.feeds.specs.declared.Kept.{Kept}
 use Rattle.calls.specs.declared.Answer.{Answer}
-use Rattle.calls.specs.declared.Answer.the-variants.{Unsound}
+use Rattle.calls.specs.declared.Answer.the-variants.{Unsound, UnknownForm}
 use Rattle.calls.specs.declared.Counts.{Counts}
 use Rattle.calls.specs.Answers.{unlessRefused}
 use Rattle.calls.specs.Leaves.{Leaves}
@@ -37,10 +38,14 @@ stagedRight staging k = k .begun && (leb (k .feed .lines .rows) most-rows && all
 unfoldable pub foundOr : List ℕ → List ℕ → List ℕ → List ℕ → Counts → Feed → Answer
 foundOr register staging book table c f = unlessRefused 0 (readingKept f) (postAnswer register staging book table c f)
 
+-- 18 before that
+unfoldable pub knownOr : List ℕ → List ℕ → List ℕ → List ℕ → Counts → Feed → Answer
+knownOr register staging book table c f = on (isForm (f .form)) (foundOr register staging book table c f) UnknownForm
+
 -- 1 before that
 unfoldable pub rightAnswer : List ℕ → List ℕ → List ℕ → List ℕ → Counts → Kept → Answer
 rightAnswer register staging book table c k =
-    on (messageSound register book table c && stagedRight staging k) (foundOr register staging book table c (k .feed)) Unsound
+    on (messageSound register book table c && stagedRight staging k) (knownOr register staging book table c (k .feed)) Unsound
 
 -- what an answer leaves: the staged rows taken, or the day as it was
 unfoldable pub takenFrom : Answer → Feed → List ℕ → List ℕ → List ℕ → Counts → Leaves

@@ -29,10 +29,10 @@ read-and-take-requires c κs =
     (s .pre, λ n few l. made-room (n * body-wide) (few-updates * body-wide) (short-room (length (s .args .dossier .now)) n (c .before .before .before .if1 .taken) l))
 
 same-length : tie.Need-same-length
-same-length c = c .before .before .before .before .before .read-and-take .kept .1 .1 .1 .1 .0
+same-length c = c .before .before .before .before .before .read-and-take .kept .1 .1 .1 .1 .1 .0
 
 same-length-2 : tie.Need-same-length-2
-same-length-2 c = c .before .before .before .before .before .read-and-take .kept .1 .1 .1 .1 .1 .0
+same-length-2 c = c .before .before .before .before .before .read-and-take .kept .1 .1 .1 .1 .1 .1 .0
 
 returns : tie.Need-returns
 returns c = c .before .before .before .before .before .read-and-take .ensures
@@ -47,10 +47,10 @@ read-and-take-requires-2 c κs =
     (c .before .before .before .before .before .before .before .before .pre, λ n few l. made-room (n * body-wide) (most-updates * body-wide) (any-room n few))
 
 same-length-3 : tie.Need-same-length-3
-same-length-3 c = c .before .before .before .before .before .read-and-take2 .kept .1 .1 .1 .1 .0
+same-length-3 c = c .before .before .before .before .before .read-and-take2 .kept .1 .1 .1 .1 .1 .0
 
 same-length-4 : tie.Need-same-length-4
-same-length-4 c = c .before .before .before .before .before .read-and-take2 .kept .1 .1 .1 .1 .1 .0
+same-length-4 c = c .before .before .before .before .before .read-and-take2 .kept .1 .1 .1 .1 .1 .1 .0
 
 returns-2 : tie.Need-returns-2
 returns-2 c = c .before .before .before .before .before .read-and-take2 .ensures
