@@ -11,6 +11,7 @@ use Rattle.calls.proofs.OpenedLaws.{leaves-plan, plan-exactly, reads-le
 use Rattle.calls.proofs.ApartLaws.{open-exactly}
 use Rattle.calls.proofs.NumbersLaws.{numbers-are-tables}
 use Rattle.calls.proofs.EndLaws.{end-numbers, end-listed, end-gives-back}
+use Rattle.calls.proofs.UnknownLaws.{unknown-exactly}
 
 pub claims : All
 claims = (
@@ -36,4 +37,5 @@ claims = (
   end-gives-back,
   end-listed,
   end-numbers,
+  unknown-exactly,
 )

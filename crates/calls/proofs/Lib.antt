@@ -10,5 +10,6 @@ pub mod OpenedLaws
 pub mod ApartLaws
 pub mod NumbersLaws
 pub mod EndLaws
+pub mod UnknownLaws
 pub mod Claims
 pub mod Determined

@@ -22,6 +22,7 @@ use Rattle.reader.specs.Items.{Item}
 use Rattle.reader.specs.declared.Reading.the-variants.{Rows}
 use Rattle.reader.specs.Rules.{largest, formBad, wrongAt, ownerBad, dataRows, itemsOf, readingOf}
 use Rattle.reader.specs.Claims.{Plain}
+use Rattle.feeds.specs.Kept.{feedOf}
 use Rattle.plan.specs.Passes.{planBody}
 use Rattle.plan.specs.Rules.{matches, joined}
 use Rattle.plan.specs.Claims.{Some}
@@ -35,10 +36,10 @@ use Rattle.calls.specs.declared.Answer.{Answer}
 use Rattle.calls.specs.declared.Counts.{Counts}
 use Rattle.calls.specs.Answers.{numbers, isAccepted}
 use Rattle.calls.specs.Leaves.{Leaves}
-use Rattle.calls.specs.Message.{messageTable, messageRows, rowsTaken, messageAnswer, messageLeaves}
+use Rattle.calls.specs.Message.{messageSound, messageTable, messageRows, rowsTaken, messageAnswer, messageLeaves}
 use Rattle.calls.specs.Withdraw.{rowsWithout, withdrawAnswer, withdrawLeaves}
 use Rattle.calls.specs.Open.{planOf, openAnswer, openLeaves}
-use Rattle.calls.specs.End.{endAnswer, endLeaves}
+use Rattle.calls.specs.End.{endSound, endAnswer, endLeaves}
 use Rattle.calls.specs.Numbers.{openNumbers, messageNumbers, withdrawNumbers, endNumbers}
 
 -- ---- demand 1
@@ -99,6 +100,13 @@ abbrev pub EndNumbersAreTable : Type 0
 EndNumbersAreTable =
     (register staging book table : List ℕ) (c : Counts) (kept : List ℕ)
     → numbers (endAnswer register staging book table c kept) ≡ endNumbers register staging book table c kept
+
+-- 18 is told exactly where what is lent is sound and the form is neither 0 nor 1, whatever the dossier; and so at the end of one in parts, whatever was found in them
+abbrev pub UnknownFormExactly : Type 0
+UnknownFormExactly =
+    (dossier register staging book table kept : List ℕ) (sender form : ℕ) (c : Counts)
+    → ((numbers (messageAnswer dossier sender form register book table c) .0 ≡ 18) ↔ ((messageSound register book table c ≡ true) × (1 < form)))
+    × ((numbers (endAnswer register staging book table c kept) .0 ≡ 18) ↔ ((endSound register staging book table c kept ≡ true) × (1 < feedOf kept .form)))
 
 -- ---- demand 2
 
@@ -286,3 +294,4 @@ All =
     × EndGivesBack
     × EndNumbersListed
     × EndNumbersAreTable
+    × UnknownFormExactly

@@ -44,7 +44,7 @@ flags : (f : Form) {ls : List (List ℕ)} {l : List ℕ} → Right (Message f) l
 unfolding offset total widths rowWidth columnsIn messageColumns width kindAt columnAt names columnOf same
 flags Old right = (
   ⊎-elim (λ p. inl (omega (arith, p))) (λ p. inr p)
-  (optional-in right show-cancelled-at Kinds.Bit kept "ShowCancelledTrip" (λ (n : ℕ). n ≤ 1) (omega arith) (named right "ShowCancelledTrip" (omega arith)) (words-in-range .2 _ _)),
+      (optional-in right show-cancelled-at Kinds.Bit kept "ShowCancelledTrip" (λ (n : ℕ). n ≤ 1) (omega arith) (named right "ShowCancelledTrip" (omega arith)) (words-in-range .2 _ _)),
   optional-in right flexible-at Kinds.Flexible kept "ShowFlexibleTrip" (λ (n : ℕ). (1 ≤ n) × (n ≤ 3)) (omega arith) (named right "ShowFlexibleTrip" (omega arith)) (words-in-range .3 _ _),
   optional-in right monitored-at Kinds.Bit kept "Monitored" (λ (n : ℕ). n ≤ 1) (omega arith) (named right "Monitored" (omega arith)) (words-in-range .2 _ _),
 )
