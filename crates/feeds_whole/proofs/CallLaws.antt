@@ -179,7 +179,7 @@ module _ (parts : List (List ℕ)) (register line staging book table : List ℕ)
           (k .0, leb-true _ _ (k .1), (k .2 .0, k .2 .1, omega (arith, more, rows-n (k .2 .0) (k .2 .1))))
 
       back : (messageSound register book table c ≡ true) × (form ≤ 1) × ((n : ℕ) × (readingOf (messageTable form) register sender d ≡ Readings.Rows n) × (length staging / body-wide < n)) → numbers said .0 ≡ 14
-      back (s, (o, (n, r, more))) =
+      back (s, o, (n, r, more)) =
           fourteen-back (messageSound register book table c) (isForm form) (readingOf (messageTable form) register sender d) short (roomFor (messageRows form d) book table c) n s (le-leb _ _ o) r
           (lt-ltb (length staging / body-wide) (length (messageRows form d)) (omega (arith, more, rows-n n r)))
 
