@@ -30,12 +30,6 @@ returns c =
 unchanged-requires : tie.Need-unchanged-requires
 unchanged-requires c κs = search needs
 
-same-length-3 : tie.Need-same-length-3
-same-length-3 c = search needs
-
-same-length-4 : tie.Need-same-length-4
-same-length-4 c = search needs
-
 returns-2 : tie.Need-returns-2
 returns-2 c =
     let known = c .before .before in
@@ -52,6 +46,4 @@ end-known-spec =
     same-length-2
     returns
     unchanged-requires
-    same-length-3
-    same-length-4
     returns-2)

@@ -55,7 +55,7 @@ take-rows-requires c κs =
     let h = c .before .before .before .before .before .before in
     let s = st h in
     let a = s .args in
-    let parts = sound-parts (a .staging .now) (a .register .now) (a .book .now) (a .table .now) (a .feed .sender) (a .counts) (s .pre .0) in
+    let parts = sound-parts (a .staging .now) (a .register .now) (a .book .now) (a .table .now) (a .feed .sender) (a .feed .form) (a .counts) (s .pre .0) in
     ((here-few h, h .staged-here .ensures .1), (parts .1, parts .2))
 
 same-length : tie.Need-same-length
