@@ -1,6 +1,6 @@
--- A message without the columns in which the forms differ comes to the same in both. Assumes nothing.
+-- The old form is answered as before; a message without the columns in which the forms differ comes to the same in both. Assumes nothing.
 use Prim.Native.Nat.{ℕ}
-use mathlib.Core.Path.{_≡_, ap, _∙_}
+use mathlib.Core.Path.{_≡_, refl, ap, _∙_}
 use mathlib.Core.List.{List}
 use Rattle.lists.specs.Logic.{on}
 use Rattle.columns.specs.declared.Form.the-variants.{Old, New}
@@ -13,7 +13,12 @@ use Rattle.calls.specs.declared.Counts.{Counts}
 use Rattle.calls.specs.Answers.{unlessRefused}
 use Rattle.calls.specs.Leaves.{Leaves}
 use Rattle.calls.specs.Message.{messageSound, messageRows, roomFor, messageAnswer, takenBy, messageLeaves}
-use Rattle.calls.specs.Claims.{FormsTakenAlike}
+use Rattle.calls.specs.End.{endAnswer}
+use Rattle.calls.specs.Claims.{OldFormAnswers, FormsTakenAlike}
+
+pub old-form-answers : OldFormAnswers
+unfolding messageAnswer messageRows endAnswer
+old-form-answers dossier register staging book table kept sender c = (refl, λ e. rw e refl)
 
 -- what a reading and rows come to
 abbrev comesTo : List ℕ → List ℕ → List ℕ → ℕ → Counts → Reading → List (List ℕ) → Leaves

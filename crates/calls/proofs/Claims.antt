@@ -5,7 +5,7 @@ use Rattle.calls.proofs.AcceptedLaws.{message-exactly, withdraw-exactly
 use Rattle.calls.proofs.KeyFieldLaws.{key-fields}
 use Rattle.calls.proofs.TakenLaws.{rows-change}
 use Rattle.calls.proofs.BytesLaws.{rows-are-lines, message-numbered, rows-to-book, freed-and-kept}
-use Rattle.calls.proofs.AlikeLaws.{forms-taken-alike}
+use Rattle.calls.proofs.AlikeLaws.{old-form-answers, forms-taken-alike}
 use Rattle.calls.proofs.AgainLaws.{marks-entries, works-again}
 use Rattle.calls.proofs.OpenedLaws.{leaves-plan, plan-exactly, reads-lengths}
 use Rattle.calls.proofs.ApartLaws.{open-exactly}
@@ -23,6 +23,7 @@ claims = (
   key-fields,
   rows-change,
   rows-are-lines,
+  old-form-answers,
   forms-taken-alike,
   message-numbered,
   rows-to-book,

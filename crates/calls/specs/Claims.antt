@@ -17,6 +17,7 @@ use Rattle.register.specs.Register.{registerSound}
 use Rattle.grammar.specs.Grammar.{WellFormed}
 use Rattle.turbo_lines.specs.Lines.{lines}
 use Rattle.turbo_lines.specs.Claims.{Short}
+use Rattle.columns.specs.declared.Form.the-variants.{Old}
 use Rattle.columns.specs.declared.Table.the-variants as Tables
 use Rattle.reader.specs.Items.{Item}
 use Rattle.reader.specs.declared.Reading.the-variants.{Rows}
@@ -33,13 +34,14 @@ use Rattle.table.specs.Rules.{tableSound, tableRoom}
 use Rattle.book.specs.Entries.{plan-wide, entry-wide, numberOf, senderOf, kindOf, entryBody, planCount, planBodies, updatesIn}
 use Rattle.book.specs.Rules.{bookSound, bookRoom, nextNumber, messageEntries, others, standing, planRows}
 use Rattle.calls.specs.declared.Answer.{Answer}
+use Rattle.calls.specs.declared.Answer.the-variants.{Unsound}
 use Rattle.calls.specs.declared.Counts.{Counts}
-use Rattle.calls.specs.Answers.{numbers, isAccepted}
+use Rattle.calls.specs.Answers.{numbers, isAccepted, unlessRefused}
 use Rattle.calls.specs.Leaves.{Leaves}
-use Rattle.calls.specs.Message.{messageSound, messageTable, messageRows, rowsTaken, messageAnswer, messageLeaves}
+use Rattle.calls.specs.Message.{messageSound, messageTable, messageRows, rowsTaken, roomFor, messageAnswer, messageLeaves}
 use Rattle.calls.specs.Withdraw.{rowsWithout, withdrawAnswer, withdrawLeaves}
 use Rattle.calls.specs.Open.{planOf, openAnswer, openLeaves}
-use Rattle.calls.specs.End.{endSound, endAnswer, endLeaves}
+use Rattle.calls.specs.End.{endSound, readingKept, postAnswer, endAnswer, endLeaves}
 use Rattle.calls.specs.Numbers.{openNumbers, messageNumbers, withdrawNumbers, endNumbers}
 
 -- ---- demand 1
@@ -145,6 +147,21 @@ RowsChangeTheirPassage =
     × ((k : List ℕ) → Each (λ (u : List ℕ). same (keyOf u) k ≡ false) (messageRows form dossier)
     → get k (rowsOf row-wide (left .outcome .counts .rows) (left .table))
     ≡ get k (rowsOf row-wide (c .rows) table))
+
+-- in the old form a message is answered as it was before there was another: 1, what the dossier gives by the old columns, 7, 8; and so is the end of one in parts
+abbrev pub OldFormAnswers : Type 0
+OldFormAnswers =
+    (dossier register staging book table kept : List ℕ) (sender : ℕ) (c : Counts)
+    → (messageAnswer dossier sender 0 register book table c
+    ≡ on (messageSound register book table c)
+    (unlessRefused 0 (readingOf (Tables.Message Old) register sender dossier)
+    (roomFor (dataRows (Tables.Message Old) (itemsOf (Tables.Message Old) dossier)) book table c))
+    Unsound)
+    × (feedOf kept .form ≡ 0
+    → endAnswer register staging book table c kept
+    ≡ on (endSound register staging book table c kept)
+    (unlessRefused 0 (readingKept (feedOf kept)) (postAnswer register staging book table c (feedOf kept)))
+    Unsound)
 
 -- a message whose labels have none of the names in which the forms differ comes to the same in both
 abbrev pub FormsTakenAlike : Type 0
@@ -280,6 +297,7 @@ All =
     × KeyIsSevenFields
     × RowsChangeTheirPassage
     × RowsAreDataLines
+    × OldFormAnswers
     × FormsTakenAlike
     × MessageNumbered
     × RowsGoToBook

@@ -68,9 +68,9 @@ forms-share f g = (
   counts-same f g,
   message-wide f ∙ sym (message-wide g),
   λ j. (
-  offsets-same f g j,
-  sym (width-listed (Message f) j) ∙ ap (λ (ws : List ℕ). getD ws j 10) (widths-old f ∙ sym (widths-old g)) ∙ width-listed (Message g) j,
-  sym (absent-listed (Message f) j) ∙ ap (λ (ls : List (List ℕ)). getD ls j []) (absents-same f g) ∙ absent-listed (Message g) j,
+    offsets-same f g j,
+    sym (width-listed (Message f) j) ∙ ap (λ (ws : List ℕ). getD ws j 10) (widths-old f ∙ sym (widths-old g)) ∙ width-listed (Message g) j,
+    sym (absent-listed (Message f) j) ∙ ap (λ (ls : List (List ℕ)). getD ls j []) (absents-same f g) ∙ absent-listed (Message g) j,
   ),
 )
 
