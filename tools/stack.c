@@ -70,7 +70,7 @@ static void *take_message(void *unused)
 
 static void *begin_feed(void *unused)
 {
-    number = desk_feed_begin(SENDER, feed);
+    number = desk_feed_begin(SENDER, DESK_OLD_FORM, feed);
     return unused;
 }
 
