@@ -25,7 +25,7 @@ macro_rules! constants {
 
 constants! {
     /// Of the C face that these numbers belong to.
-    VERSION: u32 = 3;
+    VERSION: u32 = 4;
 
     /// Where an answer has its number: 0 where the call was accepted, else why it was refused.
     ANSWER_NUMBER: usize = 0;
@@ -71,6 +71,12 @@ constants! {
     /// The desk as a sender: it sends no rows, and withdraws anybody's message.
     SENDER: u8 = 0;
 
+    /// The form of a message: the old one.
+    OLD_FORM: u32 = 0;
+    /// The form of turbo 8.5: ShowCancelledJourney (`true`, `false`, `message`) in place of ShowCancelledTrip, and Monitored
+    /// as `true` or `false`.
+    NEW_FORM: u32 = 1;
+
     /// Where a row has its owner, a text.
     OWNER_AT: usize = 0;
     /// Where a row has the date of its operating day.
@@ -97,7 +103,7 @@ constants! {
     DEPARTURE_AT: usize = 59;
     /// Where a row has its stop type, a byte.
     STOP_TYPE_AT: usize = 62;
-    /// Where a row says whether it is shown when cancelled, 0 or 1.
+    /// Where a row says whether it is shown when cancelled, a byte.
     SHOW_CANCELLED_AT: usize = 63;
     /// Where a row says whether a flexible trip is shown, a byte.
     FLEXIBLE_AT: usize = 64;
@@ -146,6 +152,13 @@ constants! {
     #[allow(missing_docs)]
     LAST: u8 = 2;
 
+    /// Whether a cancelled passage is shown: it is not.
+    CANCELLED_FALSE: u8 = 0;
+    /// It is.
+    CANCELLED_TRUE: u8 = 1;
+    /// It is not, but a message is sent beside it.
+    CANCELLED_MESSAGE: u8 = 2;
+
     /// Whether a flexible trip is shown: not said, so that it is.
     FLEXIBLE_NOT_SAID: u8 = 0;
     /// Always shown.
@@ -183,5 +196,7 @@ constants! {
 pub const STATUS_WORDS: [&str; 6] = ["PLANNED", "CANCEL", "UNKNOWN", "DRIVING", "ARRIVED", "PASSED"];
 /// The words of the stop types, by their bytes.
 pub const STOP_TYPE_WORDS: [&str; 3] = ["FIRST", "INTERMEDIATE", "LAST"];
+/// The words of what is said of cancelled passages, by their bytes, as the 8.5 form has them.
+pub const CANCELLED_WORDS: [&str; 3] = ["false", "true", "message"];
 /// The words of what is said of flexible trips, by their bytes.
 pub const FLEXIBLE_WORDS: [&str; 4] = ["not said", "TRUE", "FALSE", "REALTIME"];

@@ -96,6 +96,7 @@ pub const REFUSALS: &[RefusalForm] = &[
         ON_WHAT_IS_LENT,
         "counts, book, table, register, feed or staged rows cannot be worked with",
     ),
+    form(18, "UNKNOWN_FORM", Places::None, TAKING, "the form is none that is known"),
     of_dossier(form(2, "TOO_LONG", Places::None, READING, "a dossier has more than 65,536 bytes")),
     of_dossier(form(3, "SYNTAX", Places::Offset, READING, "a dossier is not well formed")),
     of_dossier(form(15, "LINE_LONG", Places::Line, READING, "a line has more than 4,096 bytes")),
@@ -140,11 +141,11 @@ mod tests {
         }
         let mut numbers: Vec<u32> = REFUSALS.iter().map(|refusal| refusal.number).collect();
         numbers.sort();
-        assert_eq!(numbers, (1..=REFUSALS.len() as u32).collect::<Vec<_>>());
+        assert_eq!(numbers, (1..=15).chain([18]).collect::<Vec<_>>());
         assert_eq!(numbers_of(Call::Withdraw), [0, 1, 10, 12, 11, 8]);
-        assert_eq!(numbers_of(Call::Message), [0, 1, 2, 3, 15, 4, 5, 6, 7, 8]);
+        assert_eq!(numbers_of(Call::Message), [0, 1, 18, 2, 3, 15, 4, 5, 6, 7, 8]);
         assert_eq!(numbers_of(Call::FeedBegin), [0]);
         assert_eq!(numbers_of(Call::Feed), [0, 1]);
-        assert_eq!(numbers_of(Call::FeedEnd), [0, 1, 2, 3, 15, 4, 5, 6, 14, 7, 8]);
+        assert_eq!(numbers_of(Call::FeedEnd), [0, 1, 18, 2, 3, 15, 4, 5, 6, 14, 7, 8]);
     }
 }

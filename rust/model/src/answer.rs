@@ -18,6 +18,7 @@ pub enum Refusal {
     OutOfRange,
     StagingShort,
     LineLong { line: usize },
+    UnknownForm,
 }
 
 impl Refusal {
@@ -39,6 +40,7 @@ impl Refusal {
             Refusal::OutOfRange => [13, 0, 0],
             Refusal::StagingShort => [14, 0, 0],
             Refusal::LineLong { line } => [15, line as u64, 0],
+            Refusal::UnknownForm => [18, 0, 0],
         }
     }
 }

@@ -15,6 +15,8 @@ pub enum Kind {
     Status,
     StopType,
     Flexible,
+    Truth,
+    Shown,
 }
 
 /// A wanted column.
@@ -38,7 +40,16 @@ const fn optional(name: &'static str, kind: Kind) -> Column {
     Column { name, kind, optional: true }
 }
 
-pub const MESSAGE: Wanted = Wanted {
+/// The table of a message in this form: 0 is the old one, 1 that of turbo 8.5. Other numbers are not known.
+pub fn message_table(form: u32) -> Option<&'static Wanted> {
+    match form {
+        0 => Some(&OLD_MESSAGE),
+        1 => Some(&NEW_MESSAGE),
+        _ => None,
+    }
+}
+
+pub const OLD_MESSAGE: Wanted = Wanted {
     table: "DATEDPASSTIME",
     columns: &[
         wanted("DataOwnerCode", Kind::Text),
@@ -57,6 +68,29 @@ pub const MESSAGE: Wanted = Wanted {
         optional("ShowCancelledTrip", Kind::Flag),
         optional("ShowFlexibleTrip", Kind::Flexible),
         optional("Monitored", Kind::Flag),
+    ],
+};
+
+/// The 8.5 form: the same but for two, ShowCancelledJourney and Monitored.
+const NEW_MESSAGE: Wanted = Wanted {
+    table: "DATEDPASSTIME",
+    columns: &[
+        wanted("DataOwnerCode", Kind::Text),
+        wanted("OperationDate", Kind::Date),
+        wanted("LinePlanningNumber", Kind::Text),
+        wanted("VehicleJourneyNumber", Kind::Digits(6)),
+        wanted("FortifyOrderNumber", Kind::Digits(2)),
+        wanted("UserStopCode", Kind::Text),
+        wanted("UserStopOrderNumber", Kind::Digits(3)),
+        wanted("DestinationCode", Kind::Text),
+        wanted("LastUpdateTimeStamp", Kind::Stamp),
+        wanted("TripStopStatus", Kind::Status),
+        wanted("ExpectedArrivalTime", Kind::Arrival),
+        wanted("ExpectedDepartureTime", Kind::Departure),
+        wanted("JourneyStopType", Kind::StopType),
+        optional("ShowCancelledJourney", Kind::Shown),
+        optional("ShowFlexibleTrip", Kind::Flexible),
+        optional("Monitored", Kind::Truth),
     ],
 };
 
@@ -111,6 +145,8 @@ pub fn cell(column: &Column, field: &[u8], stop_type: Option<&[u8]>) -> Option<C
         Kind::Status => types::status(field).map(Cell::Number),
         Kind::StopType => types::stop_type(field).map(Cell::Number),
         Kind::Flexible => types::flexible(field).map(Cell::Number),
+        Kind::Truth => types::truth(field).map(Cell::Number),
+        Kind::Shown => types::shown(field).map(Cell::Number),
     }
 }
 

@@ -6,7 +6,7 @@ use std::collections::BTreeMap;
 use std::rc::Rc;
 
 use crate::answer::{numbers_of_day, Accepted, Refusal};
-use crate::columns::MESSAGE;
+use crate::columns::{message_table, Wanted, OLD_MESSAGE};
 use crate::day::registered;
 use crate::layout::*;
 use crate::message::{taken, update_body};
@@ -37,6 +37,7 @@ struct Row {
 #[derive(Clone)]
 struct Told {
     sender: u8,
+    form: u32,
     parts: Vec<Rc<Part>>,
 }
 
@@ -70,8 +71,8 @@ fn told(feed: &[u64; FEED_NUMBERS]) -> Option<Told> {
 }
 
 /// Begin.
-pub fn feed_begin(sender: u8, feed: &mut [u64; FEED_NUMBERS]) -> u32 {
-    keep(Told { sender, parts: Vec::new() }, feed);
+pub fn feed_begin(sender: u8, form: u32, feed: &mut [u64; FEED_NUMBERS]) -> u32 {
+    keep(Told { sender, form, parts: Vec::new() }, feed);
     0
 }
 
@@ -124,6 +125,11 @@ impl Told {
         self.parts.iter().flat_map(|part| part.bytes.iter().copied()).collect()
     }
 
+    /// What is wanted in its form; one that is not known is read as the old one.
+    fn wanted(&self) -> &'static Wanted {
+        message_table(self.form).unwrap_or(&OLD_MESSAGE)
+    }
+
     /// Which part ended a row's line: with it the row came.
     fn part_of(&self, row: &Read) -> usize {
         let mut fed = 0;
@@ -144,7 +150,7 @@ impl Told {
     fn rows(&self) -> Vec<Row> {
         let dossier = self.dossier();
         let within = &dossier[..dossier.len().min(DOSSIER_BYTES)];
-        let read = read_before_fault(within, &MESSAGE);
+        let read = read_before_fault(within, self.wanted());
         let right = read.iter().take_while(|row| self.was_registered(row));
         let row = |(place, row): (usize, &Read)| {
             let part = self.part_of(row);
@@ -158,7 +164,7 @@ impl Told {
         self.rows().iter().take_while(|row| row.fitted).count()
     }
 
-    /// The end's order: 1, 2, 3, 15, 4, 5, 6, 14, 7, 8.
+    /// The end's order: 1, 18, 2, 3, 15, 4, 5, 6, 14, 7, 8.
     fn ended(
         &self,
         register: &[u8],
@@ -171,8 +177,8 @@ impl Told {
         taken(|| self.said(register, staging), self.sender, register, book, table, used, rows)
     }
 
-    /// 1 where a staged row is outside an update's range; 2 to 6 and 15 as they were found in reading, 6 by the register lent with each row;
-    /// 6 with line 0 where the register lent now does not grant a staged row's owner; 14 where the staging area has, or had, no room for all
+    /// 1 where a staged row is outside an update's range; 18 where the form is not known; 2 to 6 and 15 as they were found in reading, 6 by
+    /// the register lent with each row; 6 with line 0 where the register lent now does not grant a staged row's owner; 14 where the staging area has, or had, no room for all
     /// rows; else the staged rows as they are now.
     fn said(&self, register: &[u8], staging: &[u8]) -> Result<Vec<Body>, Refusal> {
         let rows_now = staging.chunks_exact(BODY_BYTES).map(Body::read);
@@ -180,7 +186,10 @@ impl Told {
         if !staged.iter().all(Body::is_update) {
             return Err(Refusal::Unsound);
         }
-        let read = read(&self.dossier(), &MESSAGE)?;
+        if message_table(self.form).is_none() {
+            return Err(Refusal::UnknownForm);
+        }
+        let read = read(&self.dossier(), self.wanted())?;
         if let Some(row) = read.iter().find(|row| !self.was_registered(row)) {
             return Err(Refusal::NotRegistered { line: row.line });
         }

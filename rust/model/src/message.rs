@@ -1,7 +1,7 @@
 //! 7.3: message.
 
 use crate::answer::{numbers_of_day, Accepted, Refusal};
-use crate::columns::MESSAGE;
+use crate::columns::message_table;
 use crate::day::{
     book_room, registered, sound_book, sound_register, sound_table, table_room, write_book, write_table, Update,
 };
@@ -11,16 +11,18 @@ use crate::reading::{read, Read};
 use crate::row_rule::updated;
 
 /// Message, with its six numbers.
+#[allow(clippy::too_many_arguments)]
 pub fn message(
     dossier: &[u8],
     sender: u8,
+    form: u32,
     register: &[u8],
     book: &mut [u8],
     table: &mut [u8],
     used: u64,
     rows: u64,
 ) -> [u64; 6] {
-    let outcome = taken(|| said(dossier, sender, register), sender, register, book, table, used, rows);
+    let outcome = taken(|| said(dossier, sender, form, register), sender, register, book, table, used, rows);
     numbers_of_day(outcome.map_err(|refusal| (refusal, 0)), used, rows)
 }
 
@@ -58,17 +60,21 @@ pub fn taken(
     Ok(Accepted { value: number, used, rows })
 }
 
-/// Refusals 2 to 5 and 15, and 5.4, refusal 6: the first line whose owner is not registered for the sender; else what the rows say.
-fn said(dossier: &[u8], sender: u8, register: &[u8]) -> Result<Vec<Body>, Refusal> {
-    let rows = read(dossier, &MESSAGE)?;
+/// Refusal 18, of a form that is not known; 2 to 5 and 15, read in that form; and 5.4, refusal 6: the first line whose owner is not
+/// registered for the sender; else what the rows say.
+fn said(dossier: &[u8], sender: u8, form: u32, register: &[u8]) -> Result<Vec<Body>, Refusal> {
+    let table = message_table(form).ok_or(Refusal::UnknownForm)?;
+    let rows = read(dossier, table)?;
     match rows.iter().find(|row| !registered(register, sender, &row.text("DataOwnerCode"))) {
         Some(row) => Err(Refusal::NotRegistered { line: row.line }),
         None => Ok(rows.iter().map(update_body).collect()),
     }
 }
 
-/// 3.3: the body of an update. An optional that is absent or has no content is kept as 255, a missing time as 16,777,215 (3.4).
+/// 3.3: the body of an update. An optional that is absent or has no content is kept as 255, a missing time as 16,777,215 (3.4). 3.1: what a
+/// row has where is the same in both forms, each of which has a name of its own for show cancelled.
 pub fn update_body(row: &Read) -> Body {
+    let show_cancelled = row.number_if_any("ShowCancelledTrip").or(row.number_if_any("ShowCancelledJourney"));
     Body {
         key: Key {
             owner: row.text("DataOwnerCode"),
@@ -85,7 +91,7 @@ pub fn update_body(row: &Read) -> Body {
         arrival: row.number_if_any("ExpectedArrivalTime").unwrap_or(NO_TIME),
         departure: row.number_if_any("ExpectedDepartureTime").unwrap_or(NO_TIME),
         stop_type: row.number("JourneyStopType"),
-        show_cancelled: row.number_if_any("ShowCancelledTrip").unwrap_or(KEPT),
+        show_cancelled: show_cancelled.unwrap_or(KEPT),
         flexible: row.number_if_any("ShowFlexibleTrip").unwrap_or(KEPT),
         monitored: row.number_if_any("Monitored").unwrap_or(KEPT),
     }

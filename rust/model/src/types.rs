@@ -104,6 +104,16 @@ pub fn flexible(field: &[u8]) -> Option<u32> {
     Some(word(field, &["TRUE", "FALSE", "REALTIME"])? + 1)
 }
 
+/// Truth, in the 8.5 form: false is kept as 0, true as 1.
+pub fn truth(field: &[u8]) -> Option<u32> {
+    word(field, &["false", "true"])
+}
+
+/// Shown, in the 8.5 form: false is kept as 0, true as 1, message as 2.
+pub fn shown(field: &[u8]) -> Option<u32> {
+    word(field, &["false", "true", "message"])
+}
+
 /// 2.3: which of the words it is, whole and exact, from 0.
 fn word(field: &[u8], words: &[&str]) -> Option<u32> {
     let place = words.iter().position(|word| word.as_bytes() == field)?;

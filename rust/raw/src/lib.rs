@@ -28,6 +28,7 @@ extern "C" {
         dossier: *const u8,
         dossier_len: usize,
         sender: u8,
+        form: u32,
         register: *const u8,
         register_len: usize,
         book: *mut u8,
@@ -38,7 +39,7 @@ extern "C" {
         rows: u64,
         answer: *mut u64,
     ) -> u32;
-    fn desk_feed_begin(sender: u8, feed: *mut u64) -> u32;
+    fn desk_feed_begin(sender: u8, form: u32, feed: *mut u64) -> u32;
     fn desk_feed(
         part: *const u8,
         part_len: usize,
@@ -121,10 +122,12 @@ pub fn open(
     checked(number, answer)
 }
 
-/// Takes a message's rows into book and table.
+/// Takes a message's rows, read in the form that is stated, into book and table.
+#[allow(clippy::too_many_arguments)]
 pub fn message(
     dossier: &[u8],
     sender: u8,
+    form: u32,
     register: &[u8],
     book: &mut [u8],
     table: &mut [u8],
@@ -138,6 +141,7 @@ pub fn message(
             dossier.as_ptr(),
             dossier.len(),
             sender,
+            form,
             register.as_ptr(),
             register.len(),
             book.as_mut_ptr(),
@@ -152,10 +156,11 @@ pub fn message(
     checked(number, answer)
 }
 
-/// Begins a feed: a message from this sender, in parts. Writes all numbers of the feed, and is 0.
-pub fn feed_begin(sender: u8, feed: &mut [u64; FEED]) -> u32 {
+/// Begins a feed: a message from this sender and in this form, in parts. Writes all numbers of the feed, and is 0, whatever
+/// the form: one that is not known is refused at the end.
+pub fn feed_begin(sender: u8, form: u32, feed: &mut [u64; FEED]) -> u32 {
     // SAFETY: `feed` has its numbers, and the library does not keep it.
-    unsafe { desk_feed_begin(sender, feed.as_mut_ptr()) }
+    unsafe { desk_feed_begin(sender, form, feed.as_mut_ptr()) }
 }
 
 /// Takes the next part of a message: 0, or 1 where the numbers are those of no begun feed, and then nothing is changed.

@@ -3,7 +3,7 @@
 //! into the lent line.
 
 use super::answer::{Refusal, DOSSIER, LINE};
-use super::message::{grants, sound, take};
+use super::message::{form_of, grants, sound, take, NEW, OLD};
 use super::passage::{Kind, Ranges, BODY, TEXT};
 use super::staging::{Lines, Staging};
 use super::stream::{self, is_whole, walk, At, ATS, KINDS};
@@ -40,6 +40,8 @@ pub const STRANGER: usize = 12;
 pub const SHAPES: usize = 13;
 pub const ORDER: usize = 14;
 pub const GAPS: usize = 15;
+/// The form, as it was stated.
+const FORM: usize = 19;
 
 /// Rows of any dossier.
 const MOST_ROWS: u64 = 2_427;
@@ -64,6 +66,10 @@ fn sender(feed: &Numbers) -> u8 {
     (feed[HEAD] >> SENDER_AT) as u8
 }
 
+fn form(feed: &Numbers) -> Option<bool> {
+    u32::try_from(feed[FORM]).ok().and_then(form_of)
+}
+
 fn place(feed: &Numbers) -> (At, stream::Kind) {
     (ATS[feed[HEAD] as usize & 7], KINDS[(feed[HEAD] >> KIND_AT) as usize & 3])
 }
@@ -78,8 +84,9 @@ pub fn reads(feed: &Numbers, kind: stream::Kind) -> bool {
     wanted && feed[LONG] | feed[SHAPE] == 0
 }
 
-pub fn feed_begin(sender: u8, feed: &mut Numbers) -> u32 {
+pub fn feed_begin(sender: u8, form: u32, feed: &mut Numbers) -> u32 {
     *feed = [0; 48];
+    feed[FORM] = form as u64;
     feed[HEAD] = head(sender, At::LineStart, stream::Kind::Group);
     0
 }
@@ -100,9 +107,26 @@ pub fn feed(part: &[u8], register: &[u8], staging: &mut [u8], line: &mut [u8; LI
         }
     }
     let part = &part[..part.len().min(DOSSIER - before)];
+    // One that is not known is read as the old one.
+    match form(feed) {
+        Some(NEW) => read::<NEW>(part, before, register, staging, line, feed),
+        _ => read::<OLD>(part, before, register, staging, line, feed),
+    }
+    0
+}
+
+/// Reads a part, before which so many bytes have come.
+fn read<const FORM: bool>(
+    part: &[u8],
+    before: usize,
+    register: &[u8],
+    staging: &mut [u8],
+    line: &mut [u8; LINE],
+    feed: &mut Numbers,
+) {
     let (at, kind) = place(feed);
     let sender = sender(feed);
-    let staging = Staging { register, sender, rows: staging, feed, known: None, columns: None };
+    let staging = Staging::<FORM> { register, sender, rows: staging, feed, known: None, columns: None };
     let mut lines = Lines { part, before, line, staging };
     let walked = walk(part, at, kind, |kind, next| lines.ended(kind, next));
     let Lines { line, staging: Staging { feed, .. }, .. } = lines;
@@ -116,7 +140,6 @@ pub fn feed(part: &[u8], register: &[u8], staging: &mut [u8], line: &mut [u8; LI
         }
         Err(offset) => feed[SYNTAX] = (before + offset) as u64 + 1,
     }
-    0
 }
 
 /// A single byte inside a line that is neither a mark nor a fault: most of those
@@ -184,6 +207,9 @@ fn end(
     if !updates.iter().all(|body| ranges.sound(body, Kind::Update)) {
         return Err(Refusal::bare(1));
     }
+    if form(feed).is_none() {
+        return Err(Refusal::bare(18));
+    }
     read_faults(feed)?;
     let mut known: Option<&[u8; TEXT]> = None;
     for body in updates {
@@ -239,8 +265,12 @@ mod tests {
     }
 
     fn begun_by(sender: u8, room: usize) -> Memory {
+        begun_in(0, sender, room)
+    }
+
+    fn begun_in(form: u32, sender: u8, room: usize) -> Memory {
         let mut memory = Memory { staging: vec![7; room], line: [7; LINE], feed: [7; 48] };
-        assert_eq!(feed_begin(sender, &mut memory.feed), 0);
+        assert_eq!(feed_begin(sender, form, &mut memory.feed), 0);
         memory
     }
 
@@ -255,7 +285,11 @@ mod tests {
     }
 
     fn whole(dossier: &[u8]) -> [u64; 6] {
-        message(dossier, 3, REGISTER, &mut [0; 720], &mut [0; 670], 0, 0)
+        whole_in(0, dossier)
+    }
+
+    fn whole_in(form: u32, dossier: &[u8]) -> [u64; 6] {
+        message(dossier, 3, form, REGISTER, &mut [0; 720], &mut [0; 670], 0, 0)
     }
 
     /// Dossiers that are right, and such as get each refusal of reading, by more than one fault where that is possible.
@@ -304,6 +338,34 @@ mod tests {
             let mut bytes = begun_by(3, 200);
             dossier.iter().for_each(|&byte| assert_eq!(bytes.fed(&[byte]), 0));
             assert!(bytes.staging == once.staging && bytes.ended() == expected);
+        }
+    }
+
+    /// Each form reads its own words, whole and in parts; one that is not known is read as the old one and refused.
+    #[test]
+    fn forms() {
+        let of = |name: &str, words: &str| {
+            let line = format!("\\L{LABELS}|{name}|Monitored\r\n{ROW}|{words}\r\n");
+            format!("\\G\r\n\\TDATEDPASSTIME\r\n{line}").into_bytes()
+        };
+        let (old, new) = (of("ShowCancelledTrip", "0|1"), of("ShowCancelledJourney", "message|true"));
+        let cases = [
+            (0, &old, 0, Some([0, 255, 1])),
+            (1, &new, 0, Some([2, 255, 1])),
+            (1, &old, 5, None),
+            (0, &new, 5, None),
+            (2, &old, 18, Some([0, 255, 1])),
+            (u32::MAX, &new, 18, None),
+        ];
+        for (form, dossier, number, staged) in cases {
+            let expected = whole_in(form, dossier);
+            assert_eq!(expected[0], number, "{form}");
+            for wide in [1, 7, 100, dossier.len()] {
+                let mut parts = begun_in(form, 3, BODY);
+                dossier.chunks(wide).for_each(|part| assert_eq!(parts.fed(part), 0));
+                assert_eq!(parts.staging[63..], staged.unwrap_or([7; 3]));
+                assert_eq!(parts.ended(), expected, "{form}");
+            }
         }
     }
 

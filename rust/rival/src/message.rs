@@ -9,9 +9,25 @@ use super::table;
 /// Sender and owner.
 const PAIR: usize = 1 + TEXT;
 
-pub const WANTED: Wanted = Wanted {
-    table: b"DATEDPASSTIME",
-    columns: &[
+/// Wanted columns of a message.
+pub const COLUMNS: usize = 16;
+
+/// The forms of a message: the old one, and that of turbo 8.5. Each has code of its own for the two columns in which they differ, so that
+/// reading asks for the form once and not at every row.
+pub const OLD: bool = false;
+pub const NEW: bool = true;
+
+/// Whether it is the form of turbo 8.5; none where it is not known.
+pub fn form_of(form: u32) -> Option<bool> {
+    match form {
+        0 => Some(OLD),
+        1 => Some(NEW),
+        _ => None,
+    }
+}
+
+const fn columns(show_cancelled: &'static [u8]) -> [&'static [u8]; COLUMNS] {
+    [
         b"DataOwnerCode",
         b"OperationDate",
         b"LinePlanningNumber",
@@ -25,31 +41,47 @@ pub const WANTED: Wanted = Wanted {
         b"ExpectedArrivalTime",
         b"ExpectedDepartureTime",
         b"JourneyStopType",
-        b"ShowCancelledTrip",
+        show_cancelled,
         b"ShowFlexibleTrip",
         b"Monitored",
-    ],
-    optional: 0b1110_0000_0000_0000,
-};
+    ]
+}
 
+const fn in_columns(columns: &'static [&'static [u8]]) -> Wanted {
+    Wanted { table: b"DATEDPASSTIME", columns, optional: 0b1110_0000_0000_0000 }
+}
+
+/// By form.
+static COLUMN_NAMES: [[&[u8]; COLUMNS]; 2] = [columns(b"ShowCancelledTrip"), columns(b"ShowCancelledJourney")];
+static WANTED: [Wanted; 2] = [in_columns(&COLUMN_NAMES[0]), in_columns(&COLUMN_NAMES[1])];
+
+#[inline(always)]
+pub fn wanted<const FORM: bool>() -> &'static Wanted {
+    &WANTED[FORM as usize]
+}
+
+#[allow(clippy::too_many_arguments)]
 pub fn message(
     dossier: &[u8],
     sender: u8,
+    form: u32,
     register: &[u8],
     book: &mut [u8],
     table: &mut [u8],
     used: u64,
     rows: u64,
 ) -> [u64; 6] {
-    match accept(dossier, sender, register, book, table, used, rows) {
+    match accept(dossier, sender, form, register, book, table, used, rows) {
         Ok((number, used, rows)) => [0, number as u64, 0, 0, used as u64, rows as u64],
         Err(refusal) => refusal.answer(0, used, rows),
     }
 }
 
+#[allow(clippy::too_many_arguments)]
 fn accept(
     dossier: &[u8],
     sender: u8,
+    form: u32,
     register: &[u8],
     lent_book: &mut [u8],
     lent_table: &mut [u8],
@@ -57,7 +89,12 @@ fn accept(
     rows: u64,
 ) -> Result<(u32, usize, usize), Refusal> {
     let (parts, rows) = sound(register, lent_book, lent_table, used, rows).ok_or(Refusal::bare(1))?;
-    let updates = read(dossier, &owners(sender, register))?;
+    let owners = owners(sender, register);
+    let updates = match form_of(form) {
+        Some(OLD) => read::<OLD>(dossier, &owners)?,
+        Some(NEW) => read::<NEW>(dossier, &owners)?,
+        None => return Err(Refusal::bare(18)),
+    };
     take(&updates, sender, lent_book, lent_table, &parts, rows)
 }
 
@@ -122,16 +159,16 @@ pub fn grants(register: &[u8], sender: u8, owner: &[u8; TEXT]) -> bool {
 }
 
 /// Reads all rows; refusals 2 to 6, and 15.
-fn read(dossier: &[u8], owners: &[[u8; TEXT]]) -> Result<Vec<Body>, Refusal> {
+fn read<const FORM: bool>(dossier: &[u8], owners: &[[u8; TEXT]]) -> Result<Vec<Body>, Refusal> {
     let index = form(dossier)?;
     // A row takes a line, and more than 64 bytes.
     let most = index.lines.len().min(dossier.len() / 64);
     let mut updates: Vec<Body> = Vec::with_capacity(most);
     let mut stranger = None;
     let mut known: Option<[u8; TEXT]> = None;
-    rows::read(dossier, &index, &WANTED, |fields, line| {
+    rows::read(dossier, &index, wanted::<FORM>(), |fields, line| {
         let mut body = [0; BODY];
-        let faults = update(fields, &mut body);
+        let faults = update::<FORM>(fields, &mut body);
         let owner = body[..TEXT].try_into().unwrap();
         if faults == 0 && stranger.is_none() && known != Some(owner) {
             if owners.contains(&owner) {
@@ -151,7 +188,7 @@ fn read(dossier: &[u8], owners: &[[u8; TEXT]]) -> Result<Vec<Body>, Refusal> {
 
 /// Fills a body from one row; the answer has a bit for each faulty column.
 #[inline(always)]
-pub fn update(fields: &Fields, body: &mut Body) -> u32 {
+pub fn update<const FORM: bool>(fields: &Fields, body: &mut Body) -> u32 {
     let mut faults = 0;
     let mut text = |column: usize, at: usize| match fields.field(column).text() {
         Some(text) => body[at..at + TEXT].copy_from_slice(&text),
@@ -177,9 +214,9 @@ pub fn update(fields: &Fields, body: &mut Body) -> u32 {
     let stop_type = keep(12, stop_type.map(u32::from));
     let mut optional =
         |column: usize, value: Option<Option<u8>>| keep(column, value.unwrap_or(Some(ABSENT)).map(u32::from)) as u8;
-    let show = optional(13, fields.given(13).map(|f| f.flag()));
+    let show = optional(13, fields.given(13).map(|f| if FORM == NEW { f.shown() } else { f.flag() }));
     let flexible = optional(14, fields.given(14).map(|f| f.flexible()));
-    let monitored = optional(15, fields.given(15).map(|f| f.flag()));
+    let monitored = optional(15, fields.given(15).map(|f| if FORM == NEW { f.truth() } else { f.flag() }));
 
     body[DATE..DATE + 4].copy_from_slice(&date.to_be_bytes());
     body[JOURNEY..JOURNEY + 4].copy_from_slice(&journey.to_be_bytes());

@@ -183,14 +183,14 @@ fn kind_sound(body: &Body, kind: Kind) -> bool {
     match kind {
         Kind::Plan => (stamp == 0) & (body[STATUS] == 0) & (shows & 0x00ff_fcff == 0x0001_0000),
         Kind::Update => {
-            let flag = |at: usize| body[at].wrapping_add(1) <= 2;
+            let flag = |at: usize, most: u8| body[at].wrapping_add(1) <= most + 1;
             let flexible = body[FLEXIBLE];
             let known = (flexible.wrapping_add(1) <= 4) & (flexible != 0);
-            stamped & flag(SHOW_CANCELLED) & flag(MONITORED) & known
+            stamped & flag(SHOW_CANCELLED, 2) & flag(MONITORED, 1) & known
         }
         Kind::Row(heard) => {
             let told = if heard == 1 { stamped } else { stamp == 0 };
-            told & (heard <= 1) & (shows & 0x00fe_fcfe == 0)
+            told & (heard <= 1) & (shows & 0x00fc_fcfe == 0) & (body[SHOW_CANCELLED] <= 2)
         }
     }
 }

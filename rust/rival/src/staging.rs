@@ -4,24 +4,21 @@
 use super::answer::LINE;
 use super::feed::*;
 use super::lanes;
-use super::message::{grants, update, WANTED};
+use super::message::{grants, update, wanted, COLUMNS};
 use super::passage::{BODY, TEXT};
 use super::rows::{is_named, Ends, Fields, Labels, SLOTS};
 use super::stream::Kind;
 
-/// Wanted columns of a message.
-const COLUMNS: usize = WANTED.columns.len();
-
 /// The lines of a part, as they end.
-pub struct Lines<'a> {
+pub struct Lines<'a, const FORM: bool> {
     pub part: &'a [u8],
     /// Bytes of the dossier before the part.
     pub before: usize,
     pub line: &'a mut [u8; LINE],
-    pub staging: Staging<'a>,
+    pub staging: Staging<'a, FORM>,
 }
 
-impl Lines<'_> {
+impl<const FORM: bool> Lines<'_, FORM> {
     /// A line has ended; the next one begins at `next` of the part.
     pub fn ended(&mut self, kind: Kind, next: usize) {
         let feed = &mut self.staging.feed;
@@ -44,7 +41,7 @@ impl Lines<'_> {
     }
 }
 
-pub struct Staging<'a> {
+pub struct Staging<'a, const FORM: bool> {
     pub register: &'a [u8],
     pub sender: u8,
     pub rows: &'a mut [u8],
@@ -54,18 +51,21 @@ pub struct Staging<'a> {
     pub columns: Option<Columns>,
 }
 
-impl Staging<'_> {
+impl<const FORM: bool> Staging<'_, FORM> {
     /// The line from `start`, whose CR is at `stop`.
     #[inline(always)]
     fn read(&mut self, kind: Kind, bytes: &[u8], start: usize, stop: usize) {
         let number = self.feed[LINES];
         match kind {
             Kind::Group => {}
-            Kind::Table => self.feed[WANTS] = is_named(bytes, start + 2, WANTED.table) as u64,
-            Kind::Labels => match Labels::read(bytes, &mut Seen::from(bytes, start + 2), start + 2, stop, &WANTED) {
-                Some(labels) => self.columns = Some(Columns::of(&labels).kept(self.feed)),
-                None => self.feed[SHAPE] = number,
-            },
+            Kind::Table => self.feed[WANTS] = is_named(bytes, start + 2, wanted::<FORM>().table) as u64,
+            Kind::Labels => {
+                let mut ends = Seen::from(bytes, start + 2);
+                match Labels::read(bytes, &mut ends, start + 2, stop, wanted::<FORM>()) {
+                    Some(labels) => self.columns = Some(Columns::of(&labels).kept(self.feed)),
+                    None => self.feed[SHAPE] = number,
+                }
+            }
             Kind::Data => self.row(number, bytes, start, stop),
         }
     }
@@ -84,7 +84,7 @@ impl Staging<'_> {
             return;
         }
         let mut body = [0; BODY];
-        let faults = update(&fields, &mut body);
+        let faults = update::<FORM>(&fields, &mut body);
         if faults != 0 {
             self.feed[TYPE] = number;
             self.feed[COLUMN] = columns.first_place(faults);

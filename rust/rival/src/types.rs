@@ -238,6 +238,29 @@ impl<'a> Field<'a> {
         }
     }
 
+    /// true or false, in the 8.5 form.
+    #[inline(always)]
+    pub fn truth(self) -> Option<u8> {
+        self.shown().filter(|&shown| shown <= 1)
+    }
+
+    /// ShowCancelledJourney, in the 8.5 form.
+    #[inline(always)]
+    pub fn shown(self) -> Option<u8> {
+        if self.len() > 8 {
+            return None;
+        }
+        const FALSE: u64 = u64::from_le_bytes(*b"false\0\0\0");
+        const TRUE: u64 = u64::from_le_bytes(*b"true\0\0\0\0");
+        const MESSAGE: u64 = u64::from_le_bytes(*b"message\0");
+        match self.word8() {
+            FALSE => Some(0),
+            TRUE => Some(1),
+            MESSAGE => Some(2),
+            _ => None,
+        }
+    }
+
     /// ShowFlexibleTrip.
     #[inline(always)]
     pub fn flexible(self) -> Option<u8> {
@@ -373,6 +396,19 @@ mod tests {
             (f(b"0"), f(b"1"), f(b"2"), f(b""), f(b"00"), f(b"\\0")),
             (Some(0), Some(1), None, None, None, None)
         );
+    }
+
+    #[test]
+    fn words_of_the_new_form() {
+        let both = |raw: &[u8]| (each(raw, |f| f.truth()), each(raw, |f| f.shown()));
+        assert_eq!(both(b"false"), (Some(0), Some(0)));
+        assert_eq!(both(b"true"), (Some(1), Some(1)));
+        assert_eq!(both(b"message"), (None, Some(2)));
+        for bad in
+            ["", "0", "1", "2", "TRUE", "True", "tru", "true ", " true", "falsetrue", "messages", "MESSAGE", "\\0"]
+        {
+            assert_eq!(both(bad.as_bytes()), (None, None), "{bad}");
+        }
     }
 
     #[test]

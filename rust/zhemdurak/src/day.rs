@@ -2,7 +2,7 @@ use std::fmt;
 
 use layout::{ANSWER, ANSWER_ROWS, ANSWER_SECOND, ANSWER_USED, ANSWER_VALUE, BOARD_ANSWER, BOOK, ROW, ROWS};
 
-use crate::{Board, Kept, Question, Refusal, Register, Sender, Table};
+use crate::{Board, Form, Kept, Question, Refusal, Register, Sender, Table};
 
 /// Bytes that a day, or a feed's rows, may live in: a `Vec<u8>` that is owned, or `&mut [u8]` that is borrowed.
 pub trait Bytes: AsRef<[u8]> + AsMut<[u8]> {}
@@ -116,17 +116,18 @@ impl<B: Bytes> Day<B> {
         self.keep(answer).map(drop)
     }
 
-    /// A message is taken whole or refused whole. Its number is what [`Day::withdraw`] takes; a message without rows is
+    /// A message, in the form that is stated, is taken whole or refused whole. Its number is what [`Day::withdraw`] takes; a message without rows is
     /// accepted, changes nothing and has none. One that comes in parts is a [`Feed`](crate::Feed).
     pub fn message(
         &mut self,
         dossier: &[u8],
         sender: Sender,
+        form: Form,
         register: &Register,
     ) -> Result<Option<MessageNumber>, Refusal> {
         let Counts { used, rows } = self.counts;
         let (book, table) = (self.book.as_mut(), self.table.as_mut());
-        let answer = raw::message(dossier, sender.0, register.as_bytes(), book, table, used, rows);
+        let answer = raw::message(dossier, sender.0, form.0, register.as_bytes(), book, table, used, rows);
         self.taken(answer)
     }
 

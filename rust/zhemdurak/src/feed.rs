@@ -2,7 +2,7 @@ use std::fmt;
 
 use layout::{ACCEPTED, BODY_WIDE, FEED, LINE, STAGING};
 
-use crate::{Bytes, Day, MessageNumber, Refusal, Register, Sender};
+use crate::{Bytes, Day, Form, MessageNumber, Refusal, Register, Sender};
 
 /// A message whose dossier comes in parts, cut anywhere: also inside a line, an escape or a line end.
 ///
@@ -11,7 +11,7 @@ use crate::{Bytes, Day, MessageNumber, Refusal, Register, Sender};
 /// [`Refusal::StagingShort`].
 ///
 /// ```
-/// use zhemdurak::{Day, Feed, Refusal, Register, Sender};
+/// use zhemdurak::{Day, Feed, Form, Refusal, Register, Sender};
 ///
 /// let labels = "DataOwnerCode|OperationDate|LinePlanningNumber|VehicleJourneyNumber|FortifyOrderNumber|UserStopCode|\
 ///     UserStopOrderNumber|DestinationCode|LastUpdateTimeStamp|TripStopStatus|ExpectedArrivalTime|\
@@ -21,7 +21,7 @@ use crate::{Bytes, Day, MessageNumber, Refusal, Register, Sender};
 /// let mut register = Register::new();
 /// register.add(Sender(7), "CXX")?;
 ///
-/// let mut feed = Feed::begin(Sender(7));
+/// let mut feed = Feed::begin(Sender(7), Form::OLD);
 /// for part in dossier.as_bytes().chunks(100) {
 ///     feed.part(part, &register)?;
 /// }
@@ -38,9 +38,9 @@ use crate::{Bytes, Day, MessageNumber, Refusal, Register, Sender};
 /// A feed that was taken is gone, so that it cannot be taken twice:
 ///
 /// ```compile_fail,E0382
-/// # use zhemdurak::{Day, Feed, Register, Sender};
+/// # use zhemdurak::{Day, Feed, Form, Register, Sender};
 /// let (mut day, register) = (Day::new(), Register::new());
-/// let feed = Feed::begin(Sender(7));
+/// let feed = Feed::begin(Sender(7), Form::OLD);
 /// feed.end(&mut day, &register);
 /// feed.end(&mut day, &register);
 /// ```
@@ -68,23 +68,24 @@ pub struct NotEnded<B = Vec<u8>> {
 }
 
 impl Feed {
-    /// A message from this sender begins, with room for the rows of any dossier.
-    pub fn begin(sender: Sender) -> Feed {
-        Feed::lent(sender, vec![0; STAGING])
+    /// A message from this sender and in this form begins, with room for the rows of any dossier. A form that is not known
+    /// is refused at the end.
+    pub fn begin(sender: Sender, form: Form) -> Feed {
+        Feed::lent(sender, form, vec![0; STAGING])
     }
 
     /// The same with room for so many rows.
-    pub fn with_room(sender: Sender, rows: usize) -> Feed {
-        Feed::lent(sender, vec![0; rows * BODY_WIDE])
+    pub fn with_room(sender: Sender, form: Form, rows: usize) -> Feed {
+        Feed::lent(sender, form, vec![0; rows * BODY_WIDE])
     }
 }
 
 impl<B: Bytes> Feed<B> {
-    /// A message from this sender begins. Its rows wait in these bytes, [`layout::BODY_WIDE`] each; their contents are not
+    /// A message from this sender and in this form begins. Its rows wait in these bytes, [`layout::BODY_WIDE`] each; their contents are not
     /// read. Bytes that are borrowed may be lent to the next feed when this one has ended.
-    pub fn lent(sender: Sender, staging: B) -> Feed<B> {
+    pub fn lent(sender: Sender, form: Form, staging: B) -> Feed<B> {
         let mut kept = Box::new(Kept { numbers: [0; FEED], line: [0; LINE] });
-        raw::feed_begin(sender.0, &mut kept.numbers);
+        raw::feed_begin(sender.0, form.0, &mut kept.numbers);
         Feed { kept, staging }
     }
 

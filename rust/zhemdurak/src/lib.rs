@@ -1,11 +1,12 @@
 //! Departure boards from KV7 and KV8 turbo dossiers, by a library each function of which is proved to meet its promise.
 //!
-//! A [`Day`] is opened with a planning and a calendar, takes messages, whole or in parts ([`Feed`]), and gives boards. A
+//! A [`Day`] is opened with a planning and a calendar, takes messages, whole or in parts ([`Feed`]), in the old form or
+//! that of turbo 8.5 ([`Form`]), and gives boards. A
 //! call is done whole, or refused with a [`Refusal`] and nothing changed; it takes any bytes, and never panics for what it
 //! is given.
 //!
 //! ```
-//! use zhemdurak::{Date, Day, Question, Refusal, Register, Sender, Status, Time};
+//! use zhemdurak::{Date, Day, Form, Question, Refusal, Register, Sender, Status, Time};
 //!
 //! let planning = b"\\Gplanning\r\n\
 //!     \\TLOCALSERVICEGROUPPASSTIME\r\n\
@@ -36,9 +37,9 @@
 //!     ExpectedDepartureTime|JourneyStopType|ShowCancelledTrip\r\n\
 //!     CXX|2016-03-01|A031|17|0|40004412|2|CIOS|2016-03-01T22:15:30+01:00|CANCEL|24:09:30|24:10:00|INTERMEDIATE|1\r\n";
 //! let mut register = Register::new();
-//! assert_eq!(day.message(message, Sender(7), &register), Err(Refusal::NotRegistered { line: 4 }));
+//! assert_eq!(day.message(message, Sender(7), Form::OLD, &register), Err(Refusal::NotRegistered { line: 4 }));
 //! register.add(Sender(7), "CXX")?;
-//! let number = day.message(message, Sender(7), &register)?.expect("it has rows");
+//! let number = day.message(message, Sender(7), Form::OLD, &register)?.expect("it has rows");
 //! assert_eq!(day.board(&question)?.rows().next().unwrap().status(), Status::Cancel);
 //!
 //! // Withdrawn, it is as if it had never been.
@@ -56,6 +57,7 @@
 mod board;
 mod day;
 mod feed;
+mod form;
 mod refusal;
 mod register;
 mod row;
@@ -64,8 +66,9 @@ mod time;
 pub use board::{Board, Question};
 pub use day::{Bytes, Counts, Day, MessageNumber};
 pub use feed::{Feed, Kept, NotEnded};
+pub use form::Form;
 pub use layout;
 pub use refusal::{Dossier, Refusal};
 pub use register::{NotAdded, Register, Sender};
-pub use row::{Flexible, Row, Status, StopType, Table};
+pub use row::{Flexible, Row, ShowCancelled, Status, StopType, Table};
 pub use time::{Date, Moment, Time};

@@ -69,6 +69,8 @@ pub enum Refusal {
         /// The first such line, from 1.
         line: u64,
     },
+    /// 18: the [form](crate::Form) is none that is known.
+    UnknownForm,
     /// A number that this crate has no name for: the library is newer.
     Other {
         /// The number.
@@ -117,6 +119,7 @@ impl Refusal {
             13 => Refusal::OutOfRange,
             14 => Refusal::StagingShort,
             15 => Refusal::LineLong { dossier, line: value },
+            18 => Refusal::UnknownForm,
             number => Refusal::Other { number, value, second },
         })
     }
@@ -139,6 +142,7 @@ impl Refusal {
             Refusal::OutOfRange => 13,
             Refusal::StagingShort => 14,
             Refusal::LineLong { .. } => 15,
+            Refusal::UnknownForm => 18,
             Refusal::Other { number, .. } => *number,
         }
     }
@@ -235,6 +239,7 @@ mod tests {
         assert_eq!(Refusal::NoMessage.to_string(), "refused with 10: no message has the number");
         let long = Refusal::LineLong { dossier: Dossier::Calendar, line: 2 };
         assert_eq!(long.to_string(), "refused with 15: calendar, line 2: a line has more than 4,096 bytes");
+        assert_eq!(Refusal::UnknownForm.to_string(), "refused with 18: the form is none that is known");
         let row = "the sender is not registered for a row's owner";
         assert_eq!(Refusal::NotRegistered { line: 4 }.to_string(), format!("refused with 6: line 4: {row}"));
         assert_eq!(Refusal::NotRegistered { line: 0 }.to_string(), format!("refused with 6: {row}"));

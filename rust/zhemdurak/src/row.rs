@@ -78,6 +78,17 @@ codes! {
 }
 
 codes! {
+    /// Whether a passage is shown when it is cancelled.
+    ShowCancelled from CANCELLED_WORDS:
+    /// It is not.
+    False = CANCELLED_FALSE,
+    /// It is.
+    True = CANCELLED_TRUE,
+    /// It is not, but a message is sent beside it.
+    Message = CANCELLED_MESSAGE,
+}
+
+codes! {
     /// Whether a flexible trip is shown.
     Flexible from FLEXIBLE_WORDS:
     /// Not said: it is.
@@ -199,8 +210,8 @@ impl<'day> Row<'day> {
     }
 
     /// Whether it is shown when it is cancelled.
-    pub fn show_cancelled(&self) -> bool {
-        self.bytes[SHOW_CANCELLED_AT] == 1
+    pub fn show_cancelled(&self) -> ShowCancelled {
+        ShowCancelled::of(self.bytes[SHOW_CANCELLED_AT])
     }
 
     /// Whether it is shown as a flexible trip.
