@@ -10,7 +10,7 @@ const SIZES: [(usize, &str); 4] =
 
 /// The calls of a feed.
 trait Feeds: Side {
-    fn begin(sender: u8, feed: &mut [u64; FEED]) -> u32;
+    fn begin(sender: u8, form: u32, feed: &mut [u64; FEED]) -> u32;
     fn part(part: &[u8], register: &[u8], staging: &mut [u8], line: &mut [u8; LINE], feed: &mut [u64; FEED]) -> u32;
     fn end(
         register: &[u8],
@@ -24,8 +24,8 @@ trait Feeds: Side {
 macro_rules! feeds {
     ($side:ident = $module:ident) => {
         impl Feeds for $side {
-            fn begin(sender: u8, feed: &mut [u64; FEED]) -> u32 {
-                $module::feed_begin(sender, feed)
+            fn begin(sender: u8, form: u32, feed: &mut [u64; FEED]) -> u32 {
+                $module::feed_begin(sender, form, feed)
             }
 
             fn part(
@@ -82,7 +82,7 @@ impl Feeding<'_> {
     }
 
     fn fed<S: Feeds>(&mut self) -> [u64; ANSWER] {
-        S::begin(SENDER, &mut self.feed);
+        S::begin(SENDER, OLD_FORM, &mut self.feed);
         for part in black_box(self.dossier).chunks(self.size) {
             S::part(part, &self.register, &mut self.staging, &mut self.line, &mut self.feed);
         }

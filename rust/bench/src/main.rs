@@ -18,11 +18,12 @@ use std::time::Instant;
 
 use checks::call::{perform, Call, Job};
 use checks::sides::{Proved, Rival, Side};
-use checks::worlds::columns::{Form, MESSAGE, PLANNING};
+use checks::worlds::columns::{self, Form, PLANNING};
 use checks::worlds::fields;
 use checks::worlds::passage::{padded, Key, Passage, Text, BOOK, DOSSIER, ROW, ROWS};
 use checks::worlds::random::Random;
 use checks::worlds::state::State;
+use layout::{NEW_FORM, OLD_FORM};
 
 const OWNER: &[u8] = b"CXX";
 const LEVEL: &[u8] = b"2159042";
@@ -156,8 +157,8 @@ impl Room {
         let (book, table) = (&mut self.book, &mut self.table);
         match &job.call {
             Call::Open { planning, calendar } => S::open(planning, calendar, book, table, used, rows),
-            Call::Message { dossier, sender, register } => {
-                S::message(dossier, *sender, register, book, table, used, rows)
+            Call::Message { dossier, sender, form, register } => {
+                S::message(dossier, *sender, *form, register, book, table, used, rows)
             }
             Call::Withdraw { number, sender } => S::withdraw(*number, *sender, book, table, used, rows),
             call => {
@@ -178,6 +179,9 @@ fn cases(rows: usize) -> Vec<Case> {
     let day = Day::new(rows);
     let large = day.message_of(usize::MAX, Columns::Wanted);
     let wide = day.message_of(usize::MAX, Columns::All);
+    // As many rows as the longer words of the new form leave room for, and the same rows in the old form.
+    let newer = day.message_in(NEW_FORM, usize::MAX, Columns::Wanted);
+    let older = day.message_of(newer.rows, Columns::Wanted);
     let after_large = day.state.after(message(&large.bytes));
     let after_small = day.state.after(message(&day.message_of(1, Columns::Wanted).bytes));
     let newest = after_large.messages().last().expect("a message was accepted").0;
@@ -186,6 +190,12 @@ fn cases(rows: usize) -> Vec<Case> {
         case("open, wanted columns", open(rows, Columns::Wanted), &blank()),
         case(format!("message, 65 columns, {} rows", wide.rows), message(&wide.bytes), &day.state),
         case(format!("message, wanted columns, {} rows", large.rows), message(&large.bytes), &day.state),
+        case(format!("message, wanted columns, {} rows", older.rows), message(&older.bytes), &day.state),
+        case(
+            format!("message, wanted columns, {} rows, 8.5 form", newer.rows),
+            message_call(NEW_FORM, &newer.bytes),
+            &day.state,
+        ),
         case("message, 65 columns, 1 row", message(&day.message_of(1, Columns::All).bytes), &day.state),
         case("message, wanted columns, 1 row", message(&day.message_of(1, Columns::Wanted).bytes), &day.state),
         case("message, 65 columns, fault in the last row", message(&wide.with_late_fault()), &day.state),
@@ -203,8 +213,10 @@ fn parts(rows: usize) -> Vec<Case> {
     let day = Day::new(rows);
     let large = day.message_of(usize::MAX, Columns::Wanted);
     let wide = day.message_of(usize::MAX, Columns::All);
-    let refused =
-        |dossier: &Dossier| Call::Message { dossier: dossier.bytes.clone(), sender: SENDER, register: Vec::new() };
+    let refused = |dossier: &Dossier| {
+        let dossier = dossier.bytes.clone();
+        Call::Message { dossier, sender: SENDER, form: OLD_FORM, register: Vec::new() }
+    };
     let unjoined = Call::Open { planning: planning_dossier(rows / DATES, Columns::All), calendar: b"\\G\r\n".to_vec() };
     vec![
         case("open, empty dossiers: small areas cleared", open_faulty(0), &blank()),
@@ -242,8 +254,13 @@ fn open_faulty(size: usize) -> Call {
     Call::Open { planning: vec![b'x'; size], calendar: Vec::new() }
 }
 
+/// A message in the old form.
 fn message(dossier: &[u8]) -> Call {
-    Call::Message { dossier: dossier.to_vec(), sender: SENDER, register: register() }
+    message_call(OLD_FORM, dossier)
+}
+
+fn message_call(form: u32, dossier: &[u8]) -> Call {
+    Call::Message { dossier: dossier.to_vec(), sender: SENDER, form, register: register() }
 }
 
 fn register() -> Vec<u8> {
@@ -286,19 +303,23 @@ impl Day {
         let passages = day_passages(rows);
         let mut day = Day { state: blank().after(open(rows, Columns::Wanted)), passages };
         for quarter in 0..4 {
-            let dossier = day.message_from(quarter * rows / 8, rows / 8, Columns::Wanted);
+            let dossier = day.message_from(OLD_FORM, quarter * rows / 8, rows / 8, Columns::Wanted);
             day.state = day.state.after(message(&dossier.bytes));
         }
         day
     }
 
-    /// A message of as many rows as asked, or as the most bytes of a dossier hold.
+    /// A message in the old form of as many rows as asked, or as the most bytes of a dossier hold.
     fn message_of(&self, most: usize, columns: Columns) -> Dossier {
-        self.message_from(self.passages.len() / 3, most, columns)
+        self.message_in(OLD_FORM, most, columns)
     }
 
-    fn message_from(&self, start: usize, most: usize, columns: Columns) -> Dossier {
-        let mut dossier = Dossier::new(&MESSAGE, columns);
+    fn message_in(&self, form: u32, most: usize, columns: Columns) -> Dossier {
+        self.message_from(form, self.passages.len() / 3, most, columns)
+    }
+
+    fn message_from(&self, form: u32, start: usize, most: usize, columns: Columns) -> Dossier {
+        let mut dossier = Dossier::new(columns::message(form), columns);
         let mut random = Random::new(2, start as u64);
         for step in 0..most {
             // Steps of a large odd number: neighbouring rows are of passages far apart.
@@ -375,13 +396,14 @@ enum Columns {
 
 /// A dossier of one wanted table that is filled up to the most bytes.
 struct Dossier {
+    form: &'static Form,
     names: Vec<&'static str>,
     bytes: Vec<u8>,
     rows: usize,
 }
 
 impl Dossier {
-    fn new(form: &Form, columns: Columns) -> Dossier {
+    fn new(form: &'static Form, columns: Columns) -> Dossier {
         let names: Vec<&str> = match columns {
             Columns::Wanted => form.wanted.iter().map(|wanted| wanted.name).collect(),
             Columns::All => form.full.to_vec(),
@@ -389,12 +411,12 @@ impl Dossier {
         let group = "\\GKV8turbo|KV8turbo|openOV||||UTF-8|0.1|2016-03-01T00:12:05+01:00|\u{feff}";
         let title = format!("\\T{0}|{0}|start object", form.name);
         let bytes = format!("{group}\r\n{title}\r\n\\L{}\r\n", names.join("|")).into_bytes();
-        Dossier { names, bytes, rows: 0 }
+        Dossier { form, names, bytes, rows: 0 }
     }
 
     /// Adds a row unless the dossier would be too long.
     fn add(&mut self, passage: &Passage) -> bool {
-        let fields: Vec<Vec<u8>> = self.names.iter().map(|name| field(name, passage)).collect();
+        let fields: Vec<Vec<u8>> = self.names.iter().map(|name| field(self.form, name, passage)).collect();
         let line = fields.join(&b'|');
         let fits = self.bytes.len() + line.len() + 2 <= DOSSIER;
         if fits {
@@ -441,8 +463,10 @@ fn calendar_dossier() -> Vec<u8> {
 }
 
 /// A row's field: the passage's where the column is wanted, else what 000's samples have.
-fn field(name: &str, passage: &Passage) -> Vec<u8> {
+fn field(form: &Form, name: &str, passage: &Passage) -> Vec<u8> {
     let key = &passage.key;
+    let words = std::ptr::eq(form, &columns::NEW_MESSAGE);
+    let flag = |content: u8| if words { fields::word(&fields::SHOWN, content) } else { vec![b'0' + content] };
     let text = |text: &Text| fields::text(text);
     let number = |value: u32| value.to_string().into_bytes();
     match name {
@@ -460,9 +484,9 @@ fn field(name: &str, passage: &Passage) -> Vec<u8> {
         "ExpectedArrivalTime" | "TargetArrivalTime" => fields::time(passage.arrival),
         "ExpectedDepartureTime" | "TargetDepartureTime" => fields::time(passage.departure),
         "JourneyStopType" => fields::word(&fields::STOP_TYPES, passage.stop_type),
-        "ShowCancelledTrip" => number(passage.show_cancelled.into()),
+        "ShowCancelledTrip" | "ShowCancelledJourney" => flag(passage.show_cancelled),
         "ShowFlexibleTrip" => fields::word(&fields::FLEXIBLES, passage.flexible - 1),
-        "Monitored" => number(passage.monitored.into()),
+        "Monitored" => flag(passage.monitored),
         _ => sample_field(name).as_bytes().to_vec(),
     }
 }

@@ -115,7 +115,7 @@ fn unposted(dossier: &[u8]) -> Job {
 fn reading_of(name: &'static str, dossier: &[u8]) -> Reason {
     let (dossier, register, mut staging) = (dossier.to_vec(), register(), vec![0; STAGED]);
     reason(name, unposted(&dossier), Some(unposted(&[b'x'; LONG])), move |_, _| {
-        let _ = black_box(reading::read_message(&dossier, &register, SENDER, &mut staging));
+        let _ = black_box(reading::read_message(&dossier, &register, SENDER, OLD_FORM, &mut staging));
     })
 }
 
@@ -167,7 +167,8 @@ fn plan_sorted(rows: usize) -> Reason {
 
 fn new_passages(dossier: &Dossier) -> Reason {
     let mut staged = vec![0; STAGED];
-    reading::read_message(&dossier.bytes, &register(), SENDER, &mut staged).expect("the benchmark's own dossier");
+    reading::read_message(&dossier.bytes, &register(), SENDER, OLD_FORM, &mut staged)
+        .expect("the benchmark's own dossier");
     staged.truncate(dossier.rows * BODY);
     let (with, without) = (job(message(&dossier.bytes), &blank()), unposted(&dossier.bytes));
     reason("new passages", with, Some(without), move |book, table| {

@@ -41,7 +41,7 @@ fn check(job: &Job, outcome: &Outcome) -> usize {
             assert!(refusal == 1 && !sound);
             1
         }
-        Call::Message { dossier, sender, register } => message(dossier, *sender, register, job, outcome),
+        Call::Message { dossier, sender, form, register } => message(dossier, (*sender, *form), register, job, outcome),
         Call::Withdraw { number, .. } if refusal == 0 || refusal == 8 => {
             let count = withdrawing::withdraw(*number, &mut book, &mut table, used, rows);
             assert_eq!(count, (refusal == 0).then_some(outcome.answer[5] as usize));
@@ -68,10 +68,10 @@ fn is_board(job: &Job) -> bool {
     matches!(job.call, Call::Board { .. })
 }
 
-fn message(dossier: &[u8], sender: u8, register: &[u8], job: &Job, outcome: &Outcome) -> usize {
+fn message(dossier: &[u8], (sender, form): (u8, u32), register: &[u8], job: &Job, outcome: &Outcome) -> usize {
     let (used, rows, mut staging) = (job.lent.used as usize, job.lent.rows as usize, vec![0; 2427 * BODY]);
     let [refusal, number, ..] = outcome.answer;
-    let count = match reading::read_message(dossier, register, sender, &mut staging) {
+    let count = match reading::read_message(dossier, register, sender, form, &mut staging) {
         Ok(count) => count,
         Err(refused) => {
             assert_eq!(refused, outcome.answer[..3]);
@@ -142,8 +142,8 @@ fn long_lines_agree_with_the_rival() {
                 lines[1] = format!("\\T{table}|");
                 lines[place] += &"x".repeat(size - 2 - lines[place].len());
                 let dossier = (lines.join("\r\n") + "\r\n").into_bytes();
-                let answer = Rival::message(&dossier, 1, &[], &mut [], &mut [], 0, 0);
-                let refused = reading::read_message(&dossier, &[], 1, &mut []).err().unwrap_or([0; 3]);
+                let answer = Rival::message(&dossier, 1, 0, &[], &mut [], &mut [], 0, 0);
+                let refused = reading::read_message(&dossier, &[], 1, 0, &mut []).err().unwrap_or([0; 3]);
                 assert_eq!(refused, answer[..3], "a line of {size} bytes at {place}, {table}");
                 let number = if size > 4_096 { 15 } else { 4 * (table == "DATEDPASSTIME") as u64 };
                 assert_eq!(answer[0], number);
@@ -164,7 +164,7 @@ fn syntax_agrees_with_the_rival() {
         for _ in 0..random.below(7) {
             dossier.extend_from_slice(bits[random.below(bits.len())]);
         }
-        let answer = Rival::message(&dossier, 1, &[], &mut [], &mut [], 0, 0);
+        let answer = Rival::message(&dossier, 1, 0, &[], &mut [], &mut [], 0, 0);
         assert_eq!(
             syntax::check(&dossier).err(),
             (answer[0] == 3).then_some(answer[1] as usize),

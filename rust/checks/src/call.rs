@@ -10,7 +10,7 @@ use crate::worlds::state::State;
 #[derive(Clone, Debug, PartialEq, Eq)]
 pub enum Call {
     Open { planning: Vec<u8>, calendar: Vec<u8> },
-    Message { dossier: Vec<u8>, sender: u8, register: Vec<u8> },
+    Message { dossier: Vec<u8>, sender: u8, form: u32, register: Vec<u8> },
     Feed(Feeding),
     Withdraw { number: u32, sender: u8 },
     Board { owner: Vec<u8>, stop: Vec<u8>, date: u32, second: u32, horizon: u32, places: Vec<u32> },
@@ -111,9 +111,9 @@ impl Rooms {
                 let (planning, calendar) = (first.lend(planning, edge), other.lend(calendar, edge));
                 S::open(planning, calendar, book, table, used, rows)
             }
-            Call::Message { dossier, sender, register } => {
+            Call::Message { dossier, sender, form, register } => {
                 let (dossier, register) = (first.lend(dossier, edge), other.lend(register, edge));
-                S::message(dossier, *sender, register, book, table, used, rows)
+                S::message(dossier, *sender, *form, register, book, table, used, rows)
             }
             Call::Feed(_) => unreachable!("a feed is many calls"),
             Call::Withdraw { number, sender } => S::withdraw(*number, *sender, book, table, used, rows),

@@ -3,6 +3,7 @@
 //! ```text
 //! message
 //! sender 7
+//! form 0
 //! used 139
 //! rows 1
 //! shift 0
@@ -56,9 +57,13 @@ impl Case {
         };
         match call {
             Call::Open { .. } => {}
-            Call::Message { sender, .. } => line("sender", &[u64::from(*sender)]),
+            Call::Message { sender, form, .. } => {
+                line("sender", &[u64::from(*sender)]);
+                line("form", &[u64::from(*form)]);
+            }
             Call::Feed(feeding) => {
                 line("sender", &[u64::from(feeding.sender)]);
+                line("form", &[u64::from(feeding.form)]);
                 line("fill", &[u64::from(feeding.fill)]);
                 for (place, step) in feeding.steps.iter().enumerate() {
                     line(&step_name(place), &step_numbers(step));
@@ -102,18 +107,18 @@ impl Case {
         let call = match text.lines().next().unwrap_or("") {
             "open" => Call::Open { planning: bytes("planning")?, calendar: bytes("calendar")? },
             "message" => {
-                let sender = words.number("sender")? as u8;
-                Call::Message { dossier: bytes("dossier")?, sender, register: bytes("register")? }
+                let (sender, form) = (words.number("sender")? as u8, words.number("form")? as u32);
+                Call::Message { dossier: bytes("dossier")?, sender, form, register: bytes("register")? }
             }
             "feed_end" => {
-                let sender = words.number("sender")? as u8;
+                let (sender, form) = (words.number("sender")? as u8, words.number("form")? as u32);
                 let fill = words.number("fill")? as u8;
                 let mut steps = Vec::new();
                 while let Ok(numbers) = words.take(&step_name(steps.len())) {
                     let name = step_name(steps.len());
                     steps.push(step_of(&numbers, |piece| bytes(&format!("{name}-{piece}")))?);
                 }
-                Call::Feed(Feeding { sender, staging: bytes("staging")?, fill, steps })
+                Call::Feed(Feeding { sender, form, staging: bytes("staging")?, fill, steps })
             }
             "withdraw" => {
                 Call::Withdraw { number: words.number("number")? as u32, sender: words.number("sender")? as u8 }

@@ -36,7 +36,7 @@ impl Coverage {
                     _ => {}
                 }
             }
-            Call::Message { dossier, sender, register } => {
+            Call::Message { dossier, sender, register, .. } => {
                 self.dossier(dossier, outcome, "message");
                 self.sent(job, outcome, *sender, register);
             }

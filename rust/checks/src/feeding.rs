@@ -10,6 +10,7 @@ use crate::sides::Side;
 #[derive(Clone, Debug, PartialEq, Eq)]
 pub struct Feeding {
     pub sender: u8,
+    pub form: u32,
     /// The whole staging area, as it is before.
     pub staging: Vec<u8>,
     /// What stands before in every byte of the line and of the numbers.
@@ -69,13 +70,18 @@ struct Whole {
 }
 
 impl Feeding {
-    /// A feed that is begun, fed these parts and ended, with the same register and so many bytes of the staging area lent to all calls.
+    /// A feed in the old form that is begun, fed these parts and ended, with the same register and so many bytes of the staging area lent to all calls.
     pub fn of(sender: u8, parts: &[&[u8]], register: &[u8], staging: usize) -> Feeding {
         let part = |bytes: &&[u8]| Step::Part { bytes: bytes.to_vec(), register: register.to_vec(), staging };
         let mut steps = vec![Step::Begin];
         steps.extend(parts.iter().map(part));
         steps.push(Step::End { register: register.to_vec(), staging, less: [0, 0] });
-        Feeding { sender, staging: vec![0xcc; staging], fill: 0xee, steps }
+        Feeding { sender, form: 0, staging: vec![0xcc; staging], fill: 0xee, steps }
+    }
+
+    /// The same in another form.
+    pub fn in_form(self, form: u32) -> Feeding {
+        Feeding { form, ..self }
     }
 
     /// Somebody has changed numbers or line.
@@ -210,7 +216,7 @@ impl Rooms {
         match step {
             Step::Begin => {
                 let numbers = numbers_of(self.numbers.lend(&memory.numbers, edge));
-                let number = S::feed_begin(feeding.sender, numbers);
+                let number = S::feed_begin(feeding.sender, feeding.form, numbers);
                 memory.numbers.copy_from_slice(self.numbers.content());
                 let stray = match number {
                     0 if self.numbers.intact() => None,
@@ -337,19 +343,19 @@ impl Rooms {
     /// where the staging area is too short for all rows.
     fn unlike_one_call<S: Side>(&mut self, job: &Job, whole: &Whole, outcome: &Outcome) -> Option<&'static str> {
         let Job { lent, shift, .. } = job;
-        let Call::Feed(Feeding { sender, .. }) = &job.call else { unreachable!("a feed") };
+        let Call::Feed(Feeding { sender, form, .. }) = &job.call else { unreachable!("a feed") };
         let (mut book, mut table) = (lent.book.clone(), lent.table.clone());
         book.truncate(lent.book.len().saturating_sub(whole.less[0]));
         table.truncate(lent.table.len().saturating_sub(whole.less[1]));
         let edge = Edge::of(*shift);
         let (dossier, register) = (self.first.lend(&whole.dossier, edge), self.other.lend(&whole.register, edge));
-        let one = S::message(dossier, *sender, register, &mut book, &mut table, lent.used, lent.rows);
+        let one = S::message(dossier, *sender, *form, register, &mut book, &mut table, lent.used, lent.rows);
         let ended = outcome.steps[whole.end].answer;
         let room = whole.staging.min(outcome.staging.len()) / BODY_WIDE;
         if matches!(one[0], 0 | 7 | 8) {
             let rows = match one[0] {
                 0 => Some((one[4] - lent.used) as usize / UPDATE_WIDE),
-                _ => rows_of::<S>(dossier, *sender, register),
+                _ => rows_of::<S>(dossier, *sender, *form, register),
             };
             if rows.is_some_and(|rows| (rows > room) != (ended[0] == 14)) {
                 return Some("14 goes by something else than the rows of the dossier");
@@ -375,17 +381,17 @@ fn unlike_one_part<S: Side>(
 ) -> Option<&'static str> {
     let (mut own_staging, mut own_line, mut own_numbers) = (feeding.staging.clone(), [0; LINE], [0; FEED]);
     let lent = whole.staging.min(own_staging.len());
-    S::feed_begin(feeding.sender, &mut own_numbers);
+    S::feed_begin(feeding.sender, feeding.form, &mut own_numbers);
     S::feed(&whole.dossier, &whole.register, &mut own_staging[..lent], &mut own_line, &mut own_numbers);
     let same = own_staging == staging && own_line[..] == line && own_numbers[..] == numbers;
     (!same).then_some("a feed's memory depends on the cuts")
 }
 
-/// The line has the bytes of the line that is cut, and zeros behind them: where the end tells of no fault of syntax within the bytes that
-/// came, and the line is not too long by then.
+/// The line has the bytes of the line that is cut, and zeros behind them: where the end tells that no fault of syntax lies within the bytes
+/// that came, and the line is not too long by then.
 fn other_line(whole: &Whole, outcome: &Outcome, line: &[u8]) -> Option<&'static str> {
     let answer = outcome.steps[whole.end].answer;
-    let faulty = matches!(answer[0], 1 | 2) || answer[0] == 3 && answer[1] != whole.dossier.len() as u64;
+    let faulty = matches!(answer[0], 1 | 2 | 18) || answer[0] == 3 && answer[1] != whole.dossier.len() as u64;
     let begins = whole.dossier.iter().rposition(|&byte| byte == b'\n').map_or(0, |at| at + 1);
     let cut = &whole.dossier[begins..];
     if faulty || cut.len() > LINE {
@@ -402,8 +408,8 @@ fn is_sound<S: Side>(memory: &Memory) -> bool {
 }
 
 /// How many rows a dossier has, where a day with all room takes it.
-fn rows_of<S: Side>(dossier: &[u8], sender: u8, register: &[u8]) -> Option<usize> {
+fn rows_of<S: Side>(dossier: &[u8], sender: u8, form: u32, register: &[u8]) -> Option<usize> {
     let (mut book, mut table) = (vec![0; layout::BOOK], vec![0; layout::TABLE]);
-    let answer = S::message(dossier, sender, register, &mut book, &mut table, 0, 0);
+    let answer = S::message(dossier, sender, form, register, &mut book, &mut table, 0, 0);
     (answer[0] == 0).then_some(answer[4] as usize / UPDATE_WIDE)
 }

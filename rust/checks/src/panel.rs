@@ -89,8 +89,13 @@ impl<'a> Day<'a> {
         self.ask(Call::Open { planning, calendar }).answer
     }
 
+    /// A message in the old form.
     pub fn message(&mut self, dossier: Vec<u8>, sender: u8, register: &[u8]) -> [u64; 6] {
-        self.ask(Call::Message { dossier, sender, register: register.to_vec() }).answer
+        self.message_in(0, dossier, sender, register)
+    }
+
+    pub fn message_in(&mut self, form: u32, dossier: Vec<u8>, sender: u8, register: &[u8]) -> [u64; 6] {
+        self.ask(Call::Message { dossier, sender, form, register: register.to_vec() }).answer
     }
 
     /// A message in parts. Its answer is that of the last accepted end, or else of the last.

@@ -6,7 +6,7 @@ use std::collections::BTreeMap;
 use crate::feeding::Feeding;
 use crate::lines::pair;
 use crate::panel::{listed, Day, Panel, Question};
-use crate::worlds::columns::{Form, CALENDAR, MESSAGE, PLANNING};
+use crate::worlds::columns::{self, Form, CALENDAR, PLANNING};
 use crate::worlds::dossier::{group, table, Column, Dossier, Layout, Line, Table};
 use crate::worlds::passage::{unpadded, Key, Passage};
 use crate::worlds::plan::Plan;
@@ -24,6 +24,7 @@ listed! {
 struct Sent {
     dossier: Vec<u8>,
     sender: u8,
+    form: u32,
     bodies: Vec<Vec<u8>>,
     standing: bool,
 }
@@ -52,9 +53,12 @@ fn written(table: Table, random: &mut Random) -> Vec<u8> {
 /// The body that a passage is to be kept as where the table has these columns: an optional column that is absent says nothing.
 fn meant(passage: &Passage, columns: &[Column], nothing: u8) -> Vec<u8> {
     let mut body = passage.body().to_vec();
-    for (name, at) in [("ShowCancelledTrip", 63), ("ShowFlexibleTrip", 64), ("Monitored", 65)] {
+    let optional: [(&[&str], usize); 3] =
+        [(&columns::SHOW_CANCELLED, 63), (&["ShowFlexibleTrip"], 64), (&["Monitored"], 65)];
+    for (names, at) in optional {
         let wanted_here = nothing == 255 || at == 64;
-        if wanted_here && !columns.iter().any(|column| column.name == name.as_bytes()) {
+        let named = |column: &Column| names.iter().any(|name| column.name == name.as_bytes());
+        if wanted_here && !columns.iter().any(|column| column.kind.is_some() && named(column)) {
             body[at] = nothing;
         }
     }
@@ -83,7 +87,7 @@ impl<'a> Told<'a> {
     }
 
     /// The rows of a message: of passages that the table has, and of others.
-    fn passages(&mut self) -> Vec<Passage> {
+    fn passages(&mut self, form: u32) -> Vec<Passage> {
         let count = self.random.range(1, 9);
         let rows = self.day.state.rows as usize;
         let key = |told: &mut Told| {
@@ -97,28 +101,34 @@ impl<'a> Told<'a> {
         (0..count)
             .map(|_| {
                 let key = key(self);
-                self.world.passage(key, Role::Update, &mut self.random)
+                let mut passage = self.world.passage(key, Role::Update, &mut self.random);
+                if form == 0 {
+                    passage.in_old_form();
+                }
+                passage
             })
             .collect()
     }
 
-    /// Sends a message, which is accepted.
+    /// Sends a message in either form, which is accepted.
     fn send(&mut self) -> u32 {
-        let passages = self.passages();
+        let form = self.random.below(2) as u32;
+        let passages = self.passages(form);
         let lines: Vec<Line> = passages.iter().map(|passage| Line { passage, level: &passage.key.line }).collect();
-        let table = table(&MESSAGE, layout(&mut self.random), &lines, &mut self.random);
+        let table = table(columns::message(form), layout(&mut self.random), &lines, &mut self.random);
         let bodies = passages.iter().map(|passage| meant(passage, &table.columns, 255)).collect();
         let dossier = written(table, &mut self.random);
         let sender = *self.random.pick(&[1, 7, 128, 255]);
-        let sent = Sent { dossier, sender, bodies, standing: true };
+        let sent = Sent { dossier, sender, form, bodies, standing: true };
         let number = self.sent.len() as u64 + 1;
         let register = self.register(sent.sender);
         let answer = if self.random.one_in(3) {
             let wide = self.random.range(1, sent.dossier.len());
             let parts: Vec<&[u8]> = sent.dossier.chunks(wide.max(sent.dossier.len() / 20)).collect();
-            self.day.feed(Feeding::of(sent.sender, &parts, &register, sent.bodies.len() * 66)).answer
+            let feeding = Feeding::of(sent.sender, &parts, &register, sent.bodies.len() * 66);
+            self.day.feed(feeding.in_form(form)).answer
         } else {
-            self.day.message(sent.dossier.clone(), sent.sender, &register)
+            self.day.message_in(form, sent.dossier.clone(), sent.sender, &register)
         };
         assert_eq!(answer[..2], [0, number], "a message of right rows is accepted, whole or in parts");
         self.sent.push(sent);
@@ -229,17 +239,18 @@ pub mod days {
     pub fn columns_in_any_order(panel: &Panel) {
         for number in 0..DAYS {
             let mut told = Told::new(panel, 12, number);
-            let passages = told.passages();
+            let form = number as u32 % 2;
+            let passages = told.passages(form);
             let lines: Vec<Line> = passages.iter().map(|passage| Line { passage, level: &passage.key.line }).collect();
-            let plain = table(&MESSAGE, Layout::Wanted, &lines, &mut told.random);
+            let plain = table(columns::message(form), Layout::Wanted, &lines, &mut told.random);
             let before = told.day.clone();
             let register = told.register(9);
             let mut left = None;
             for _ in 0..4 {
-                let tables = rearranged(&plain, &MESSAGE, &mut told.random);
+                let tables = rearranged(&plain, columns::message(form), &mut told.random);
                 let dossier = Dossier { group: group(&mut told.random), tables }.bytes();
                 let mut day = before.clone();
-                assert_eq!(day.message(dossier, 9, &register)[..2], [0, 1]);
+                assert_eq!(day.message_in(form, dossier, 9, &register)[..2], [0, 1]);
                 assert!(*left.get_or_insert_with(|| day.state.clone()) == day.state);
             }
         }
@@ -304,7 +315,8 @@ pub mod days {
             let mut anew = Day::new(panel, 80_000, 400 * 67);
             assert_eq!(anew.open(told.planning.clone(), told.calendar.clone())[0], 0);
             for sent in told.sent.iter().filter(|sent| sent.standing) {
-                assert_eq!(anew.message(sent.dossier.clone(), sent.sender, &told.register(sent.sender))[0], 0);
+                let register = told.register(sent.sender);
+                assert_eq!(anew.message_in(sent.form, sent.dossier.clone(), sent.sender, &register)[0], 0);
             }
             assert_eq!(told.rows(), &anew.state.table[..anew.state.rows as usize * 67], "as if it had never been");
         }

@@ -23,7 +23,8 @@ fn size(job: &Job) -> usize {
     let texts: usize = texts(&mut job.call.clone()).iter().map(|text| text.len()).sum();
     let places = if let Call::Board { places, .. } = &job.call { places.len() } else { 0 };
     let steps = if let Call::Feed(feeding) = &job.call { feeding.steps.len() + usize::from(feeding.fill) } else { 0 };
-    texts + places + steps + job.lent.book.len() + job.lent.table.len() + job.shift
+    let form = usize::from(form_of(&mut job.call.clone()).is_some_and(|form| *form != 0));
+    texts + places + steps + form + job.lent.book.len() + job.lent.table.len() + job.shift
 }
 
 struct Shrinker<F> {
@@ -59,6 +60,7 @@ type Pieces = Vec<Vec<u8>>;
 impl<F: FnMut(&Job) -> bool> Shrinker<F> {
     fn once(&mut self) {
         self.change(|job| job.shift = 0);
+        self.change(set_old_form);
         self.cut_steps();
         self.join_parts();
         self.change(set_fill);
@@ -222,6 +224,21 @@ fn set_messages(job: &mut Job, mut entries: Pieces) {
         *number = numbers.get(number).copied().unwrap_or(*number);
     }
     set_book_entries(job, entries);
+}
+
+/// The form that a message states, whole or in parts.
+fn form_of(call: &mut Call) -> Option<&mut u32> {
+    match call {
+        Call::Message { form, .. } => Some(form),
+        Call::Feed(feeding) => Some(&mut feeding.form),
+        _ => None,
+    }
+}
+
+fn set_old_form(job: &mut Job) {
+    if let Some(form) = form_of(&mut job.call) {
+        *form = 0;
+    }
 }
 
 fn set_fill(job: &mut Job) {

@@ -1,6 +1,6 @@
 //! The implementations behind one name, so that each can stand in for the others.
 
-use zhemdurak::{Counts, Date, Day, Dossier, Feed, Kept, MessageNumber, Question, Refusal, Register, Sender};
+use zhemdurak::{Counts, Date, Day, Dossier, Feed, Form, Kept, MessageNumber, Question, Refusal, Register, Sender};
 
 use layout::{FEED, LINE};
 
@@ -13,9 +13,9 @@ macro_rules! calls {
             $($head)*
             fn open(planning: &[u8], calendar: &[u8], book: &mut [u8], table: &mut [u8], used: u64, rows: u64)
                 -> [u64; 6];
-            fn message(dossier: &[u8], sender: u8, register: &[u8], book: &mut [u8], table: &mut [u8], used: u64, rows: u64)
+            fn message(dossier: &[u8], sender: u8, form: u32, register: &[u8], book: &mut [u8], table: &mut [u8], used: u64, rows: u64)
                 -> [u64; 6];
-            fn feed_begin(sender: u8, feed: &mut [u64; FEED]) -> u32;
+            fn feed_begin(sender: u8, form: u32, feed: &mut [u64; FEED]) -> u32;
             fn feed(part: &[u8], register: &[u8], staging: &mut [u8], line: &mut [u8; LINE], feed: &mut [u64; FEED]) -> u32;
             fn feed_end(register: &[u8], staging: &[u8], book: &mut [u8], table: &mut [u8], used: u64, rows: u64,
                 feed: &mut [u64; FEED]) -> [u64; 6];
@@ -119,6 +119,7 @@ impl Side for Typed {
     fn message(
         dossier: &[u8],
         sender: u8,
+        form: u32,
         register: &[u8],
         book: &mut [u8],
         table: &mut [u8],
@@ -126,12 +127,12 @@ impl Side for Typed {
         rows: u64,
     ) -> [u64; 6] {
         let mut day = Day::resumed(book, table, Counts { used, rows });
-        let done = day.message(dossier, Sender(sender), &Register::from_bytes(register));
+        let done = day.message(dossier, Sender(sender), Form(form), &Register::from_bytes(register));
         on_the_day(done.map(|number| number.map_or(0, |number| number.0.into())), &day)
     }
 
-    fn feed_begin(sender: u8, feed: &mut [u64; FEED]) -> u32 {
-        let (kept, _) = Feed::lent(Sender(sender), &mut [][..]).into_parts();
+    fn feed_begin(sender: u8, form: u32, feed: &mut [u64; FEED]) -> u32 {
+        let (kept, _) = Feed::lent(Sender(sender), Form(form), &mut [][..]).into_parts();
         *feed = kept.numbers;
         0
     }
@@ -224,7 +225,7 @@ fn on_the_day(done: Result<u64, Refusal>, day: &Day<&mut [u8]>) -> [u64; 6] {
 fn read_through<'day>(rows: impl Iterator<Item = zhemdurak::Row<'day>>) {
     for row in rows {
         let texts = row.owner().len() * row.line().len() * row.stop().len() * row.destination().len();
-        let codes = (row.status(), row.stop_type(), row.flexible());
+        let codes = (row.status(), row.stop_type(), row.show_cancelled(), row.flexible());
         assert!(texts > 0 && row.date() < Date(21_000_101), "{codes:?}");
         assert_eq!(row.departs().is_none(), row.departure().is_none());
     }

@@ -93,18 +93,19 @@ impl<const SLIP: u8> Side for Feeds<SLIP> {
     fn message(
         dossier: &[u8],
         sender: u8,
+        form: u32,
         register: &[u8],
         book: &mut [u8],
         table: &mut [u8],
         used: u64,
         rows: u64,
     ) -> [u64; 6] {
-        Rival::message(dossier, sender, register, book, table, used, rows)
+        Rival::message(dossier, sender, form, register, book, table, used, rows)
     }
 
-    fn feed_begin(sender: u8, feed: &mut [u64; 48]) -> u32 {
+    fn feed_begin(sender: u8, form: u32, feed: &mut [u64; 48]) -> u32 {
         FED.take();
-        Rival::feed_begin(sender, feed)
+        Rival::feed_begin(sender, form, feed)
     }
 
     fn feed(part: &[u8], register: &[u8], staging: &mut [u8], line: &mut [u8; 4_096], feed: &mut [u64; 48]) -> u32 {
@@ -115,7 +116,7 @@ impl<const SLIP: u8> Side for Feeds<SLIP> {
         });
         let part = if SLIP == LOST_LF { part.strip_prefix(b"\n").unwrap_or(part) } else { part };
         if SLIP == BEGINS && *feed == [0; 48] {
-            Rival::feed_begin(7, feed);
+            Rival::feed_begin(7, 0, feed);
         }
         let room = staging.len() - usize::from(SLIP == BYTE_LESS && !staging.is_empty());
         let number = Rival::feed(part, register, &mut staging[..room], line, feed);

@@ -3,15 +3,21 @@
 
 use super::{copy_to, day_count, is_date, put_number, same_bytes, syntax, BODY};
 
-const NAMES: &[u8] =
+/// By form.
+const NAMES: [&[u8]; 2] = [
     b"DataOwnerCode|OperationDate|LinePlanningNumber|VehicleJourneyNumber|FortifyOrderNumber|UserStopCode|\
     UserStopOrderNumber|DestinationCode|LastUpdateTimeStamp|TripStopStatus|ExpectedArrivalTime|ExpectedDepartureTime|\
-    JourneyStopType|ShowCancelledTrip|ShowFlexibleTrip|Monitored";
+    JourneyStopType|ShowCancelledTrip|ShowFlexibleTrip|Monitored",
+    b"DataOwnerCode|OperationDate|LinePlanningNumber|VehicleJourneyNumber|FortifyOrderNumber|UserStopCode|\
+    UserStopOrderNumber|DestinationCode|LastUpdateTimeStamp|TripStopStatus|ExpectedArrivalTime|ExpectedDepartureTime|\
+    JourneyStopType|ShowCancelledJourney|ShowFlexibleTrip|Monitored",
+];
 /// The columns that must be there are the first; the place of JourneyStopType among them.
 const MUST: usize = 13;
 const STOP_TYPE: usize = 12;
-/// Of each column, a hex digit each: its kind, the two digits of its offset, and whether it is optional.
-const COLUMNS: [u64; 4] = [0xaba9876504032010, 0x4433333322111000, 0x10feb87397dc8ea0, 0x1110000000000000];
+/// Of each column, a hex digit each: its kind, by form; the two digits of its offset, and whether it is optional.
+const KINDS: [u64; 2] = [0xaba9876504032010, 0xcbd9876504032010];
+const COLUMNS: [u64; 3] = [0x4433333322111000, 0x10feb87397dc8ea0, 0x1110000000000000];
 
 // `turbo`, `turbo_lines`, `turbo_labels`
 
@@ -62,10 +68,10 @@ fn rest_after_bars(line: &[u8], k: usize) -> &[u8] {
 }
 
 /// The places of the wanted names among the labels, each looked for in all of them; none if one stands twice.
-fn find_columns(labels: &[u8]) -> Option<[usize; 16]> {
+fn find_columns(form: usize, labels: &[u8]) -> Option<[usize; 16]> {
     let labels: Vec<&[u8]> = labels.split(|&b| b == b'|').collect();
     let mut places = [labels.len(); 16];
-    for (place, name) in places.iter_mut().zip(NAMES.split(|&b| b == b'|')) {
+    for (place, name) in places.iter_mut().zip(NAMES[form].split(|&b| b == b'|')) {
         let mut found = (0..labels.len()).filter(|&k| same_bytes(labels[k], name));
         *place = found.next().unwrap_or(labels.len());
         if found.next().is_some() {
@@ -180,7 +186,9 @@ fn write_cell(kind: u8, line: &[u8], stop: usize, f: &[u8], row: &mut [u8], at: 
         8 => write(3, read_time(b"LAST", line, stop, f)),
         9 => write(1, read_word(f, &[b"FIRST", b"INTERMEDIATE", b"LAST"], 0)),
         10 => write(1, read_word(f, &[b"0", b"1"], 0)),
-        _ => write(1, read_word(f, &[b"TRUE", b"FALSE", b"REALTIME"], 1)),
+        11 => write(1, read_word(f, &[b"TRUE", b"FALSE", b"REALTIME"], 1)),
+        12 => write(1, read_word(f, &[b"false", b"true"], 0)),
+        _ => write(1, read_word(f, &[b"false", b"true", b"message"], 0)),
     }
 }
 
@@ -189,20 +197,21 @@ fn write_cell(kind: u8, line: &[u8], stop: usize, f: &[u8], row: &mut [u8], at: 
 /// What is kept of a label line: where the wanted columns stand, and in which order a data line is read.
 #[derive(Clone, Copy, Default)]
 struct Shape {
+    form: usize,
     count: usize,
     places: [usize; 16],
     found: usize,
     order: [usize; 16],
 }
 
-fn read_labels(labels: &[u8]) -> Option<Shape> {
-    let (places, count) = (find_columns(labels)?, count_fields(labels));
+fn read_labels(form: usize, labels: &[u8]) -> Option<Shape> {
+    let (places, count) = (find_columns(form, labels)?, count_fields(labels));
     if places[..MUST].contains(&count) {
         return None;
     }
     let mut order = std::array::from_fn(|j| j);
     order.sort_by_key(|&j| places[j]);
-    Some(Shape { count, places, found: places.iter().filter(|&&place| place < count).count(), order })
+    Some(Shape { form, count, places, found: places.iter().filter(|&&place| place < count).count(), order })
 }
 
 /// A row, zero bytes behind it; or the first column, from 1, whose field is outside its type.
@@ -216,7 +225,8 @@ fn read_row(h: Shape, line: &[u8]) -> Result<[u8; 80], usize> {
         let here = rest_after_bars(rest, p - at);
         let (size, after) = read_field(here);
         let f = &here[..size];
-        let [kind, high, low, optional] = COLUMNS.map(|packed| ((packed >> (4 * j)) % 16) as u8);
+        let digit = |packed: u64| ((packed >> (4 * j)) % 16) as u8;
+        let (kind, [high, low, optional]) = (digit(KINDS[h.form]), COLUMNS.map(digit));
         let empty = optional == 1 && same_bytes(f, b"\\0");
         if !empty && !write_cell(kind, line, h.places[STOP_TYPE], f, &mut row, high as usize * 16 + low as usize) {
             return Err(p + 1);
@@ -264,7 +274,7 @@ fn data_step(s: State, line: &[u8], register: &[u8], sender: u8, staging: &mut [
 fn line_step(s: State, line: &[u8], register: &[u8], sender: u8, staging: &mut [u8]) -> State {
     match if line.len() < 2 || line[0] != b'\\' { 0 } else { line[1] } {
         b'T' => State { place: same_bytes(&line[2..2 + find(&line[2..], b'|')], b"DATEDPASSTIME") as u8, ..s },
-        b'L' if s.place == 1 => match read_labels(&line[2..]) {
+        b'L' if s.place == 1 => match read_labels(s.shape.form, &line[2..]) {
             Some(shape) => State { place: 2, shape, ..s },
             None => State { refused: [4, s.line as u64, 0], ..s },
         },
@@ -288,13 +298,17 @@ fn first_long(rest: &[u8], first: usize) -> Option<usize> {
     None
 }
 
-/// How many rows a message has, or the first three numbers of its refusal, 2 to 6 or 15.
-pub fn read_message(d: &[u8], register: &[u8], sender: u8, staging: &mut [u8]) -> Result<usize, [u64; 3]> {
+/// How many rows a message in this form has, or the first three numbers of its refusal, 2 to 6, 15 or 18.
+pub fn read_message(d: &[u8], register: &[u8], sender: u8, form: u32, staging: &mut [u8]) -> Result<usize, [u64; 3]> {
+    if 1 < form {
+        return Err([18, 0, 0]);
+    }
     if 65_536 < d.len() {
         return Err([2, 0, 0]);
     }
     syntax::check(d).map_err(|fault| [3, fault as u64, 0])?;
-    let (mut s, mut rest) = (State::default(), d);
+    let shape = Shape { form: form as usize, ..Shape::default() };
+    let (mut s, mut rest) = (State { shape, ..State::default() }, d);
     while !rest.is_empty() {
         let size = find_far(rest, b'\r');
         s.line += 1;

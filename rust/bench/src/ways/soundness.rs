@@ -60,7 +60,7 @@ fn update_in_range(s: &[u8]) -> bool {
     let (show, flexible, monitored) = (s[63], s[64], s[65]);
     is_stamp(number(s, 51, 4))
         & (s[55] <= 5)
-        & ((show <= 1) | (show == 255))
+        & ((show <= 2) | (show == 255))
         & ((1..=3).contains(&flexible) | (flexible == 255))
         & ((monitored <= 1) | (monitored == 255))
 }
@@ -73,7 +73,7 @@ fn row_in_range(s: &[u8]) -> bool {
     let (heard, stamp) = (s[66], number(s, 51, 4));
     ((heard == 0) & (stamp == 0) | (heard == 1) & is_stamp(stamp))
         & (s[55] <= 5)
-        & (s[63] <= 1)
+        & (s[63] <= 2)
         & (s[64] <= 3)
         & (s[65] <= 1)
 }

@@ -335,7 +335,7 @@ pub fn again(panel: &Panel) {
     let part = |bytes: &[u8]| Step::Part { bytes: bytes.to_vec(), register: ours(), staging: 132 };
     let numbers = |steps: Vec<Step>| {
         let mut day = day(panel);
-        let outcome = day.feed(Feeding { sender: 7, staging: vec![0xcc; 200], fill: 0, steps });
+        let outcome = day.feed(Feeding { sender: 7, form: 0, staging: vec![0xcc; 200], fill: 0, steps });
         (outcome.steps.iter().map(|seen| seen.answer[0]).collect::<Vec<_>>(), day.state.used, day.state.rows)
     };
     let whole_part = || part(&whole);

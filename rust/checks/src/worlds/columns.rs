@@ -11,6 +11,10 @@ pub enum Kind {
     Status,
     StopType,
     Flexible,
+    /// true or false, in the 8.5 form.
+    Truth,
+    /// true, false or message, in the 8.5 form.
+    Shown,
 }
 
 /// A wanted column: its name, its type, and whether it may be missing.
@@ -28,16 +32,44 @@ const fn optional(name: &'static str, kind: Kind) -> Wanted {
     Wanted { name, kind, optional: true }
 }
 
-/// A wanted table: its name, its columns, and the whole layout that 000 gives.
+/// A wanted table: its name, its columns, the whole layout that 000 gives, and what is wanted in another form and not in this one.
 pub struct Form {
     pub name: &'static str,
     pub wanted: &'static [Wanted],
     pub full: &'static [&'static str],
+    pub others: &'static [&'static str],
 }
 
+/// What stands at a table's label for show cancelled, by form.
+pub const SHOW_CANCELLED: [&str; 2] = ["ShowCancelledTrip", "ShowCancelledJourney"];
+
+/// What a message is read as in this form; one that is not known as the old one.
+pub fn message(form: u32) -> &'static Form {
+    if form == 1 {
+        &NEW_MESSAGE
+    } else {
+        &MESSAGE
+    }
+}
+
+/// The old form of a message.
 pub static MESSAGE: Form = Form {
     name: "DATEDPASSTIME",
-    wanted: &[
+    wanted: &message_wanted(SHOW_CANCELLED[0], Kind::Flag, Kind::Flag),
+    full: &message_full(SHOW_CANCELLED[0]),
+    others: &[SHOW_CANCELLED[1]],
+};
+
+/// That of turbo 8.5.
+pub static NEW_MESSAGE: Form = Form {
+    name: "DATEDPASSTIME",
+    wanted: &message_wanted(SHOW_CANCELLED[1], Kind::Shown, Kind::Truth),
+    full: &message_full(SHOW_CANCELLED[1]),
+    others: &[SHOW_CANCELLED[0]],
+};
+
+const fn message_wanted(show_cancelled: &'static str, shown: Kind, monitored: Kind) -> [Wanted; 16] {
+    [
         required("DataOwnerCode", Kind::Text),
         required("OperationDate", Kind::Date),
         required("LinePlanningNumber", Kind::Text),
@@ -51,11 +83,14 @@ pub static MESSAGE: Form = Form {
         required("ExpectedArrivalTime", Kind::Time),
         required("ExpectedDepartureTime", Kind::Time),
         required("JourneyStopType", Kind::StopType),
-        optional("ShowCancelledTrip", Kind::Flag),
+        optional(show_cancelled, shown),
         optional("ShowFlexibleTrip", Kind::Flexible),
-        optional("Monitored", Kind::Flag),
-    ],
-    full: &[
+        optional("Monitored", monitored),
+    ]
+}
+
+const fn message_full(show_cancelled: &'static str) -> [&'static str; 65] {
+    [
         "DataOwnerCode",
         "OperationDate",
         "LinePlanningNumber",
@@ -107,7 +142,7 @@ pub static MESSAGE: Form = Form {
         "VejoTripStatusType",
         "ExtraJourney",
         "CancelledJourney",
-        "ShowCancelledTrip",
+        show_cancelled,
         "ShowFlexibleTrip",
         "Monitored",
         "MonitoringError",
@@ -121,8 +156,8 @@ pub static MESSAGE: Form = Form {
         "LineDestIcon",
         "LineDestColor",
         "LineDestTextColor",
-    ],
-};
+    ]
+}
 
 pub static PLANNING: Form = Form {
     name: "LOCALSERVICEGROUPPASSTIME",
@@ -168,6 +203,7 @@ pub static PLANNING: Form = Form {
         "SequenceInBlock",
         "VehicleJourneyType",
     ],
+    others: &[],
 };
 
 pub static CALENDAR: Form = Form {
@@ -178,4 +214,5 @@ pub static CALENDAR: Form = Form {
         required("OperationDate", Kind::Date),
     ],
     full: &["DataOwnerCode", "LocalServiceLevelCode", "OperationDate"],
+    others: &[],
 };

@@ -1,7 +1,7 @@
 //! Dossiers as tables of raw fields, and their bytes.
 
 use super::columns::{Form, Kind, Wanted, CALENDAR, MESSAGE, PLANNING};
-use super::fields::{self, Field, FLEXIBLES, NOTHING, STATUSES, STOP_TYPES};
+use super::fields::{self, Field, FLEXIBLES, NOTHING, SHOWN, STATUSES, STOP_TYPES};
 use super::passage::{Passage, Text, KEPT};
 use super::random::Random;
 
@@ -95,13 +95,17 @@ const UNWANTED_NAMES: [&str; 12] = [
 /// More columns than these are many.
 const MANY: usize = 150;
 
-const UNWANTED_FIELDS: [&str; 12] =
-    ["", r"\0", "1", "UNKNOWN", "ALGEMEEN", "24:13:00", r"a\pb\i", r"\r\n", "-", "ü", "ffffff", "NONE"];
+const UNWANTED_FIELDS: [&str; 15] = [
+    "", r"\0", "1", "0", "true", "message", "UNKNOWN", "ALGEMEEN", "24:13:00", r"a\pb\i", r"\r\n", "-", "ü", "ffffff",
+    "NONE",
+];
 
 /// The columns of a wanted table in some layout.
 pub fn columns(form: &Form, layout: Layout, random: &mut Random) -> Vec<Column> {
     if layout == Layout::Full {
-        return form.full.iter().map(|name| named(form, name)).collect();
+        let mut columns = form.full.iter().map(|name| named(form, name)).collect();
+        add_others(&mut columns, form, random);
+        return columns;
     }
     let all = layout == Layout::Wanted && random.one_in(2);
     let mut columns: Vec<Column> =
@@ -122,8 +126,19 @@ pub fn columns(form: &Form, layout: Layout, random: &mut Random) -> Vec<Column> 
             let name = random.pick(names).as_bytes().to_vec();
             columns.insert(random.below(columns.len() + 1), Column { name, kind: None });
         }
+        add_others(&mut columns, form, random);
     }
     columns
+}
+
+/// At times columns that only another form wants: here they are of no interest, and may recur.
+fn add_others(columns: &mut Vec<Column>, form: &Form, random: &mut Random) {
+    if !form.others.is_empty() && random.one_in(2) {
+        for _ in 0..*random.pick(&[1, 1, 2, 3]) {
+            let name = random.pick(form.others).as_bytes().to_vec();
+            columns.insert(random.below(columns.len() + 1), Column { name, kind: None });
+        }
+    }
 }
 
 fn wanted_column(wanted: &Wanted) -> Column {
@@ -158,10 +173,10 @@ pub fn title(name: &str, random: &mut Random) -> Field {
 }
 
 fn field(column: &Column, line: &Line, short: bool, random: &mut Random) -> Field {
-    if column.kind.is_none() {
+    let Some(kind) = column.kind else {
         let fields: &[&str] = if short { &["", "", "1"] } else { &UNWANTED_FIELDS };
         return random.pick(fields).as_bytes().to_vec();
-    }
+    };
     let passage = line.passage;
     let key = &passage.key;
     match column.name.as_slice() {
@@ -179,17 +194,17 @@ fn field(column: &Column, line: &Line, short: bool, random: &mut Random) -> Fiel
         b"ExpectedArrivalTime" | b"TargetArrivalTime" => fields::time(passage.arrival),
         b"ExpectedDepartureTime" | b"TargetDepartureTime" => fields::time(passage.departure),
         b"JourneyStopType" => fields::word(&STOP_TYPES, passage.stop_type),
-        b"ShowCancelledTrip" => flag(passage.show_cancelled),
-        b"Monitored" => flag(passage.monitored),
+        b"ShowCancelledTrip" | b"ShowCancelledJourney" => flag(kind, passage.show_cancelled),
+        b"Monitored" => flag(kind, passage.monitored),
         _ => flexible(passage.flexible),
     }
 }
 
-fn flag(content: u8) -> Field {
-    if content == KEPT {
-        NOTHING.to_vec()
-    } else {
-        vec![b'0' + content]
+fn flag(kind: Kind, content: u8) -> Field {
+    match kind {
+        _ if content == KEPT => NOTHING.to_vec(),
+        Kind::Flag => vec![b'0' + content],
+        _ => fields::word(&SHOWN, content),
     }
 }
 

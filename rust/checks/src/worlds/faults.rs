@@ -1,7 +1,7 @@
 //! Faults in a dossier's structure and fields: what refusals 4 and 5 are about, and changes that
 //! look like faults and are none.
 
-use super::columns::Form;
+use super::columns::{Form, SHOW_CANCELLED};
 use super::dossier::{Column, Dossier, Table};
 use super::fields::{at_edge, NOTHING};
 use super::random::Random;
@@ -13,7 +13,7 @@ pub fn spoil(dossier: &mut Dossier, form: &Form, random: &mut Random) {
     }
     let which = random.below(dossier.tables.len());
     let table = &mut dossier.tables[which];
-    match random.below(16) {
+    match random.below(17) {
         0 => name_twice(table, form, random),
         1 => drop_column(table, random),
         2 => rename_column(table, random),
@@ -23,6 +23,7 @@ pub fn spoil(dossier: &mut Dossier, form: &Form, random: &mut Random) {
         6 => put_nothing(table, random),
         7 => repeat_line(table, random),
         8 | 9 => alter_field(table, random),
+        10 => exchange_names(table),
         _ => field_at_edge(table, random),
     }
 }
@@ -67,6 +68,15 @@ fn rename_column(table: &mut Table, random: &mut Random) {
         1 => name.push(b' '),
         2 => drop(name.pop()),
         _ => *name = b"VehicleJourneyNumber".to_vec(),
+    }
+}
+
+/// Each form's own name becomes the other's: what was wanted is not, and the other way round.
+fn exchange_names(table: &mut Table) {
+    for column in &mut table.columns {
+        if let Some(place) = SHOW_CANCELLED.iter().position(|name| name.as_bytes() == column.name) {
+            column.name = SHOW_CANCELLED[1 - place].as_bytes().to_vec();
+        }
     }
 }
 

@@ -16,6 +16,7 @@ const MOST_PARTS: usize = 40;
 pub struct Told {
     pub dossier: Vec<u8>,
     pub sender: u8,
+    pub form: u32,
     pub register: Vec<u8>,
     pub rows: usize,
 }
@@ -47,7 +48,7 @@ pub fn feeding(told: Told, world: &World, random: &mut Random) -> Feeding {
         _ => 0,
     });
     let staging = random.bytes(lent.max().unwrap_or(0));
-    Feeding { sender: told.sender, staging, fill: *random.pick(&[0, 0xa5, 0xff]), steps }
+    Feeding { sender: told.sender, form: told.form, staging, fill: *random.pick(&[0, 0xa5, 0xff]), steps }
 }
 
 /// The dossier in parts, mostly few, some of them empty.

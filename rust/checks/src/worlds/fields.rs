@@ -11,6 +11,8 @@ pub const NOTHING: &[u8] = br"\0";
 pub const STATUSES: [&str; 6] = ["PLANNED", "CANCEL", "UNKNOWN", "DRIVING", "ARRIVED", "PASSED"];
 pub const STOP_TYPES: [&str; 3] = ["FIRST", "INTERMEDIATE", "LAST"];
 pub const FLEXIBLES: [&str; 3] = ["TRUE", "FALSE", "REALTIME"];
+/// In the 8.5 form: what is said of cancelled journeys; the first two are the words of yes/no fields.
+pub const SHOWN: [&str; 3] = ["false", "true", "message"];
 
 /// The seconds at which a written date begins to be one of 2000, and ends to be one of 2099.
 const LOCAL_SECONDS: std::ops::RangeInclusive<i64> = 946_684_800..=4_102_444_799;
@@ -79,13 +81,14 @@ pub fn at_edge(kind: Kind, random: &mut Random) -> Field {
     match kind {
         Kind::Text => text_at_edge(random),
         Kind::Number(digits) => number_at_edge(digits, random),
-        Kind::Flag => one_of(&["0", "1", "2", "00", "true", "1 ", "/", ""], random),
+        Kind::Flag => one_of(&["0", "1", "2", "00", "true", "false", "message", "TRUE", "1 ", "/", ""], random),
         Kind::Date => one_of(DATE_EDGES, random),
         Kind::Time => one_of(TIME_EDGES, random),
         Kind::Stamp => stamp_at_edge(random),
         Kind::Status => one_of(STATUS_EDGES, random),
         Kind::StopType => one_of(STOP_TYPE_EDGES, random),
         Kind::Flexible => one_of(FLEXIBLE_EDGES, random),
+        Kind::Truth | Kind::Shown => one_of(SHOWN_EDGES, random),
     }
 }
 
@@ -180,6 +183,11 @@ const STOP_TYPE_EDGES: &[&str] =
 
 const FLEXIBLE_EDGES: &[&str] =
     &["TRUE", "FALSE", "REALTIME", "true", "realtime", "REALTIM", "REALTIMES", "TRUE ", "1", "0", ""];
+
+const SHOWN_EDGES: &[&str] = &[
+    "true", "false", "message", "TRUE", "False", "MESSAGE", "Message", "tru", "truee", "fals", "messag", "messages",
+    " true", "false ", "0", "1", "2", "REALTIME", "",
+];
 
 fn text_at_edge(random: &mut Random) -> Field {
     let special = *random.pick(&[0x1f_u8, 0x20, 0x7e, 0x7f, 0x80, 0xff, b'\\', b'|', b'\r', b'\n']);

@@ -1,11 +1,11 @@
 //! Passages as plain values, and their bytes in book and table.
 
 pub use layout::{
-    ARRIVAL_AT, BODY_WIDE, BOOK, DATE_AT, DEPARTURE_AT, DESTINATION_AT, DOSSIER, FIELDS, FIRST, FLEXIBLE_AT,
-    FORTIFY_AT, JOURNEY_AT, KEPT, KEY_WIDE, KIND_AT, KIND_PLAN, KIND_STANDING, KIND_WITHDRAWN, LAST, LINE, LINE_AT,
-    MONITORED_AT, NO_TIME, NUMBER_AT, ORDER_AT, OWNER_AT, PAIR, PASSED, PLAN_BODY_AT, PLAN_WIDE, REGISTER, ROW, ROWS,
-    SENDER_AT, SHOW_CANCELLED_AT, STAGING, STATUS_AT, STOP_AT, STOP_TYPE_AT, TEXT_WIDE, TIMESTAMP_AT, TIME_WIDE,
-    UPDATE_BODY_AT, UPDATE_WIDE,
+    ARRIVAL_AT, BODY_WIDE, BOOK, CANCELLED_MESSAGE, DATE_AT, DEPARTURE_AT, DESTINATION_AT, DOSSIER, FIELDS, FIRST,
+    FLEXIBLE_AT, FORTIFY_AT, JOURNEY_AT, KEPT, KEY_WIDE, KIND_AT, KIND_PLAN, KIND_STANDING, KIND_WITHDRAWN, LAST, LINE,
+    LINE_AT, MONITORED_AT, NO_TIME, NUMBER_AT, ORDER_AT, OWNER_AT, PAIR, PASSED, PLAN_BODY_AT, PLAN_WIDE, REGISTER,
+    ROW, ROWS, SENDER_AT, SHOW_CANCELLED_AT, STAGING, STATUS_AT, STOP_AT, STOP_TYPE_AT, TEXT_WIDE, TIMESTAMP_AT,
+    TIME_WIDE, UPDATE_BODY_AT, UPDATE_WIDE,
 };
 
 /// A kept text, padded with zero bytes.
@@ -69,6 +69,13 @@ impl Passage {
         (self.stop_type, self.arrival) = (FIRST, NO_TIME);
         if self.departure == NO_TIME {
             self.departure = 36_000;
+        }
+    }
+
+    /// The old form has no word for `message`.
+    pub fn in_old_form(&mut self) {
+        if self.show_cancelled == CANCELLED_MESSAGE {
+            self.show_cancelled = 0;
         }
     }
 

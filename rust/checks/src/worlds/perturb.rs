@@ -39,7 +39,7 @@ static EDGES: [&[u32]; 17] = [
     TIME_EDGES,
     TIME_EDGES,
     &[0, 1, 2, 3, 255],
-    &[0, 1, 2, 254, 255],
+    &[0, 1, 2, 2, 3, 254, 255],
     &[0, 1, 2, 3, 4, 254, 255],
     &[0, 1, 2, 254, 255],
     // Behind a table row's body only: heard.

@@ -2,7 +2,7 @@
 //! given the counts that the last one returned.
 
 use super::calendar::{day_of_number, DAY_SECONDS};
-use super::columns::{Form, CALENDAR, MESSAGE, PLANNING};
+use super::columns::{self, Form, CALENDAR, PLANNING};
 use super::damage::{damage, grow, lengthen};
 use super::dossier::{dossier, Line};
 use super::faults::{spoil, spoil_field};
@@ -115,9 +115,9 @@ impl Run {
     // Message
 
     fn message(&mut self) -> Job {
-        let Told { dossier, sender, register, .. } = self.told();
+        let Told { dossier, sender, form, register, .. } = self.told();
         let lent = self.state.clone();
-        self.job(Call::Message { dossier, sender, register }, lent, true)
+        self.job(Call::Message { dossier, sender, form, register }, lent, true)
     }
 
     /// A message in parts.
@@ -130,8 +130,12 @@ impl Run {
 
     /// What a message is to say, from whom.
     fn told(&mut self) -> Told {
-        let passages = self.updates();
+        let mut passages = self.updates();
         let random = &mut self.random;
+        let (form, written) = forms(random);
+        if written == 0 {
+            passages.iter_mut().for_each(Passage::in_old_form);
+        }
         let level = padded(b"L");
         let lines: Vec<Line> = passages.iter().map(|passage| Line { passage, level: &level }).collect();
         let sender = match random.below(40) {
@@ -139,8 +143,8 @@ impl Run {
             1 => random.byte(),
             _ => *random.pick(&self.world.senders),
         };
-        let dossier = finish(&MESSAGE, &lines, 32, random);
-        Told { dossier, sender, register: register(&self.world, sender, random), rows: lines.len() }
+        let dossier = finish(columns::message(written), &lines, 32, random);
+        Told { dossier, sender, form, register: register(&self.world, sender, random), rows: lines.len() }
     }
 
     /// The rows of a message: of passages held, of ones already in this message, and of new ones.
@@ -308,6 +312,18 @@ fn forged_day(world: &World, large: bool, random: &mut Random) -> State {
         state.relend_table(state.table.len() + random.below(4_000), random);
     }
     state
+}
+
+/// The form that a message states, and the one that it is written in: mostly the same. Among those that are not known are such as are 0 or 1
+/// in their lowest bytes.
+fn forms(random: &mut Random) -> (u32, u32) {
+    const UNKNOWN: [u32; 10] = [2, 2, 3, 255, 256, 257, 65_536, 1 << 24 | 1, 1 << 31, u32::MAX];
+    let written = random.below(2) as u32;
+    match random.below(24) {
+        0 => (*random.pick(&UNKNOWN), written),
+        1 => (1 - written, written),
+        _ => (written, written),
+    }
 }
 
 /// Any number may stand as a count where it is only given back.

@@ -116,7 +116,7 @@ impl World {
             arrival: self.time(stop_type == FIRST, random),
             departure: self.time(stop_type == LAST, random),
             stop_type,
-            show_cancelled: if plan { 1 } else { optional(role, &[0, 1], random) },
+            show_cancelled: if plan { 1 } else { optional(role, &[0, 1, 1, 2], random) },
             flexible: optional(role, flexibles, random),
             monitored: if plan { 0 } else { optional(role, &[0, 1], random) },
         }

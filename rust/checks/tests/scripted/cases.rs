@@ -209,7 +209,7 @@ fn plain_fault(bytes: &[u8]) -> Option<usize> {
 }
 
 fn fault<S: Side>(bytes: &[u8]) -> Option<u64> {
-    let a = S::message(bytes, 1, &[], &mut [], &mut [], 0, 0);
+    let a = S::message(bytes, 1, 0, &[], &mut [], &mut [], 0, 0);
     (a[0] == 3).then_some(a[1])
 }
 

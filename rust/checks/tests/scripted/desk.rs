@@ -97,9 +97,14 @@ impl<S: Side> Desk<S> {
         self.done(before, a)
     }
 
+    /// A message in the old form.
     pub fn message(&mut self, dossier: &[u8], sender: u8, register: &[u8]) -> [u64; 6] {
+        self.message_in(0, dossier, sender, register)
+    }
+
+    pub fn message_in(&mut self, form: u32, dossier: &[u8], sender: u8, register: &[u8]) -> [u64; 6] {
         let before = self.clone();
-        let a = S::message(dossier, sender, register, &mut self.book, &mut self.table, self.used, self.rows);
+        let a = S::message(dossier, sender, form, register, &mut self.book, &mut self.table, self.used, self.rows);
         self.done(before, a)
     }
 
@@ -148,15 +153,23 @@ pub struct Feed<S> {
 }
 
 impl<S: Side> Feed<S> {
-    /// A feed that has begun, with so many bytes to stage rows in.
+    /// A feed in the old form that has begun, with so many bytes to stage rows in.
     pub fn begun(sender: u8, staging: usize) -> Feed<S> {
+        Feed::begun_in(0, sender, staging)
+    }
+
+    pub fn begun_in(form: u32, sender: u8, staging: usize) -> Feed<S> {
         let mut feed = Feed { numbers: [9; 48], line: [9; 4_096], staging: vec![0xCC; staging], side: PhantomData };
-        feed.begin(sender);
+        feed.begin_in(form, sender);
         feed
     }
 
     pub fn begin(&mut self, sender: u8) {
-        assert_eq!(S::feed_begin(sender, &mut self.numbers), 0);
+        self.begin_in(0, sender);
+    }
+
+    pub fn begin_in(&mut self, form: u32, sender: u8) {
+        assert_eq!(S::feed_begin(sender, form, &mut self.numbers), 0);
     }
 
     /// A part; a refused one changes nothing.

@@ -44,7 +44,7 @@ fn counts_out_of_range<S: Side>() {
         (67, u64::MAX / 67 + 1),
     ] {
         let (mut b, mut t) = (desk.book.clone(), desk.table.clone());
-        assert_eq!(S::message(b"\\G\r\n", 7, &cxx(), &mut b, &mut t, used, rows), [1, 0, 0, 0, used, rows]);
+        assert_eq!(S::message(b"\\G\r\n", 7, 0, &cxx(), &mut b, &mut t, used, rows), [1, 0, 0, 0, used, rows]);
         assert_eq!(S::withdraw(1, 0, &mut b, &mut t, used, rows), [1, 0, 0, 0, used, rows]);
         if rows > 1 {
             assert_eq!(S::board(b"CXX", b"S1", 20160301, 0, 0, &t, rows, &mut []), [1, 0, 0]);
