@@ -10,6 +10,7 @@ use crate::worlds::calendar::{day_of_number, number_of_day};
 mod boards;
 mod dossiers;
 mod feeds;
+mod forms;
 mod least;
 mod updates;
 
@@ -31,13 +32,15 @@ impl Coverage {
             Call::Open { planning, calendar } => {
                 self.opened(job, outcome);
                 match outcome.answer[3] {
-                    1 => self.dossier(planning, outcome, "planning"),
-                    2 => self.dossier(calendar, outcome, "calendar"),
+                    1 => self.dossier(planning, outcome, "planning", 0),
+                    2 => self.dossier(calendar, outcome, "calendar", 0),
                     _ => {}
                 }
             }
-            Call::Message { dossier, sender, register, .. } => {
-                self.dossier(dossier, outcome, "message");
+            Call::Message { dossier, sender, form, register } => {
+                let which = if *form == 1 { "8.5 message" } else { "message" };
+                self.dossier(dossier, outcome, which, *form);
+                self.stated("message", *form, dossier, [outcome.answer[0], outcome.answer[1]]);
                 self.sent(job, outcome, *sender, register);
             }
             Call::Feed(feeding) => {

@@ -1,5 +1,6 @@
 //! Dossiers line by line, each line its fields by the names of their columns.
 
+use crate::worlds::columns::SHOW_CANCELLED;
 use crate::worlds::damage::unwanted_table;
 use crate::worlds::passage::padded;
 
@@ -12,8 +13,13 @@ impl Line {
         Line(fields.iter().map(|(name, field)| (*name, field.as_bytes().to_vec())).collect())
     }
 
-    /// A line of a message, with every wanted column.
+    /// A line of a message in the old form, with every wanted column.
     pub fn update() -> Line {
+        Line::update_in(0)
+    }
+
+    /// The same in this form.
+    pub fn update_in(form: u32) -> Line {
         Line::of(&[
             ("DataOwnerCode", "CXX"),
             ("OperationDate", "2016-03-01"),
@@ -28,7 +34,7 @@ impl Line {
             ("ExpectedArrivalTime", "10:00:00"),
             ("ExpectedDepartureTime", "10:00:30"),
             ("JourneyStopType", "INTERMEDIATE"),
-            ("ShowCancelledTrip", "\\0"),
+            (SHOW_CANCELLED[form as usize], "\\0"),
             ("ShowFlexibleTrip", "\\0"),
             ("Monitored", "\\0"),
         ])
@@ -75,7 +81,8 @@ impl Line {
 
     /// The line with the shortest fields that its types allow, so that a dossier holds the most.
     pub fn short(self) -> Line {
-        let bare = self.without("ShowCancelledTrip").without("ShowFlexibleTrip").without("Monitored");
+        let bare = SHOW_CANCELLED.iter().fold(self, |line, name| line.without(name));
+        let bare = bare.without("ShowFlexibleTrip").without("Monitored");
         let fields = bare.0.into_iter().map(|(name, field)| match name {
             "DataOwnerCode" | "LinePlanningNumber" | "UserStopCode" | "DestinationCode" => {
                 (name, name.as_bytes()[..1].to_vec())

@@ -17,7 +17,7 @@ use self::days as properties;
 
 listed! {
     properties: withdrawal_restores, columns_in_any_order, lines_in_any_order, places_are_a_prefix, replay_of_standing_rows,
-        entries_as_meant;
+        entries_as_meant, forms_alike;
 }
 
 /// A message that was accepted.
@@ -339,6 +339,44 @@ pub mod days {
             let used = told.day.state.used as usize;
             assert_eq!(told.day.state.book[..used], book);
             assert!(told.day.state.book[used..].iter().all(|&byte| byte == 0xaa), "unused bytes stay");
+        }
+    }
+
+    /// 3.1: the same rows in either form, each in its words, leave the same day; and a dossier without the columns that differ, in both.
+    pub fn forms_alike(panel: &Panel) {
+        for number in 0..DAYS {
+            let mut told = Told::new(panel, 17, number);
+            let passages = told.passages(0);
+            let lines: Vec<Line> = passages.iter().map(|passage| Line { passage, level: &passage.key.line }).collect();
+            let register = told.register(9);
+            let differ = |column: &Column| {
+                columns::SHOW_CANCELLED.iter().any(|name| column.name == name.as_bytes()) || column.name == b"Monitored"
+            };
+            let taken = |form: u32, table: Table| {
+                let mut day = told.day.clone();
+                let dossier = Dossier { group: Vec::new(), tables: vec![table] }.bytes();
+                assert_eq!(day.message_in(form, dossier, 9, &register)[..2], [0, 1]);
+                day.state
+            };
+            let [old, new] = [0, 1].map(|form| {
+                // Of all columns, both tables have the same, or by one draw neither.
+                let mut drawn = Random::new(18, number);
+                table(columns::message(form), Layout::Wanted, &lines, &mut drawn)
+            });
+            let bare = |table: &Table| {
+                let kept: Vec<usize> = (0..table.columns.len()).filter(|&at| !differ(&table.columns[at])).collect();
+                Table {
+                    title: table.title.clone(),
+                    columns: kept
+                        .iter()
+                        .map(|&at| Column { name: table.columns[at].name.clone(), kind: None })
+                        .collect(),
+                    rows: table.rows.iter().map(|row| kept.iter().map(|&at| row[at].clone()).collect()).collect(),
+                }
+            };
+            let bares = [(0, bare(&old)), (1, bare(&old)), (0, bare(&new))].map(|(form, table)| taken(form, table));
+            assert!(bares[0] == bares[1] && bares[1] == bares[2]);
+            assert!(taken(0, old) == taken(1, new));
         }
     }
 

@@ -19,6 +19,11 @@ fn fields() {
 }
 
 #[test]
+fn forms() {
+    run_part(CHECKS, "forms::");
+}
+
+#[test]
 fn refusals() {
     run_part(CHECKS, "refusals::");
 }

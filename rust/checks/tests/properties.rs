@@ -32,3 +32,8 @@ fn replay_of_standing_rows() {
 fn entries_as_meant() {
     run_part(CHECKS, "properties::entries_as_meant");
 }
+
+#[test]
+fn forms_alike() {
+    run_part(CHECKS, "properties::forms_alike");
+}

@@ -36,9 +36,9 @@ fn show_rule_of(panel: &Panel, fortify: u8, heard: u8) {
     let mut expected = Vec::new();
     for status in 0..6_u8 {
         for stop_type in 0..3_u8 {
-            for flags in 0..16_u8 {
-                let (cancelled, monitored, flexible) = (flags & 1, flags >> 1 & 1, flags >> 2);
-                for departure in [35_999, 36_000, 36_300, 36_600, 36_601] {
+            for flags in 0..24_u8 {
+                let (cancelled, monitored, flexible) = (flags % 3, flags / 3 % 2, flags / 6);
+                for departure in [35_999, 36_000, 36_600, 36_601] {
                     let mut made = row(rows.len() as u32, 20_160_301, departure);
                     (made[28], made[66]) = (fortify, heard);
                     made[51..55].copy_from_slice(&(u32::from(heard) * 1_456_841_730).to_be_bytes());

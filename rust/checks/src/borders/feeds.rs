@@ -6,6 +6,7 @@ use crate::panel::{Day, Panel};
 use crate::worlds::damage::unwanted_table;
 use crate::worlds::passage::*;
 
+use super::forms::UNKNOWN;
 use super::refusals::FORMS;
 use super::sizes::update_body;
 use super::sound::is_sound;
@@ -69,10 +70,12 @@ pub fn cuts(panel: &Panel) {
     }
 }
 
-/// The end with every set of its causes: a register of another length, a staged row out of range, 2, 3, 15, 4, 5, 6 with its line, 6 with
+/// The end with every set of its causes: a register of another length, a staged row out of range, 18, 2, 3, 15, 4, 5, 6 with its line, 6 with
 /// line 0, 14, 7 and 8. The first in order is answered.
 pub fn end_causes(panel: &Panel) {
-    for set in 0..4_096_u32 {
+    for all in 0..8_192_u32 {
+        // The lowest two are those of 1, the third is the form.
+        let (set, unknown) = (all >> 3 << 2 | all & 3, all >> 2 & 1 == 1);
         let has = |cause: u32| set >> cause & 1 == 1;
         let mut lines = vec![Line::update(), Line::update()];
         if has(7) {
@@ -116,9 +119,11 @@ pub fn end_causes(panel: &Panel) {
             feeding.steps.insert(place, Step::Tamper { at: STATUS_AT, bytes: vec![6] });
         }
         let mut day = Day::new(panel, if has(10) { 143 } else { 144 }, if has(11) { 66 } else { 67 });
-        let outcome = day.feed(feeding);
+        let stated = if unknown { UNKNOWN[all as usize % UNKNOWN.len()] } else { 0 };
+        let outcome = day.feed(feeding.in_form(stated));
         let expected = match set.trailing_zeros() {
             0 | 1 => [1, 0, 0],
+            _ if unknown => [18, 0, 0],
             2 => [2, 0, 0],
             3 => [3, dossier.len() as u64 - 1, 0],
             4 => [15, next, 0],
@@ -131,14 +136,14 @@ pub fn end_causes(panel: &Panel) {
             11 => [8, 0, 0],
             _ => [0, 1, 0],
         };
-        assert_eq!(outcome.answer[..3], expected, "causes {set:012b}");
+        assert_eq!(outcome.answer[..3], expected, "causes {all:013b}");
         let mut staged = [update_body(), update_body()].concat();
         staged.truncate(if has(9) { 66 } else { 132 });
         if has(1) {
             staged[STATUS_AT] = 6;
         }
         staged.resize(room, 0xcc);
-        assert_eq!(outcome.staging, staged, "the rows before the first line at fault, causes {set:012b}");
+        assert_eq!(outcome.staging, staged, "the rows before the first line at fault, causes {all:013b}");
     }
 }
 

@@ -5,6 +5,7 @@ use crate::panel::{Day, Panel};
 use crate::worlds::passage::*;
 use crate::worlds::state::State;
 
+use super::forms::UNKNOWN;
 use super::sizes::{plan_body, update_body};
 
 /// The causes in a set, as the bits of its number.
@@ -41,31 +42,34 @@ fn long_line(set: u32) -> u64 {
     7 + u64::from(has(set, 3)) + u64::from(has(set, 4))
 }
 
-/// A message with every set of the causes of 1 to 8 and 15: the first in order is answered.
+/// A message in either form with every set of the causes of 1 to 8, 15 and 18: the first in order is answered.
 pub fn message_causes(panel: &Panel) {
-    for set in 0..512_u32 {
-        let dossier = spoiled(message, Line::update(), "Monitored", set >> 1 & 31);
-        let mut register = pair(if has(set, 6) { 8 } else { 7 }, b"CXX");
+    for set in 0..2_048_u32 {
+        let known = u32::from(has(set, 10));
+        let dossier = spoiled(message, Line::update_in(known), "Monitored", set >> 2 & 31);
+        let mut register = pair(if has(set, 7) { 8 } else { 7 }, b"CXX");
         if has(set, 0) {
             register.push(0);
         }
-        let mut day = Day::new(panel, if has(set, 7) { 71 } else { 144 }, if has(set, 8) { 66 } else { 67 });
-        let answer = day.message(dossier.clone(), 7, &register);
+        let mut day = Day::new(panel, if has(set, 8) { 71 } else { 144 }, if has(set, 9) { 66 } else { 67 });
+        let stated = if has(set, 1) { UNKNOWN[set as usize % UNKNOWN.len()] } else { known };
+        let answer = day.message_in(stated, dossier.clone(), 7, &register);
         let syntax = dossier.len() as u64 - 1;
-        let form = if has(set, 5) { 6 } else { 5 };
+        let form = if has(set, 6) { 6 } else { 5 };
         let expected = match set.trailing_zeros() {
             0 => [1, 0, 0],
-            1 => [2, 0, 0],
-            2 => [3, syntax, 0],
-            3 => [15, long_line(set >> 1), 0],
-            4 => [4, form, 0],
-            5 => [5, 5, 16],
-            6 => [6, 4, 0],
-            7 => [7, 0, 0],
-            8 => [8, 0, 0],
+            1 => [18, 0, 0],
+            2 => [2, 0, 0],
+            3 => [3, syntax, 0],
+            4 => [15, long_line(set >> 2), 0],
+            5 => [4, form, 0],
+            6 => [5, 5, 16],
+            7 => [6, 4, 0],
+            8 => [7, 0, 0],
+            9 => [8, 0, 0],
             _ => [0, 1, 0],
         };
-        assert_eq!(answer[..3], expected, "causes {set:09b}");
+        assert_eq!(answer[..3], expected, "causes {set:011b}");
     }
 }
 

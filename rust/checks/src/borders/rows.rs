@@ -2,6 +2,7 @@
 
 use crate::lines::*;
 use crate::panel::{Day, Panel, Question};
+use crate::worlds::columns::SHOW_CANCELLED;
 use crate::worlds::fields::STATUSES;
 use crate::worlds::passage::*;
 use crate::worlds::state::State;
@@ -52,21 +53,28 @@ pub fn status(panel: &Panel) {
 
 /// 6.1: each optional of 255 leaves what is held, each other content is taken; all other fields are the update's whatever the status.
 pub fn optionals(panel: &Panel) {
-    let column = ["ShowCancelledTrip", "ShowFlexibleTrip", "Monitored"];
-    let words: [&[&str]; 3] = [&["\\0", "0", "1"], &["\\0", "TRUE", "FALSE", "REALTIME"], &["\\0", "0", "1"]];
+    let flexible: &[&str] = &["\\0", "TRUE", "FALSE", "REALTIME"];
+    optionals_of(panel, 0, [&["\\0", "0", "1"], flexible, &["\\0", "0", "1"]]);
+    optionals_of(panel, 1, [&["\\0", "false", "true", "message"], flexible, &["\\0", "false", "true"]]);
+}
+
+/// In this form, the words of each optional column, after no content.
+fn optionals_of(panel: &Panel, form: u32, words: [&[&str]; 3]) {
+    let column = [SHOW_CANCELLED[form as usize], "ShowFlexibleTrip", "Monitored"];
     for place in 0..3 {
-        for held in 0..if place == 1 { 4 } else { 2 } {
+        for held in 0..[3, 4, 2][place] {
             for (index, word) in words[place].iter().enumerate() {
                 let mut row = [&update_body()[..63], &[1, 0, 0, 1]].concat();
                 row[63 + place] = held;
                 let mut day = Day::of(panel, State { book: vec![0; 72], table: row.clone(), used: 0, rows: 1 });
-                let line = of_status(0)
+                let line = Line::update_in(form)
+                    .with("TripStopStatus", "PLANNED")
                     .with(column[place], word)
                     .with("DestinationCode", "Z")
                     .with("ExpectedArrivalTime", "\\0");
                 let line = line.with("JourneyStopType", "FIRST").with("ExpectedDepartureTime", "31:59:59");
                 let line = line.with("LastUpdateTimeStamp", "2000-01-01T00:00:00+14:00");
-                assert_eq!(day.message(message(&[line]), 7, &ours())[0], 0);
+                assert_eq!(day.message_in(form, message(&[line]), 7, &ours())[0], 0);
                 let said = if place == 1 { index as u8 } else { (index as u8).wrapping_sub(1) };
                 row[63 + place] = if index == 0 { held } else { said };
                 row[41..51].copy_from_slice(&padded(b"Z"));

@@ -160,9 +160,10 @@ pub fn codes(panel: &Panel) {
         let update = matches!(kind, Kind::Standing | Kind::Withdrawn);
         let plan = kind == Kind::Plan;
         let flags: &[u32] = if update { &[0, 1, 255] } else { &[0, 1] };
+        let shown: &[u32] = if update { &[0, 1, 2, 255] } else { &[0, 1, 2] };
         assert_eq!(sound(kind, 55), if plan { vec![0] } else { (0..=5).collect::<Vec<_>>() }, "{kind:?} status");
         assert_eq!(sound(kind, 62), [0, 1, 2], "{kind:?} stop type");
-        assert_eq!(sound(kind, 63), if plan { &[1] } else { flags }, "{kind:?} show cancelled");
+        assert_eq!(sound(kind, 63), if plan { &[1] } else { shown }, "{kind:?} show cancelled");
         assert_eq!(sound(kind, 64), if update { [1, 2, 3, 255] } else { [0, 1, 2, 3] }, "{kind:?} flexible");
         assert_eq!(sound(kind, 65), if plan { &[0] } else { flags }, "{kind:?} monitored");
         assert_eq!(sound(kind, 28), (0..=99).collect::<Vec<_>>(), "{kind:?} fortify number");

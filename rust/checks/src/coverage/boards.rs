@@ -62,6 +62,7 @@ impl Coverage {
         );
         self.meet_where(moment >= day_of_number(20_991_231) * 86_400 + 86_400, "board: shown on 2100-01-01");
         self.meet_where(row[55] == 1, "board: shown CANCEL");
+        self.meet_where(row[63] == 2, "board: shown with message, not CANCEL");
         self.meet_where(row[64] == 1, "board: shown flexible TRUE");
         self.meet_where(row[64] == 3, "board: shown flexible REALTIME");
         self.meet_where(row[28] > 0, "board: shown relief journey");
@@ -72,6 +73,7 @@ impl Coverage {
         self.meet(format!("board: hidden by {} alone", CONDITIONS[condition]));
         self.meet_where(condition == 4 && moment == now - 1, "board: hidden a second before now");
         self.meet_where(condition == 5 && moment == end + 1, "board: hidden a second behind the horizon");
+        self.meet_where(condition == 6 && row[63] == 2, "board: hidden by message alone");
         self.meet_where(condition == 7 && row[64] == 2, "board: hidden by FALSE alone");
         self.meet_where(condition == 7 && row[64] == 3, "board: hidden by REALTIME alone");
         self.meet_where(condition == 8 && row[28] == 1, "board: hidden relief journey 1");

@@ -4,15 +4,16 @@ use super::Coverage;
 use crate::call::Outcome;
 
 impl Coverage {
-    /// A dossier and what was said of it; `which` is empty where open got through both.
-    pub(super) fn dossier(&mut self, dossier: &[u8], outcome: &Outcome, which: &str) {
-        self.meet_where(dossier.len() == 65_536 && outcome.answer[0] != 2, "a dossier of 65,536 bytes is read");
+    /// A dossier, which one of open or in which form, and what was said of it.
+    pub(super) fn dossier(&mut self, dossier: &[u8], outcome: &Outcome, which: &str, form: u32) {
+        let read = !matches!(outcome.answer[0], 1 | 2 | 18);
+        self.meet_where(dossier.len() == 65_536 && read, "a dossier of 65,536 bytes is read");
         self.meet_where(dossier.len() == 65_537, "a dossier of 65,537 bytes");
         match outcome.answer[0] {
             2 => self.meet(format!("2: {which}")),
             3 => self.syntax(dossier, outcome.answer[1] as usize, which),
             4 => self.form(dossier, outcome.answer[1] as usize, which),
-            5 => self.field(dossier, outcome.answer[1] as usize, outcome.answer[2] as usize, which),
+            5 => self.field(dossier, [outcome.answer[1] as usize, outcome.answer[2] as usize], which, form),
             15 => self.long(dossier, outcome.answer[1] as usize, which),
             _ => {}
         }
@@ -56,7 +57,7 @@ impl Coverage {
         self.meet(format!("4: {which}, {what}"));
     }
 
-    fn field(&mut self, dossier: &[u8], line: usize, column: usize, which: &str) {
+    fn field(&mut self, dossier: &[u8], [line, column]: [usize; 2], which: &str, form: u32) {
         let (label, data) = lines_at(dossier, line);
         let data = data.expect("a field at fault stands in a data line");
         let what = match data[column - 1] {
@@ -65,6 +66,7 @@ impl Coverage {
             _ => "outside its type",
         };
         let name = String::from_utf8_lossy(label[column - 1]).into_owned();
+        self.other_word(form, label[column - 1], data[column - 1]);
         self.meet(format!("5: {which}, {name}"));
         self.meet(format!("5: {which}, {what}"));
         self.meet_where(column > 255, "5: in a column beyond 255");

@@ -78,6 +78,7 @@ impl Coverage {
     }
 
     fn ended(&mut self, job: &Job, feeding: &Feeding, seen: &Seen, register: &[u8], staging: usize, course: &Course) {
+        self.stated("end", feeding.form, &course.dossier, [seen.answer[0], seen.answer[1]]);
         let rows_used = (seen.answer[4].saturating_sub(job.lent.used)) as usize / UPDATE_WIDE;
         let wrong_register = !register.len().is_multiple_of(11) || register.len() > 704;
         match seen.answer {
@@ -113,6 +114,7 @@ impl Coverage {
                 self.meet_where(shorter, "end: 14, the area was shorter before");
                 self.meet_where(staging % BODY_WIDE == BODY_WIDE - 1, "end: 14, a byte less than whole rows");
             }
+            [18, ..] => self.meet_where(course.staged, "18: end, rows staged"),
             [number, ..] => self.meet(format!("end: {number}")),
         }
         let bad = matches!(seen.answer[0], 2..=6 | 15);

@@ -1,6 +1,6 @@
 //! How often each thing has to be met in so many calls.
 
-use crate::worlds::columns::{Form, CALENDAR, MESSAGE, PLANNING};
+use crate::worlds::columns::{Form, CALENDAR, MESSAGE, NEW_MESSAGE, PLANNING};
 use crate::worlds::fields::STATUSES;
 
 /// Fewer calls than these say too little to be held to anything.
@@ -16,11 +16,23 @@ const NAMED: &[(&str, u64)] = &[
     ("1 by contents", 1_000),
     ("2: planning", 10),
     ("2: calendar", 6),
-    ("2: message", 20),
+    ("2: message", 8),
+    ("2: 8.5 message", 8),
     ("a dossier of 65,536 bytes is read", 12),
     ("a dossier of 65,537 bytes", 20),
     ("a line of 4,096 bytes is read", 20),
     ("15: a line of 4,097 bytes", 80),
+    ("18: message", 300),
+    ("18: message, the largest number", 30),
+    ("18: message, a number whose last byte is a form", 150),
+    ("18: message, a dossier at fault", 5),
+    ("18: end", 150),
+    ("18: end, the largest number", 10),
+    ("18: end, a number whose last byte is a form", 80),
+    ("18: end, a dossier at fault", 8),
+    ("18: end, rows staged", 60),
+    ("5: a word of the other form in the old form", 60),
+    ("5: a word of the other form in the 8.5 form", 60),
     ("6: the desk", 60),
     ("6: a sender", 500),
     ("6: behind the first line", 100),
@@ -62,6 +74,16 @@ const NAMED: &[(&str, u64)] = &[
     ("message: show cancelled says nothing", 1_000),
     ("message: flexible says nothing", 1_000),
     ("message: monitored says nothing", 1_000),
+    ("message: accepted with rows in the old form", 1_500),
+    ("message: accepted with rows in the 8.5 form", 1_500),
+    ("message: the other form's name, accepted", 700),
+    ("message: the other form's name twice, accepted", 300),
+    ("message: 1 in an unknown form", 20),
+    ("message: message is kept", 1_000),
+    ("message: message over true", 500),
+    ("message: another word over message", 250),
+    ("message: a held message stays", 350),
+    ("withdraw: a row with message stands", 250),
     ("withdraw: by the desk", 200),
     ("withdraw: by the sender", 1_000),
     ("withdraw: rows leave", 500),
@@ -88,6 +110,11 @@ const NAMED: &[(&str, u64)] = &[
     ("feed: numbers or line changed, not seen", 60),
     ("end: accepted with rows", 1_000),
     ("end: accepted with rows, of several parts", 800),
+    ("end: accepted with rows in the old form", 400),
+    ("end: accepted with rows in the 8.5 form", 400),
+    ("end: the other form's name, accepted", 200),
+    ("end: the other form's name twice, accepted", 90),
+    ("end: 1 in an unknown form", 25),
     ("end: accepted without rows", 150),
     ("end: accepted without rows, no room for one", 60),
     ("end: accepted, staged rows changed", 60),
@@ -137,6 +164,8 @@ const NAMED: &[(&str, u64)] = &[
     ("board: hidden by before now alone", 200),
     ("board: hidden by behind the horizon alone", 200),
     ("board: hidden by CANCEL alone", 100),
+    ("board: hidden by message alone", 60),
+    ("board: shown with message, not CANCEL", 300),
     ("board: hidden by flexible alone", 200),
     ("board: hidden by not being heard of alone", 200),
     ("board: hidden relief journey 1", 50),
@@ -166,7 +195,9 @@ pub(super) fn least(calls: u64) -> Vec<(String, u64)> {
     }
     let mut least: Vec<(String, u64)> = NAMED.iter().map(|(name, least)| (name.to_string(), *least)).collect();
     least.extend(cells());
-    for (which, form) in [("message", &MESSAGE), ("planning", &PLANNING), ("calendar", &CALENDAR)] {
+    let dossiers_read =
+        [("message", &MESSAGE), ("8.5 message", &NEW_MESSAGE), ("planning", &PLANNING), ("calendar", &CALENDAR)];
+    for (which, form) in dossiers_read {
         least.extend(dossiers(which, form));
     }
     let common = least.into_iter().map(|(name, least)| (name, least * calls / 100_000));

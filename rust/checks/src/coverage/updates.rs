@@ -84,6 +84,7 @@ impl Coverage {
         self.meet_where(job.lent.rows == 2_048, "message: onto 2,048 rows");
         self.meet_where(outcome.answer[5] == job.lent.rows, "message: of held passages alone");
         let mut held = statuses(&job.lent.table[..job.lent.rows as usize * 67]);
+        let mut shown = shows(&job.lent.table[..job.lent.rows as usize * 67]);
         for entry in &entries {
             let body = &entry[6..];
             if let Some(status) = held.get(&body[..41]) {
@@ -96,7 +97,19 @@ impl Coverage {
             }
             let status = moved(held.get(&body[..41]).copied().unwrap_or(0), body[55]);
             held.insert(body[..41].to_vec(), status);
+            self.show_cancelled(&mut shown, body);
         }
+    }
+
+    /// What is held of show cancelled, and what a row says.
+    fn show_cancelled(&mut self, shown: &mut BTreeMap<Vec<u8>, u8>, body: &[u8]) {
+        let held = shown.get(&body[..41]).copied();
+        self.meet_where(body[63] == 2, "message: message is kept");
+        self.meet_where(body[63] == 2 && held == Some(1), "message: message over true");
+        self.meet_where(body[63] < 2 && held == Some(2), "message: another word over message");
+        self.meet_where(body[63] == 255 && held == Some(2), "message: a held message stays");
+        let now = if body[63] == 255 { held.unwrap_or(1) } else { body[63] };
+        shown.insert(body[..41].to_vec(), now);
     }
 
     pub(super) fn withdrawn(&mut self, job: &Job, outcome: &Outcome, message: u32, sender: u8) {
@@ -130,6 +143,7 @@ impl Coverage {
             let body = &entry[6..];
             let status = held.get(&body[..41]).copied().unwrap_or(0);
             self.meet(cell("withdraw", status, body[55]));
+            self.meet_where(body[63] == 2, "withdraw: a row with message stands");
             self.meet_where(number(&entry[1..5]) < message, "withdraw: an earlier row stands");
             self.meet_where(number(&entry[1..5]) > message, "withdraw: a later row stands");
             held.insert(body[..41].to_vec(), moved(status, body[55]));
@@ -155,6 +169,11 @@ fn moved(held: u8, said: u8) -> u8 {
 /// The statuses of rows by key.
 fn statuses(rows: &[u8]) -> BTreeMap<Vec<u8>, u8> {
     rows.chunks(67).map(|row| (row[..41].to_vec(), row[55])).collect()
+}
+
+/// What rows say of show cancelled, by key.
+fn shows(rows: &[u8]) -> BTreeMap<Vec<u8>, u8> {
+    rows.chunks(67).map(|row| (row[..41].to_vec(), row[63])).collect()
 }
 
 /// The updates of a book, as entries.

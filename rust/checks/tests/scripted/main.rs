@@ -3,5 +3,6 @@
 mod cases;
 mod desk;
 mod feeds;
+mod forms;
 mod random;
 mod refusals;
