@@ -39,7 +39,8 @@ fn what_is_written_is_read_again() {
         case.write(&folder).expect("written");
         assert_eq!(Case::read(&folder).expect("read"), case, "{}", kept.display());
     }
-    std::fs::write(folder.join("call.txt"), "message\nsender 7\nused 0\nrows 0\nshift 0\nplaces\n").expect("written");
+    std::fs::write(folder.join("call.txt"), "message\nsender 7\nform 0\nused 0\nrows 0\nshift 0\nplaces\n")
+        .expect("written");
     assert!(Case::read(&folder).is_err(), "a line that means nothing for the call");
     std::fs::remove_dir_all(&folder).expect("removed");
 }

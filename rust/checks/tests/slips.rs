@@ -58,6 +58,16 @@ fn forgets(job: &Job) -> Outcome {
     outcome
 }
 
+/// A message's first row keeps message as true.
+fn as_true(job: &Job) -> Outcome {
+    let mut outcome = perform::<Rival>(job);
+    let show = job.lent.used as usize + layout::UPDATE_BODY_AT + layout::SHOW_CANCELLED_AT;
+    if outcome.answer[0] == 0 && matches!(job.call, Call::Message { .. }) && outcome.book.get(show) == Some(&2) {
+        outcome.book[show] = 1;
+    }
+    outcome
+}
+
 /// The rival with a slip in its feeds.
 struct Feeds<const SLIP: u8>;
 
@@ -77,6 +87,11 @@ const LATER_BYTE: u8 = 5;
 const BEGINS: u8 = 6;
 /// The register that is lent at the end is not looked at.
 const OLD_REGISTER: u8 = 7;
+
+/// A feed is begun in the old form, whatever is stated.
+const FORM_LOST: u8 = 8;
+/// A form that is not known is taken for the old one.
+const ANY_FORM: u8 = 9;
 
 thread_local! {
     /// The LFs of all parts but the last, those of the last, and the last part's register.
@@ -100,12 +115,14 @@ impl<const SLIP: u8> Side for Feeds<SLIP> {
         used: u64,
         rows: u64,
     ) -> [u64; 6] {
+        let form = if SLIP == ANY_FORM && form > 1 { 0 } else { form };
         Rival::message(dossier, sender, form, register, book, table, used, rows)
     }
 
     fn feed_begin(sender: u8, form: u32, feed: &mut [u64; 48]) -> u32 {
         FED.take();
-        Rival::feed_begin(sender, form, feed)
+        let lost = SLIP == FORM_LOST || SLIP == ANY_FORM && form > 1;
+        Rival::feed_begin(sender, if lost { 0 } else { form }, feed)
     }
 
     fn feed(part: &[u8], register: &[u8], staging: &mut [u8], line: &mut [u8; 4_096], feed: &mut [u64; 48]) -> u32 {
@@ -209,6 +226,19 @@ fn an_entry_of_the_book_is_named() {
     let (job, words) = cut_down(&slipping!(forgets));
     assert_eq!(words, "withdraw: books differ first at byte 0 (entry 0, its kind): 3 by rival, 2 by slip");
     assert_eq!((job.lent.used, job.lent.book.len()), (72, 72));
+}
+
+#[test]
+fn slips_of_forms_are_seen() {
+    let (job, words) = cut_down(&slipping!(as_true));
+    assert_eq!(words, "message: books differ first at byte 69 (entry 0, its show cancelled): 2 by rival, 1 by slip");
+    assert!(matches!(job.call, Call::Message { form: 1, .. }));
+    let (_, words) = cut_down(&[JUDGES[1], judge::<Feeds<ANY_FORM>>(1)]);
+    assert!(words.contains("18, 0, 0, 0, 0, 0]") && words.contains("by rival"), "{words}");
+    let (job, _) = cut_down(&[JUDGES[1], judge::<Feeds<FORM_LOST>>(1)]);
+    assert!(matches!(job.call, Call::Feed(feeding) if feeding.form > 0));
+    let alone = first_difference(&[judge::<Feeds<FORM_LOST>>(1)], 1).2;
+    assert!(alone.starts_with("feed_end: slip: "), "a side by itself: {alone}");
 }
 
 /// What is said of a slip in feeds, and the steps that are left of its job.

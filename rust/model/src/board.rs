@@ -79,7 +79,7 @@ fn is_shown(row: &Row, question: &Question) -> bool {
         && body.status != PASSED
         && departure(row) >= question.now
         && departure(row) <= question.now + question.horizon
-        && (body.status != CANCEL || body.show_cancelled == SHOWN_TRUE)
+        && (body.status != CANCEL || body.show_cancelled == 1)
         && (body.flexible == FLEXIBLE_NOT_SAID
             || body.flexible == FLEXIBLE_TRUE
             || body.flexible == FLEXIBLE_REALTIME && body.monitored == 1)

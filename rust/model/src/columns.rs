@@ -51,30 +51,17 @@ pub fn message_table(form: u32) -> Option<&'static Wanted> {
 
 pub const OLD_MESSAGE: Wanted = Wanted {
     table: "DATEDPASSTIME",
-    columns: &[
-        wanted("DataOwnerCode", Kind::Text),
-        wanted("OperationDate", Kind::Date),
-        wanted("LinePlanningNumber", Kind::Text),
-        wanted("VehicleJourneyNumber", Kind::Digits(6)),
-        wanted("FortifyOrderNumber", Kind::Digits(2)),
-        wanted("UserStopCode", Kind::Text),
-        wanted("UserStopOrderNumber", Kind::Digits(3)),
-        wanted("DestinationCode", Kind::Text),
-        wanted("LastUpdateTimeStamp", Kind::Stamp),
-        wanted("TripStopStatus", Kind::Status),
-        wanted("ExpectedArrivalTime", Kind::Arrival),
-        wanted("ExpectedDepartureTime", Kind::Departure),
-        wanted("JourneyStopType", Kind::StopType),
-        optional("ShowCancelledTrip", Kind::Flag),
-        optional("ShowFlexibleTrip", Kind::Flexible),
-        optional("Monitored", Kind::Flag),
-    ],
+    columns: &message_columns(optional("ShowCancelledTrip", Kind::Flag), optional("Monitored", Kind::Flag)),
 };
 
-/// The 8.5 form: the same but for two, ShowCancelledJourney and Monitored.
 const NEW_MESSAGE: Wanted = Wanted {
     table: "DATEDPASSTIME",
-    columns: &[
+    columns: &message_columns(optional("ShowCancelledJourney", Kind::Shown), optional("Monitored", Kind::Truth)),
+};
+
+/// The columns of a message: the same in both forms, but for two.
+const fn message_columns(show_cancelled: Column, monitored: Column) -> [Column; 16] {
+    [
         wanted("DataOwnerCode", Kind::Text),
         wanted("OperationDate", Kind::Date),
         wanted("LinePlanningNumber", Kind::Text),
@@ -88,11 +75,11 @@ const NEW_MESSAGE: Wanted = Wanted {
         wanted("ExpectedArrivalTime", Kind::Arrival),
         wanted("ExpectedDepartureTime", Kind::Departure),
         wanted("JourneyStopType", Kind::StopType),
-        optional("ShowCancelledJourney", Kind::Shown),
+        show_cancelled,
         optional("ShowFlexibleTrip", Kind::Flexible),
-        optional("Monitored", Kind::Truth),
-    ],
-};
+        monitored,
+    ]
+}
 
 pub const PLANNING: Wanted = Wanted {
     table: "LOCALSERVICEGROUPPASSTIME",

@@ -36,10 +36,6 @@ pub const PASSED: u32 = 5;
 pub const FIRST: u32 = 0;
 pub const LAST: u32 = 2;
 
-/// 2: show cancelled as it is kept, `true` and `message`.
-pub const SHOWN_TRUE: u32 = 1;
-pub const SHOWN_MESSAGE: u32 = 2;
-
 /// 2: flexible as it is kept; 0 where nothing was said.
 pub const FLEXIBLE_NOT_SAID: u32 = 0;
 pub const FLEXIBLE_TRUE: u32 = 1;

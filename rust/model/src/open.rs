@@ -80,7 +80,7 @@ fn planned(pass_time: &Read, date: u32) -> Body {
         arrival: pass_time.number_if_any("TargetArrivalTime").unwrap_or(NO_TIME),
         departure: pass_time.number_if_any("TargetDepartureTime").unwrap_or(NO_TIME),
         stop_type: pass_time.number("JourneyStopType"),
-        show_cancelled: SHOWN_TRUE,
+        show_cancelled: 1,
         flexible: pass_time.number_if_any("ShowFlexibleTrip").unwrap_or(FLEXIBLE_NOT_SAID),
         monitored: 0,
     }

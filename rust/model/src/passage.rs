@@ -130,7 +130,7 @@ impl Body {
         self.in_common_range()
             && self.timestamp == 0
             && self.status == PLANNED
-            && self.show_cancelled == SHOWN_TRUE
+            && self.show_cancelled == 1
             && self.flexible <= FLEXIBLE_REALTIME
             && self.monitored == 0
     }
@@ -139,7 +139,7 @@ impl Body {
     pub fn is_update(&self) -> bool {
         self.in_common_range()
             && is_stamp(self.timestamp)
-            && matches!(self.show_cancelled, 0 | SHOWN_TRUE | SHOWN_MESSAGE | KEPT)
+            && matches!(self.show_cancelled, 0 | 1 | 2 | KEPT)
             && matches!(self.flexible, 1 | 2 | 3 | KEPT)
             && matches!(self.monitored, 0 | 1 | KEPT)
     }
@@ -168,7 +168,7 @@ impl Row {
         let body = &self.body;
         body.in_common_range()
             && (self.heard == 0 && body.timestamp == 0 || self.heard == 1 && is_stamp(body.timestamp))
-            && body.show_cancelled <= SHOWN_MESSAGE
+            && body.show_cancelled <= 2
             && body.flexible <= FLEXIBLE_REALTIME
             && body.monitored <= 1
     }

@@ -36,7 +36,7 @@ fn optional_after(held: u32, said: u32) -> u32 {
 pub fn updated(held: Option<&Row>, update: &Body) -> Row {
     let (status, show_cancelled, flexible, monitored) = match held {
         Some(row) => (row.body.status, row.body.show_cancelled, row.body.flexible, row.body.monitored),
-        None => (PLANNED, SHOWN_TRUE, FLEXIBLE_NOT_SAID, 0),
+        None => (PLANNED, 1, FLEXIBLE_NOT_SAID, 0),
     };
     let body = Body {
         status: status_after(status, update.status),

@@ -222,9 +222,14 @@ fn body(b: &[u8], kind: u8) -> bool {
         && b[62] <= 2;
     let stamped = (946_634_400..=4_102_495_199).contains(&stamp);
     all && match kind {
-        0 => b[66] <= 1 && (if b[66] == 1 { stamped } else { stamp == 0 }) && b[63] <= 1 && b[64] <= 3 && b[65] <= 1,
+        0 => b[66] <= 1 && (if b[66] == 1 { stamped } else { stamp == 0 }) && b[63] <= 2 && b[64] <= 3 && b[65] <= 1,
         1 => stamp == 0 && b[55] == 0 && b[63] == 1 && b[64] <= 3 && b[65] == 0,
-        _ => stamped && [0, 1, 255].contains(&b[63]) && [1, 2, 3, 255].contains(&b[64]) && [0, 1, 255].contains(&b[65]),
+        _ => {
+            stamped
+                && [0, 1, 2, 255].contains(&b[63])
+                && [1, 2, 3, 255].contains(&b[64])
+                && [0, 1, 255].contains(&b[65])
+        }
     }
 }
 

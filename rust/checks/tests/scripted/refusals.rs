@@ -314,8 +314,10 @@ fn what_a_board_shows<S: Side>() {
         (0, 0, &shown),
         (1, 1, &shown),
         (1, 0, &hidden),
+        (1, 2, &hidden),
         (2, 0, &shown),
         (3, 0, &shown),
+        (3, 2, &shown),
         (4, 0, &shown),
         (5, 1, &hidden),
     ] {
