@@ -18,6 +18,8 @@ pub struct Tally {
     dossiers: BTreeMap<(u64, u64), u64>,
     /// Accepted messages without rows.
     rowless: u64,
+    /// Messages, whole and in parts, by the form that they state: the old one, that of 8.5, and others.
+    forms: [u64; 3],
     /// Messages in parts, each begun, fed and ended in one job, and those of which an end was accepted.
     fed: u64,
     taken: u64,
@@ -40,9 +42,13 @@ impl Tally {
         if dossier != 0 {
             *self.dossiers.entry((number, dossier)).or_default() += 1;
         }
-        match job.call {
-            Call::Message { .. } => self.rowless += u64::from(number == 0 && value == 0),
-            Call::Feed(_) => {
+        match &job.call {
+            Call::Message { form, .. } => {
+                self.forms[(*form).min(2) as usize] += 1;
+                self.rowless += u64::from(number == 0 && value == 0);
+            }
+            Call::Feed(feeding) => {
+                self.forms[feeding.form.min(2) as usize] += 1;
                 self.fed += 1;
                 self.taken += u64::from(number == 0);
             }
@@ -66,6 +72,7 @@ impl Tally {
         self.rowless += other.rowless;
         self.fed += other.fed;
         self.taken += other.taken;
+        self.forms = std::array::from_fn(|form| self.forms[form] + other.forms[form]);
         self.shown += other.shown;
         self.several += other.several;
         self.cut += other.cut;
@@ -121,6 +128,8 @@ impl fmt::Display for Tally {
         }
         writeln!(f, "accepted messages without rows: {}", self.rowless)?;
         writeln!(f, "messages in parts: {}, accepted: {}", self.fed, self.taken)?;
+        let [old, new, unknown] = self.forms;
+        writeln!(f, "messages in the old form: {old}, in the 8.5 form: {new}, in others: {unknown}")?;
         writeln!(
             f,
             "boards that show something: {}, two or more: {}, cut by their places: {}",
