@@ -15,7 +15,7 @@ use Rattle.field_types.specs.Dates.{date}
 use Rattle.script_text.specs.Rules.{wordAt}
 use Rattle.boards_orders.specs.declared.Order.{Order}
 use Rattle.boards_orders.specs.declared.Order.the-variants.{Nothing, Register, Message, Withdraw, Board, Parts, Bad}
-use Rattle.boards_orders.specs.Orders.{commandOf, orNone, noNumber, no-day, no-sender, not-to-register, no-number, no-owner, no-date, no-time, no-horizon, no-places, no-size, wants, numberWord, dateWord, timeWord, registerOrder, messageOrder, partsOrder, withdrawOrder, placesAt, boardOrder, hasWords, isWhole, isOfDay, orderBy, commanded, isSilent, orderIn}
+use Rattle.boards_orders.specs.Orders.{commandOf, orNone, noNumber, no-day, no-sender, not-to-register, no-number, no-owner, no-date, no-time, no-horizon, no-places, no-size, no-form, wants, numberWord, dateWord, timeWord, registerOrder, messageOrder, partsOrder, withdrawOrder, placesAt, formAt, boardOrder, hasWords, isWhole, isOfDay, orderBy, commanded, isSilent, orderIn}
 
 -- ---- numbers
 
@@ -66,9 +66,13 @@ module _ (line : List ℕ) (n : ℕ) (e : n ≡ numberWord 1 line) where
   unfolding messageOrder
   message-large h = rw (← e) (rw (lt-ltb 255 n h))
 
-  pub message-good : n ≤ 255 → Message n ≡ messageOrder line
+  pub message-formless : (k : ℕ) → k ≡ formAt 3 line → n ≤ 255 → k ≡ noNumber → Bad 3 no-form ≡ messageOrder line
   unfolding messageOrder
-  message-good h = rw (← e) (rw (le-ltb 255 n h))
+  message-formless k f h l = rw (← e, ← f) (rw (le-ltb 255 n h, eq-eqb k noNumber l))
+
+  pub message-good : (k : ℕ) → k ≡ formAt 3 line → n ≤ 255 → (k ≡ noNumber → ⊥) → Message n k ≡ messageOrder line
+  unfolding messageOrder
+  message-good k f h l = rw (← e, ← f) (rw (le-ltb 255 n h, ne-eqb k noNumber l))
 
   pub parts-sender : 255 < n → Bad 1 no-sender ≡ partsOrder line
   unfolding partsOrder
@@ -82,9 +86,13 @@ module _ (line : List ℕ) (n : ℕ) (e : n ≡ numberWord 1 line) where
   unfolding partsOrder
   parts-large m f h k l = rw (← e, ← f) (rw (le-ltb 255 n h, ne-eqb m 0 k, lt-ltb 65536 m l))
 
-  pub parts-good : (m : ℕ) → m ≡ numberWord 3 line → n ≤ 255 → (m ≡ 0 → ⊥) → m ≤ 65536 → Parts n m ≡ partsOrder line
+  pub parts-formless : (m j : ℕ) → m ≡ numberWord 3 line → j ≡ formAt 4 line → n ≤ 255 → (m ≡ 0 → ⊥) → m ≤ 65536 → j ≡ noNumber → Bad 4 no-form ≡ partsOrder line
   unfolding partsOrder
-  parts-good m f h k l = rw (← e, ← f) (rw (le-ltb 255 n h, ne-eqb m 0 k, le-ltb 65536 m l))
+  parts-formless m j f g h k l r = rw (← e, ← f, ← g) (rw (le-ltb 255 n h, ne-eqb m 0 k, le-ltb 65536 m l, eq-eqb j noNumber r))
+
+  pub parts-good : (m j : ℕ) → m ≡ numberWord 3 line → j ≡ formAt 4 line → n ≤ 255 → (m ≡ 0 → ⊥) → m ≤ 65536 → (j ≡ noNumber → ⊥) → Parts n m j ≡ partsOrder line
+  unfolding partsOrder
+  parts-good m j f g h k l r = rw (← e, ← f, ← g) (rw (le-ltb 255 n h, ne-eqb m 0 k, le-ltb 65536 m l, ne-eqb j noNumber r))
 
   pub withdraw-none : n ≡ noNumber → Bad 1 no-number ≡ withdrawOrder line
   unfolding withdrawOrder
@@ -106,6 +114,15 @@ module _ (line w : List ℕ) (e : w ≡ wordAt 6 line) where
   pub places-said : (n : ℕ) → n ≡ numberWord 6 line → (length w ≡ 0 → ⊥) → n ≡ placesAt line
   unfolding placesAt
   places-said n f h = rw (← e, ← f) (rw (ne-eqb (length w) 0 h))
+
+module _ (k : ℕ) (line w : List ℕ) (e : w ≡ wordAt k line) where
+  pub form-old : length w ≡ 0 → 0 ≡ formAt k line
+  unfolding formAt
+  form-old h = rw (← e) (rw (eq-eqb (length w) 0 h))
+
+  pub form-said : (n : ℕ) → n ≡ numberWord k line → (length w ≡ 0 → ⊥) → n ≡ formAt k line
+  unfolding formAt
+  form-said n f h = rw (← e, ← f) (rw (ne-eqb (length w) 0 h))
 
 module _ (line : List ℕ) (d : ℕ) (e : d ≡ dateWord line) where
   pub board-dateless : d ≡ noNumber → Bad 3 no-date ≡ boardOrder line

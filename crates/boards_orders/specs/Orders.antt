@@ -55,9 +55,12 @@ no-places = 11
 abbrev pub no-size : ℕ
 no-size = 13
 
+abbrev pub no-form : ℕ
+no-form = 14
+
 -- command c wants other words, or is none
 abbrev pub wants : ℕ → Order
-wants c = Bad 0 (14 + min c 10)
+wants c = Bad 0 (15 + min c 10)
 
 -- what is no number is out of every range
 abbrev pub noNumber : ℕ
@@ -85,15 +88,26 @@ registerOrder line =
     ((eqb (numberWord 1 line) 0, Bad 1 not-to-register) ∷ (ltb 255 (numberWord 1 line), Bad 1 not-to-register) ∷ (ltb 10 (length (wordAt 2 line)), Bad 2 no-owner) ∷ [])
     (Register (numberWord 1 line))
 
+-- the form that word k states, and the old one where nothing is said; whether it is a known one is the call's to answer
+unfoldable pub formAt : ℕ → List ℕ → ℕ
+formAt k line = on (eqb (length (wordAt k line)) 0) 0 (numberWord k line)
+
 unfoldable pub messageOrder : List ℕ → Order
-messageOrder line = on (ltb 255 (numberWord 1 line)) (Bad 1 no-sender) (Message (numberWord 1 line))
+messageOrder line =
+    firstHeld
+    ((ltb 255 (numberWord 1 line), Bad 1 no-sender) ∷ (eqb (formAt 3 line) noNumber, Bad 3 no-form) ∷ [])
+    (Message (numberWord 1 line) (formAt 3 line))
 
 -- a part has from one byte to as many as a dossier may have
 unfoldable pub partsOrder : List ℕ → Order
 partsOrder line =
     firstHeld
-    ((ltb 255 (numberWord 1 line), Bad 1 no-sender) ∷ (eqb (numberWord 3 line) 0, Bad 3 no-size) ∷ (ltb 65536 (numberWord 3 line), Bad 3 no-size) ∷ [])
-    (Parts (numberWord 1 line) (numberWord 3 line))
+    ((ltb 255 (numberWord 1 line), Bad 1 no-sender)
+    ∷ (eqb (numberWord 3 line) 0, Bad 3 no-size)
+    ∷ (ltb 65536 (numberWord 3 line), Bad 3 no-size)
+    ∷ (eqb (formAt 4 line) noNumber, Bad 4 no-form)
+    ∷ [])
+    (Parts (numberWord 1 line) (numberWord 3 line) (formAt 4 line))
 
 unfoldable pub withdrawOrder : List ℕ → Order
 withdrawOrder line =
@@ -119,11 +133,18 @@ boardOrder line =
 unfoldable pub hasWords : ℕ → ℕ → List ℕ → Bool
 hasWords k n line = on (eqb (length (wordAt k line)) 0) false (eqb (length (wordAt n line)) 0)
 
--- the line has as many words as its command wants: five or six, none, one, three, or two
+-- the line has as many words as its command wants: two or three, five or six, none, one, three or four, or two
 unfoldable pub isWhole : ℕ → List ℕ → Bool
 isWhole c line =
     firstHeld
-    ((eqb c 4, hasWords 5 7 line) ∷ (eqb c 5, hasWords 0 1 line) ∷ (eqb c 6, hasWords 0 1 line) ∷ (eqb c 7, hasWords 1 2 line) ∷ (eqb c 8, hasWords 1 2 line) ∷ (eqb c 9, hasWords 3 4 line) ∷ [])
+    ((eqb c 2, hasWords 2 4 line)
+    ∷ (eqb c 4, hasWords 5 7 line)
+    ∷ (eqb c 5, hasWords 0 1 line)
+    ∷ (eqb c 6, hasWords 0 1 line)
+    ∷ (eqb c 7, hasWords 1 2 line)
+    ∷ (eqb c 8, hasWords 1 2 line)
+    ∷ (eqb c 9, hasWords 3 5 line)
+    ∷ [])
     (hasWords 2 3 line)
 
 -- the command is about the day that is open

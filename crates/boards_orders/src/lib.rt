@@ -1,21 +1,21 @@
 // What a line of the script asks, or what is wrong with it.
 use field_types::Number;
 ghost use mathlib.Core.Path.{_≡_};
-ghost use Rattle.boards_orders.specs.Orders.{commandOf, numberWord, dateWord, timeWord, hasWords, isWhole, isOfDay, isSilent, placesAt, registerOrder, messageOrder, partsOrder, withdrawOrder, boardOrder, wants, orderBy, commanded, orderIn};
+ghost use Rattle.boards_orders.specs.Orders.{commandOf, numberWord, dateWord, timeWord, hasWords, isWhole, isOfDay, isSilent, placesAt, formAt, registerOrder, messageOrder, partsOrder, withdrawOrder, boardOrder, wants, orderBy, commanded, orderIn};
 
 // What a line asks, with the numbers in it; its words and files are read when it is done. `Bad` has the place of the word that is wrong, and why.
 pub enum Order {
     Nothing,
     Open,
     Register(u8),
-    Message(u8),
+    Message(u8, u32),
     Withdraw(u32, u8),
     Board(u32, u32, u32, usize),
     Messages,
     Registered,
     Save,
     Load,
-    Parts(u8, usize),
+    Parts(u8, usize, u32),
     Bad(usize, usize),
 }
 
@@ -48,8 +48,10 @@ pub const LONG: usize = 12;
 
 const NO_SIZE: usize = 13;
 
+const NO_FORM: usize = 14;
+
 // From here on, by the command: it wants other words; the last is no command.
-const WORDS: usize = 14;
+const WORDS: usize = 15;
 
 // The commands, by their places among the names in `command`.
 const OPEN: usize = 0;
@@ -114,7 +116,17 @@ fn read_register(line: &[u8]) -> Order
     Order::Register(sender as u8)
 }
 
-// MESSAGE sender dossier-file.
+// The form that word k states; the old one, 0, where nothing is said. A number that is no form is the call's to refuse.
+fn form(line: &[u8], k: usize) -> u32
+    ensures { λ r. ⌜ r ≡ formAt k (now (line .entry)) ⌝ }
+{
+    if script_text::word(line, k).len() == 0 {
+        return 0;
+    }
+    number(line, k)
+}
+
+// MESSAGE sender dossier-file [form].
 fn read_message(line: &[u8]) -> Order
     ensures { λ r. ⌜ r ≡ messageOrder (now (line .entry)) ⌝ }
 {
@@ -122,13 +134,17 @@ fn read_message(line: &[u8]) -> Order
     if 255 < sender {
         return Order::Bad(1, NO_SENDER);
     }
-    Order::Message(sender as u8)
+    let stated = form(line, 3);
+    if stated == NONE {
+        return Order::Bad(3, NO_FORM);
+    }
+    Order::Message(sender as u8, stated)
 }
 
 // A part has at most as many bytes as a dossier may have: a larger one could hold no more.
 const LARGEST_PART: u32 = 65536;
 
-// PARTS sender dossier-file size.
+// PARTS sender dossier-file size [form].
 fn read_parts(line: &[u8]) -> Order
     ensures { λ r. ⌜ r ≡ partsOrder (now (line .entry)) ⌝ }
 {
@@ -143,7 +159,11 @@ fn read_parts(line: &[u8]) -> Order
     if LARGEST_PART < size {
         return Order::Bad(3, NO_SIZE);
     }
-    Order::Parts(sender as u8, size as usize)
+    let stated = form(line, 4);
+    if stated == NONE {
+        return Order::Bad(4, NO_FORM);
+    }
+    Order::Parts(sender as u8, size as usize, stated)
 }
 
 // WITHDRAW number sender.
@@ -229,12 +249,13 @@ fn is_whole(line: &[u8], c: usize) -> bool
     ensures { λ r. ⌜ r ≡ isWhole c (now (line .entry)) ⌝ }
 {
     match c {
+        MESSAGE => has_words(line, 2, 4),
         BOARD => has_words(line, 5, 7),
         MESSAGES => has_words(line, 0, 1),
         REGISTERED => has_words(line, 0, 1),
         SAVE => has_words(line, 1, 2),
         LOAD => has_words(line, 1, 2),
-        PARTS => has_words(line, 3, 4),
+        PARTS => has_words(line, 3, 5),
         _ => has_words(line, 2, 3),
     }
 }

@@ -26,6 +26,9 @@ has-words-requires-6 c κs = search needs
 has-words-requires-7 : tie.Need-has-words-requires-7
 has-words-requires-7 c κs = search needs
 
+has-words-requires-8 : tie.Need-has-words-requires-8
+has-words-requires-8 c κs = search needs
+
 returns : tie.Need-returns
 unfolding isWhole
 returns c = rw (c .before .match .keys1) (c .has-words .ensures)
@@ -52,7 +55,11 @@ returns-6 c = rw (c .before .match .keys6) (c .has-words6 .ensures)
 
 returns-7 : tie.Need-returns-7
 unfolding isWhole
-returns-7 c = let r = c .before .match .rest in rw (ne-eqb _ 4 (r .0 .0 .0 .0 .0 .1), ne-eqb _ 5 (r .0 .0 .0 .0 .1), ne-eqb _ 6 (r .0 .0 .0 .1), ne-eqb _ 7 (r .0 .0 .1), ne-eqb _ 8 (r .0 .1), ne-eqb _ 9 (r .1)) (c .has-words7 .ensures)
+returns-7 c = rw (c .before .match .keys7) (c .has-words7 .ensures)
+
+returns-8 : tie.Need-returns-8
+unfolding isWhole
+returns-8 c = let r = c .before .match .rest in rw (ne-eqb _ 2 (r .0 .0 .0 .0 .0 .0 .1), ne-eqb _ 4 (r .0 .0 .0 .0 .0 .1), ne-eqb _ 5 (r .0 .0 .0 .0 .1), ne-eqb _ 6 (r .0 .0 .0 .1), ne-eqb _ 7 (r .0 .0 .1), ne-eqb _ 8 (r .0 .1), ne-eqb _ 9 (r .1)) (c .has-words8 .ensures)
 
 pub is-whole-spec : {M : Type 1} → statement M
 is-whole-spec =
@@ -65,10 +72,12 @@ is-whole-spec =
     has-words-requires-5
     has-words-requires-6
     has-words-requires-7
+    has-words-requires-8
     returns
     returns-2
     returns-3
     returns-4
     returns-5
     returns-6
-    returns-7)
+    returns-7
+    returns-8)

@@ -13,7 +13,7 @@ add-t3 : tie.Need-add-t3
 add-t3 c = search needs
 
 returns : tie.Need-returns
-returns c = ap (λ (n : ℕ). Bad 0 (14 + n)) (c .at-most .ensures .0)
+returns c = ap (λ (n : ℕ). Bad 0 (15 + n)) (c .at-most .ensures .0)
 
 pub wants-spec : {M : Type 1} → statement M
 wants-spec = tie.close (tie.spec at-most-requires add-t3 returns)
