@@ -1,8 +1,12 @@
 // Why a call refused a dossier, refusals 3 to 6: what stands in it at the places that the call answered. Each function prints the refusal; nothing comes back and nothing is changed.
 use calls::Four;
+use columns::Form;
 use columns::Table;
 use turbo_lines::Mark;
 ghost use Prim.Native.Nat.{_≤_};
+ghost use mathlib.Core.Path.{_≡_};
+ghost use Rattle.turbo.specs.Split.{fields};
+ghost use Rattle.columns.specs.Tables.{names};
 
 // So much of a field is printed.
 const MOST_SHOWN: usize = 40;
@@ -168,29 +172,48 @@ fn tell_fields(place: u32, line: &[u8], dossier: &[u8], f: Four) {
     );
 }
 
-// Among the names that are looked for.
-fn tell_among(place: u32, line: &[u8], dossier: &[u8], names: &[u8], f: Four) {
+// Among the names that are looked for, which are those of the table.
+fn tell_among(place: u32, line: &[u8], table: Table, dossier: &[u8], wanted: &[u8], f: Four)
+    requires { ⌜ fields (now wanted) ≡ names table ⌝ }
+{
     let l = line_at(dossier, f.value);
     if is_labels(l) {
-        tell_labels(place, line, turbo_lines::after_mark(l), names, f);
+        tell_labels(place, line, turbo_lines::after_mark(l), wanted, f);
         return;
     }
     tell_fields(place, line, dossier, f);
 }
 
-// 4: which of its three faults, and which column. The names are those that `rows` looks for.
-pub fn tell_form(place: u32, line: &[u8], table: Table, dossier: &[u8], f: Four) {
-    match table {
-        Table::Message => tell_among(
+// In a message of this form.
+fn tell_message(place: u32, line: &[u8], form: Form, dossier: &[u8], f: Four) {
+    match form {
+        Form::Old => tell_among(
             place,
             line,
+            Table::Message(form),
             dossier,
             b"DataOwnerCode|OperationDate|LinePlanningNumber|VehicleJourneyNumber|FortifyOrderNumber|UserStopCode|UserStopOrderNumber|DestinationCode|LastUpdateTimeStamp|TripStopStatus|ExpectedArrivalTime|ExpectedDepartureTime|JourneyStopType|ShowCancelledTrip|ShowFlexibleTrip|Monitored",
             f,
         ),
+        Form::New => tell_among(
+            place,
+            line,
+            Table::Message(form),
+            dossier,
+            b"DataOwnerCode|OperationDate|LinePlanningNumber|VehicleJourneyNumber|FortifyOrderNumber|UserStopCode|UserStopOrderNumber|DestinationCode|LastUpdateTimeStamp|TripStopStatus|ExpectedArrivalTime|ExpectedDepartureTime|JourneyStopType|ShowCancelledJourney|ShowFlexibleTrip|Monitored",
+            f,
+        ),
+    }
+}
+
+// 4: which of its three faults, and which column.
+pub fn tell_form(place: u32, line: &[u8], table: Table, dossier: &[u8], f: Four) {
+    match table {
+        Table::Message(form) => tell_message(place, line, form, dossier, f),
         Table::Planning => tell_among(
             place,
             line,
+            table,
             dossier,
             b"DataOwnerCode|LinePlanningNumber|VehicleJourneyNumber|FortifyOrderNumber|UserStopCode|UserStopOrderNumber|LocalServiceLevelCode|DestinationCode|TargetArrivalTime|TargetDepartureTime|JourneyStopType|ShowFlexibleTrip",
             f,
@@ -198,6 +221,7 @@ pub fn tell_form(place: u32, line: &[u8], table: Table, dossier: &[u8], f: Four)
         Table::Calendar => tell_among(
             place,
             line,
+            table,
             dossier,
             b"DataOwnerCode|LocalServiceLevelCode|OperationDate",
             f,

@@ -151,16 +151,17 @@ pub fn miss(place: u32, word: &[u8], why: usize) {
         no number of places, at most 2048|\
         line over 2,048 bytes|\
         no size of a part, a number from 1 to 65536|\
+        no form, a number: 0 for the old one, 1 for turbo 8.5|\
         wants planning-file calendar-file|\
         wants sender owner|\
-        wants sender dossier-file|\
+        wants sender dossier-file [form]|\
         wants number sender|\
         wants owner stop date time horizon [places]|\
         wants no more words|\
         wants no more words|\
         wants file|\
         wants file|\
-        wants sender dossier-file size|\
+        wants sender dossier-file size [form]|\
         no command";
     let reason = turbo::field_of(all, why);
     tell(
@@ -181,8 +182,8 @@ pub fn usage() {
         Does what each script says, a command a line; - or no script is standard input, done line by line as it comes.\n\
         OPEN planning-file calendar-file              begins a new day; the register stays\n\
         REGISTER sender owner                         lets the sender send for the owner\n\
-        MESSAGE sender dossier-file                   takes a message in, whole or not at all\n\
-        PARTS sender dossier-file size                the same, fed in parts of so many bytes\n\
+        MESSAGE sender dossier-file [form]            takes a message in, whole or not at all; form 1 is that of turbo 8.5\n\
+        PARTS sender dossier-file size [form]         the same, fed in parts of so many bytes\n\
         WITHDRAW number sender                        takes a message back\n\
         BOARD owner stop date time horizon [places]   prints departures: YYYY-MM-DD, HH:MM:SS, seconds\n\
         MESSAGES                                      lists the day's messages\n\
