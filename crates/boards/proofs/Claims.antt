@@ -58,7 +58,7 @@ unfolding dayIn registerFrom bookFrom tableFrom
 unsound-file-changes-nothing file s e = rw e (same-refused s)
 
 parts-as-message : PartsAsMessage
-parts-as-message sender size line s t = (λ p. p, λ p. p)
+parts-as-message sender size form line s t = (λ p. p, λ p. p)
 
 pub claims : All
 claims = (bad-changes-nothing, board-changes-nothing, lists-change-nothing, save-changes-nothing, unsound-file-changes-nothing, parts-as-message)

@@ -46,9 +46,9 @@ SaveChangesNothing = (day : Bool) (line : List ℕ) (s t : State) → orderIn da
 abbrev pub UnsoundFileChangesNothing : Type 0
 UnsoundFileChangesNothing = (file : List ℕ) (s : State) → isDay file ≡ false → Same s (loadedFrom file s)
 
--- what a message fed in parts may leave, of whatever size, is what a whole message may leave: the rule of the one call on the bytes that the file gave
+-- what a message fed in parts may leave, of whatever size, is what a whole message in the same form may leave: the rule of the one call on the bytes that the file gave
 abbrev pub PartsAsMessage : Type 0
-PartsAsMessage = (sender size : ℕ) (line : List ℕ) (s t : State) → LineLeaves (Parts sender size) line s t ↔ LineLeaves (Message sender) line s t
+PartsAsMessage = (sender size form : ℕ) (line : List ℕ) (s t : State) → LineLeaves (Parts sender size form) line s t ↔ LineLeaves (Message sender form) line s t
 
 -- all of these
 abbrev pub All : Type 0

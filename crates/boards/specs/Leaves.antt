@@ -12,9 +12,9 @@ use Rattle.boards_orders.specs.declared.Order.the-variants.{Nothing, Open, Regi
 abbrev pub Opens : State → State → Type 0
 Opens s t = (t ≡ notDone s) ⊎ ((planning : List ℕ) × (calendar : List ℕ) × (t ≡ openedBy planning calendar s))
 
--- whole or in parts, of whatever size: the rule of the one call
-abbrev pub Sends : ℕ → State → State → Type 0
-Sends sender s t = (t ≡ notDone s) ⊎ ((dossier : List ℕ) × (t ≡ sent dossier sender s))
+-- whole or in parts, of whatever size, in the form that is stated: the rule of the one call
+abbrev pub Sends : ℕ → ℕ → State → State → Type 0
+Sends sender form s t = (t ≡ notDone s) ⊎ ((dossier : List ℕ) × (t ≡ sent dossier sender form s))
 
 abbrev pub Loads : State → State → Type 0
 Loads s t = (t ≡ notDone s) ⊎ ((file : List ℕ) × (t ≡ loadedFrom file s))
@@ -24,12 +24,12 @@ abbrev pub LineLeaves : Order → List ℕ → State → State → Type 0
 LineLeaves Nothing line s t = t ≡ s
 LineLeaves Open line s t = Opens s t
 LineLeaves (Register sender) line s t = t ≡ enrolled sender (wordAt 2 line) s
-LineLeaves (Message sender) line s t = Sends sender s t
+LineLeaves (Message sender form) line s t = Sends sender form s t
 LineLeaves (Withdraw n sender) line s t = t ≡ withdrawnBy n sender s
 LineLeaves (Board date second horizon most) line s t = t ≡ askedBy line date second horizon s
 LineLeaves Messages line s t = t ≡ s
 LineLeaves Registered line s t = t ≡ s
 LineLeaves Save line s t = (t ≡ s) ⊎ (t ≡ notDone s)
 LineLeaves Load line s t = Loads s t
-LineLeaves (Parts sender size) line s t = Sends sender s t
+LineLeaves (Parts sender size form) line s t = Sends sender form s t
 LineLeaves (Bad k why) line s t = t ≡ notDone s

@@ -74,35 +74,37 @@ fn send_from(
     line: &[u8],
     sender: u8,
     size: usize,
+    form: u32,
     paper: &mut [u8; PAPER],
     register: &[u8],
     book: &mut [u8],
     table: &mut [u8],
     held: Held,
 ) -> Held
-    ensures { λ r. ⌜ Sends sender (state held (now (register .entry)) (now (book .entry)) (now (table .entry))) (state r (now (register .entry)) (now (book .exit)) (now (table .exit))) ⌝ }
+    ensures { λ r. ⌜ Sends sender form (state held (now (register .entry)) (now (book .entry)) (now (table .entry))) (state r (now (register .entry)) (now (book .exit)) (now (table .exit))) ⌝ }
 {
     let Loaded::Bytes(n) = load(line, 2, paper) else {
         return boards_deeds::bad(line, 2, boards_orders::UNREADABLE, held);
     };
     let dossier = script_text::front(paper, n);
-    boards_deeds::send(line, dossier, sender, size, register, book, table, held)
+    boards_deeds::send(line, dossier, sender, size, form, register, book, table, held)
 }
 
-// In parts of `size` bytes, or whole where that is 0.
+// In the form that is stated, in parts of `size` bytes, or whole where that is 0.
 fn send(
     line: &[u8],
     sender: u8,
     size: usize,
+    form: u32,
     register: &[u8],
     book: &mut [u8],
     table: &mut [u8],
     held: Held,
 ) -> Held
-    ensures { λ r. ⌜ Sends sender (state held (now (register .entry)) (now (book .entry)) (now (table .entry))) (state r (now (register .entry)) (now (book .exit)) (now (table .exit))) ⌝ }
+    ensures { λ r. ⌜ Sends sender form (state held (now (register .entry)) (now (book .entry)) (now (table .entry))) (state r (now (register .entry)) (now (book .exit)) (now (table .exit))) ⌝ }
 {
     let mut paper = [0u8; PAPER];
-    send_from(line, sender, size, &mut paper, register, book, table, held)
+    send_from(line, sender, size, form, &mut paper, register, book, table, held)
 }
 
 // ---- Questions, which change nothing.
@@ -217,7 +219,7 @@ fn perform(
         Order::Nothing => held,
         Order::Open => open(line, book, table, held),
         Order::Register(sender) => boards_deeds::enrol(line, sender, register, held),
-        Order::Message(sender) => send(line, sender, 0, register, book, table, held),
+        Order::Message(sender, form) => send(line, sender, 0, form, register, book, table, held),
         Order::Withdraw(number, sender) => boards_deeds::withdraw(
             line,
             number,
@@ -233,7 +235,7 @@ fn perform(
         Order::Registered => list_pairs(line, register, held),
         Order::Save => save(line, register, book, table, held),
         Order::Load => load_day(line, register, book, table, held),
-        Order::Parts(sender, size) => send(line, sender, size, register, book, table, held),
+        Order::Parts(sender, size, form) => send(line, sender, size, form, register, book, table, held),
         Order::Bad(k, why) => boards_deeds::bad(line, k, why, held),
     }
 }

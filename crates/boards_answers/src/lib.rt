@@ -23,7 +23,8 @@ fn plain(place: u32, line: &[u8], f: Four) {
         message already withdrawn|\
         message of another sender||\
         no room in the staging area|\
-        more than 4,096 bytes in line %C";
+        more than 4,096 bytes in line %C|||\
+        unknown form, which is 0 for the old one and 1 for turbo 8.5";
     let words = turbo::field_of(all, f.number as usize);
     boards_words::refuse(
         line,
@@ -90,10 +91,17 @@ pub fn opened(place: u32, line: &[u8], planning: &[u8], calendar: &[u8], outcome
 // An acceptance: a message without rows gets no number.
 fn took(line: &[u8], number: usize, before: Counts, now: Counts) {
     if number == 0 {
-        return boards_words::tell(b"%0%1%2%3: accepted, NO rows\n", line, b"", b"", b"", &[0]);
+        return boards_words::tell(
+            b"%0%1%2%3%4: accepted, NO rows\n",
+            line,
+            b"",
+            b"",
+            b"",
+            &[0],
+        );
     }
     boards_words::tell(
-        b"%0%1%2%3: accepted as message %A; rows %B, passages new to the table %C; book %D bytes, table %E rows\n",
+        b"%0%1%2%3%4: accepted as message %A; rows %B, passages new to the table %C; book %D bytes, table %E rows\n",
         line,
         b"",
         b"",
@@ -108,13 +116,22 @@ fn took(line: &[u8], number: usize, before: Counts, now: Counts) {
     );
 }
 
-// What a message answered, whole or in parts: its number, how many rows it had, how many passages are new to the table.
-pub fn sent(place: u32, line: &[u8], dossier: &[u8], sender: u8, before: Counts, outcome: Outcome) {
+// What a message in this form answered, whole or in parts: its number, how many rows it had, how many passages are new to the table.
+pub fn sent(
+    place: u32,
+    line: &[u8],
+    dossier: &[u8],
+    sender: u8,
+    form: u32,
+    before: Counts,
+    outcome: Outcome,
+) {
     let a = outcome.answer;
     let c = outcome.counts;
     let f = calls::numbers(a);
     if 0 < f.number {
-        return refuse(place, line, Table::Message, dossier, f, sender);
+        let table = Table::Message(columns::form_of(form));
+        return refuse(place, line, table, dossier, f, sender);
     }
     took(line, f.value, before, c);
 }

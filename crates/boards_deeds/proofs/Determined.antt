@@ -44,7 +44,7 @@ open-determined κs a x y s t p q = p [] ∙ sym (q [])
 pub enrol-determined : Determined 2 enrol.ps enrol.r enrol-reads.Post (λ κs x s. state x (now (s .1 .1 .0)) [] [])
 enrol-determined κs a x y s t p q = state-is _ _ _ _ [] [] [] [] (p .0 ∙ sym (q .0)) (p .1 ∙ sym (q .1)) refl refl
 
-pub send-determined : Determined 5 send.ps send.r send-reads.Post (λ κs x s. state x [] (now (s .1 .1 .1 .1 .1 .0)) (now (s .1 .1 .1 .1 .1 .1 .0)))
+pub send-determined : Determined 5 send.ps send.r send-reads.Post (λ κs x s. state x [] (now (s .1 .1 .1 .1 .1 .1 .0)) (now (s .1 .1 .1 .1 .1 .1 .1 .0)))
 send-determined κs a x y s t p q = ap (λ (z : State). state (z .held) [] (z .book) (z .table)) (p ∙ sym q)
 
 pub withdraw-determined : Determined 3 withdraw.ps withdraw.r withdraw-reads.Post (λ κs x s. state x [] (now (s .1 .1 .1 .0)) (now (s .1 .1 .1 .1 .0)))

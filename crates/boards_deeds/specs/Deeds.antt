@@ -92,9 +92,9 @@ left l s = state (holding (l .outcome) (s .held)) (s .register) (l .book) (l .ta
 abbrev pub openedBy : List ℕ → List ℕ → State → State
 openedBy planning calendar s = left (openLeaves planning calendar (s .book) (s .table) (s .held .counts)) s
 
--- of the register its used part is lent
-abbrev pub sent : List ℕ → ℕ → State → State
-sent dossier sender s = left (messageLeaves dossier sender (take (s .held .register) (s .register)) (s .book) (s .table) (s .held .counts)) s
+-- in the form that is stated; of the register its used part is lent
+abbrev pub sent : List ℕ → ℕ → ℕ → State → State
+sent dossier sender form s = left (messageLeaves dossier sender form (take (s .held .register) (s .register)) (s .book) (s .table) (s .held .counts)) s
 
 abbrev pub withdrawnBy : ℕ → ℕ → State → State
 withdrawnBy number sender s = left (withdrawLeaves number sender (s .book) (s .table) (s .held .counts)) s

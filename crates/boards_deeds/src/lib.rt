@@ -121,23 +121,24 @@ pub fn enrol(line: &[u8], sender: u8, register: &mut [u8], held: Held) -> Held
     n
 }
 
-// A message over the bytes that its file gave: in parts of `size` bytes, or whole where that is 0.
+// A message over the bytes that its file gave, in the form that is stated: in parts of `size` bytes, or whole where that is 0.
 pub fn send(
     line: &[u8],
     dossier: &[u8],
     sender: u8,
     size: usize,
+    form: u32,
     register: &[u8],
     book: &mut [u8],
     table: &mut [u8],
     held: Held,
 ) -> Held
-    ensures { λ r. ⌜ state r (now (register .entry)) (now (book .exit)) (now (table .exit)) ≡ sent (now (dossier .entry)) sender (state held (now (register .entry)) (now (book .entry)) (now (table .entry))) ⌝ }
+    ensures { λ r. ⌜ state r (now (register .entry)) (now (book .exit)) (now (table .exit)) ≡ sent (now (dossier .entry)) sender form (state held (now (register .entry)) (now (book .entry)) (now (table .entry))) ⌝ }
 {
     let c = held.counts;
     let pairs = script_text::front(register, held.register);
-    let o = boards_messages::take(dossier, size, sender, pairs, book, table, c);
-    boards_answers::sent(held.line, line, dossier, sender, c, o);
+    let o = boards_messages::take(dossier, size, sender, form, pairs, book, table, c);
+    boards_answers::sent(held.line, line, dossier, sender, form, c, o);
     told(o, held)
 }
 

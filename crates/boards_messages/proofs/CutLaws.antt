@@ -6,6 +6,7 @@ use native.Mathlib.Omega.{arith}
 use lib.ListN.{length, take, drop, length-drop, take-append-drop}
 use Rattle.lists.specs.Rows.{flat}
 use Rattle.passage.specs.Layout.{body-wide}
+use Rattle.columns.specs.Tables.{formOf}
 use Rattle.reader.proofs.AnswerLaws.{rows-few}
 use Rattle.feeds.specs.Kept.{begunBy}
 use Rattle.feeds.specs.Feeding.{Feeding, feeding, feedLeaves}
@@ -93,9 +94,9 @@ rows-fit : (n k : ℕ) → n ≤ 2427 → most-rows * body-wide ≤ k → k / bo
 rows-fit n k few room short = omega (arith, few, room, short)
 
 -- no message has more rows than there is room for: so 14 does not come up, and the end leaves what the one call leaves
-module _ (dossier register : List ℕ) (size sender : ℕ) (line staging book table : List ℕ) (c : Counts) (low : sender < 256) (some : 0 < size) (room : most-rows * body-wide ≤ length staging) where
+module _ (dossier register : List ℕ) (size sender form : ℕ) (line staging book table : List ℕ) (c : Counts) (low : sender < 256) (small : form < 4294967296) (some : 0 < size) (room : most-rows * body-wide ≤ length staging) where
   m : Lent
-  m = fedFrom register sender line staging (cut size dossier)
+  m = fedFrom register sender form line staging (cut size dossier)
 
   l : EndLeaves
   l = endLeaves register (m .staging) book table c (m .kept)
@@ -103,22 +104,22 @@ module _ (dossier register : List ℕ) (size sender : ℕ) (line staging book ta
   not-short : numbers (l .outcome .answer) .0 ≡ 14 → ⊥
   unfolding m l
   not-short e =
-      let s = parts-are-whole (cut size dossier) register line staging book table sender c low .1 .0 e in
-      rows-fit (s .1 .0) (length staging) (rows-few register sender (flat (cut size dossier)) (s .1 .0) (s .1 .1) .1) room (s .1 .2)
+      let s = parts-are-whole (cut size dossier) register line staging book table sender form c low small .1 .0 e in
+      rows-fit (s .2 .0) (length staging) (rows-few (formOf form) register sender (flat (cut size dossier)) (s .2 .0) (s .2 .1) .1) room (s .2 .2)
 
   pub as-whole : (r : Outcome) (kept₁ kept₂ line₂ staging₂ book₃ table₃ kept₃ : List ℕ)
-      → kept₁ ≡ begunBy sender
+      → kept₁ ≡ begunBy sender form
       → lent kept₂ line₂ staging₂ ≡ fedParts register (lent kept₁ line staging) (cut size dossier)
       → endWith r book₃ table₃ kept₃ ≡ endLeaves register staging₂ book table c kept₂
-      → leaves r book₃ table₃ ≡ messageLeaves dossier sender register book table c
+      → leaves r book₃ table₃ ≡ messageLeaves dossier sender form register book table c
   unfolding m l
   as-whole r kept₁ kept₂ line₂ staging₂ book₃ table₃ kept₃ e f g =
-      let same = parts-are-whole (cut size dossier) register line staging book table sender c low .0 not-short in
+      let same = parts-are-whole (cut size dossier) register line staging book table sender form c low small .0 not-short in
       let fed : lent kept₂ line₂ staging₂ ≡ m = f ∙ ap (λ (x : List ℕ). fedParts register (lent x line staging) (cut size dossier)) e in
       let at : endWith r book₃ table₃ kept₃ ≡ l = g ∙ ap (λ (x : Lent). endLeaves register (x .staging) book table c (x .kept)) fed in
       leaves-are r (l .outcome) book₃ (l .book) table₃ (l .table) (ap (λ (x : EndLeaves). x .outcome) at) (ap (λ (x : EndLeaves). x .book) at) (ap (λ (x : EndLeaves). x .table) at)
       ∙ leaves-are (l .outcome) _ (l .book) _ (l .table) _ (same .0) (same .1) (same .2)
-      ∙ ap (λ (x : List ℕ). messageLeaves x sender register book table c) (flat-cut size dossier some)
+      ∙ ap (λ (x : List ℕ). messageLeaves x sender form register book table c) (flat-cut size dossier some)
     where
       leaves-are : (o o′ : Outcome) (b b′ t t′ : List ℕ) → o ≡ o′ → b ≡ b′ → t ≡ t′ → leaves o b t ≡ leaves o′ b′ t′
       leaves-are o o′ b b′ t t′ p q u i = record { outcome = p i; book = q i; table = u i }

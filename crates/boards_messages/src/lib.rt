@@ -38,6 +38,7 @@ fn feed_through(
     dossier: &[u8],
     size: usize,
     sender: u8,
+    form: u32,
     register: &[u8],
     staging: &mut [u8],
     line: &mut [u8; 4096],
@@ -48,9 +49,9 @@ fn feed_through(
 ) -> Outcome
     requires { ⌜ (0 < size) × (most-rows * body-wide ≤ length (now staging)) ⌝ }
     ensures { λ r. ⌜ leaves r (now (book .exit)) (now (table .exit))
-        ≡ messageLeaves (now (dossier .entry)) sender (now (register .entry)) (now (book .entry)) (now (table .entry)) counts ⌝ }
+        ≡ messageLeaves (now (dossier .entry)) sender form (now (register .entry)) (now (book .entry)) (now (table .entry)) counts ⌝ }
 {
-    feeds::begin(kept, sender);
+    feeds::begin(kept, sender, form);
     feed_all(dossier, size, register, staging, line, kept);
     feeds_end::end(register, staging, book, table, counts, kept)
 }
@@ -62,6 +63,7 @@ fn in_parts(
     dossier: &[u8],
     size: usize,
     sender: u8,
+    form: u32,
     register: &[u8],
     book: &mut [u8],
     table: &mut [u8],
@@ -69,7 +71,7 @@ fn in_parts(
 ) -> Outcome
     requires { ⌜ 0 < size ⌝ }
     ensures { λ r. ⌜ leaves r (now (book .exit)) (now (table .exit))
-        ≡ messageLeaves (now (dossier .entry)) sender (now (register .entry)) (now (book .entry)) (now (table .entry)) counts ⌝ }
+        ≡ messageLeaves (now (dossier .entry)) sender form (now (register .entry)) (now (book .entry)) (now (table .entry)) counts ⌝ }
 {
     let mut staging = [0u8; STAGING];
     let mut line = [0u8; 4096];
@@ -78,6 +80,7 @@ fn in_parts(
         dossier,
         size,
         sender,
+        form,
         register,
         &mut staging,
         &mut line,
@@ -88,21 +91,22 @@ fn in_parts(
     )
 }
 
-// A message, by one call where `size` is 0, else fed in parts of `size` bytes: whichever it is, the rule of the one call.
+// A message in the form that is stated, by one call where `size` is 0, else fed in parts of `size` bytes: whichever it is, the rule of the one call.
 pub fn take(
     dossier: &[u8],
     size: usize,
     sender: u8,
+    form: u32,
     register: &[u8],
     book: &mut [u8],
     table: &mut [u8],
     counts: Counts,
 ) -> Outcome
     ensures { λ r. ⌜ leaves r (now (book .exit)) (now (table .exit))
-        ≡ messageLeaves (now (dossier .entry)) sender (now (register .entry)) (now (book .entry)) (now (table .entry)) counts ⌝ }
+        ≡ messageLeaves (now (dossier .entry)) sender form (now (register .entry)) (now (book .entry)) (now (table .entry)) counts ⌝ }
 {
     if size == 0 {
-        return messages::message(dossier, sender, register, book, table, counts);
+        return messages::message(dossier, sender, form, register, book, table, counts);
     }
-    in_parts(dossier, size, sender, register, book, table, counts)
+    in_parts(dossier, size, sender, form, register, book, table, counts)
 }

@@ -28,7 +28,7 @@ same-length-2 : tie.Need-same-length-2
 same-length-2 c = search needs
 
 returns : tie.Need-returns
-returns c = let a = c .before .before .before .before .before .before .before .before .before .before .before .before .before .before .before .before .args in let o = c .before .before .before .before .before .before .take in left-is (o .result) _ _ _ (a .held) (c .told .result) (state (a .held) (a .register .now) (a .book .now) (a .table .now)) refl (c .told .ensures) (o .ensures ∙ ap (λ (x : List ℕ). messageLeaves (a .dossier .now) (a .sender) x (a .book .now) (a .table .now) (a .held .counts)) (c .before .before .before .before .before .before .before .before .before .front .ensures))
+returns c = let a = c .before .before .before .before .before .before .before .before .before .before .before .before .before .before .before .before .args in let o = c .before .before .before .before .before .before .take in left-is (o .result) _ _ _ (a .held) (c .told .result) (state (a .held) (a .register .now) (a .book .now) (a .table .now)) refl (c .told .ensures) (o .ensures ∙ ap (λ (x : List ℕ). messageLeaves (a .dossier .now) (a .sender) (a .form) x (a .book .now) (a .table .now) (a .held .counts)) (c .before .before .before .before .before .before .before .before .before .front .ensures))
 
 pub send-spec : {M : Type 1} → statement M
 send-spec =

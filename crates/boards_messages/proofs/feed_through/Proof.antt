@@ -30,7 +30,7 @@ returns c =
     let b = c .before .before .before .before .before .before .before .before .before .before .before .before .before .before .before .begin in
     let f = c .before .before .before .before .before .before .before .before .before .before .before .feed-all in
     let e = c .before .before .before .before .end in
-    as-whole (a .dossier .now) (a .register .now) (a .size) (a .sender) (a .line .now) (a .staging .now) (a .book .now) (a .table .now) (a .counts) (omega (arith, s .fits .sender)) (s .pre .0) (s .pre .1)
+    as-whole (a .dossier .now) (a .register .now) (a .size) (a .sender) (a .form) (a .line .now) (a .staging .now) (a .book .now) (a .table .now) (a .counts) (omega (arith, s .fits .sender)) (omega (arith, s .fits .form)) (s .pre .0) (s .pre .1)
     (e .result) (b .last .0) (f .last .1 .1 .1 .1 .1 .0) (f .last .1 .1 .1 .1 .0) (f .last .1 .1 .1 .0) (e .last .1 .1 .0) (e .last .1 .1 .1 .0) (e .last .1 .1 .1 .1 .1 .0)
     (b .ensures) (f .ensures) (e .ensures .0)
 

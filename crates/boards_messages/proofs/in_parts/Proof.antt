@@ -20,10 +20,10 @@ feed-through-requires : tie.Need-feed-through-requires
 feed-through-requires c κs = (c .before .before .before .before .before .before .before .before .before .pre, made-room (most-rows * body-wide) (most-rows * body-wide) all-rows)
 
 same-length : tie.Need-same-length
-same-length c = c .before .before .before .before .before .feed-through .kept .1 .1 .1 .1 .1 .1 .1 .0
+same-length c = c .before .before .before .before .before .feed-through .kept .1 .1 .1 .1 .1 .1 .1 .1 .0
 
 same-length-2 : tie.Need-same-length-2
-same-length-2 c = c .before .before .before .before .before .feed-through .kept .1 .1 .1 .1 .1 .1 .1 .1 .0
+same-length-2 c = c .before .before .before .before .before .feed-through .kept .1 .1 .1 .1 .1 .1 .1 .1 .1 .0
 
 returns : tie.Need-returns
 returns c = c .before .before .before .before .before .feed-through .ensures
