@@ -87,7 +87,17 @@ fn send_from(
         return boards_deeds::bad(line, 2, boards_orders::UNREADABLE, held);
     };
     let dossier = script_text::front(paper, n);
-    boards_deeds::send(line, dossier, sender, size, form, register, book, table, held)
+    boards_deeds::send(
+        line,
+        dossier,
+        sender,
+        size,
+        form,
+        register,
+        book,
+        table,
+        held,
+    )
 }
 
 // In the form that is stated, in parts of `size` bytes, or whole where that is 0.
@@ -104,7 +114,17 @@ fn send(
     ensures { λ r. ⌜ Sends sender form (state held (now (register .entry)) (now (book .entry)) (now (table .entry))) (state r (now (register .entry)) (now (book .exit)) (now (table .exit))) ⌝ }
 {
     let mut paper = [0u8; PAPER];
-    send_from(line, sender, size, form, &mut paper, register, book, table, held)
+    send_from(
+        line,
+        sender,
+        size,
+        form,
+        &mut paper,
+        register,
+        book,
+        table,
+        held,
+    )
 }
 
 // ---- Questions, which change nothing.
@@ -235,7 +255,16 @@ fn perform(
         Order::Registered => list_pairs(line, register, held),
         Order::Save => save(line, register, book, table, held),
         Order::Load => load_day(line, register, book, table, held),
-        Order::Parts(sender, size, form) => send(line, sender, size, form, register, book, table, held),
+        Order::Parts(sender, size, form) => send(
+            line,
+            sender,
+            size,
+            form,
+            register,
+            book,
+            table,
+            held,
+        ),
         Order::Bad(k, why) => boards_deeds::bad(line, k, why, held),
     }
 }
