@@ -74,6 +74,7 @@ number-accepted Answers.KeyTwice h = absurd (omega (arith, h))
 number-accepted Answers.NoMessage h = absurd (omega (arith, h))
 number-accepted Answers.AlreadyWithdrawn h = absurd (omega (arith, h))
 number-accepted Answers.OtherSender h = absurd (omega (arith, h))
+number-accepted Answers.UnknownForm h = absurd (omega (arith, h))
 
 number-refused : (a : Answer) → (numbers a .0 ≡ 0 → ⊥) → isAccepted a ≡ false
 number-refused (Answers.Accepted n) h = absurd (h refl)
@@ -91,6 +92,7 @@ number-refused Answers.KeyTwice h = refl
 number-refused Answers.NoMessage h = refl
 number-refused Answers.AlreadyWithdrawn h = refl
 number-refused Answers.OtherSender h = refl
+number-refused Answers.UnknownForm h = refl
 
 pub told-accepted : (o : Outcome) (h : Held) (f : Four) → f ≡ fourOf (numbers (o .answer)) → f .number ≡ 0
     → record { counts = o .counts; register = h .register; day = true; line = h .line; bad = h .bad; refused = h .refused } ≡ holding o h
