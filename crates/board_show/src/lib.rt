@@ -1,4 +1,6 @@
 // What a board may be asked, and the show rule: whether a passage is shown at a stop, and at which moment of the clock it departs.
+#![tactic(auto)]
+
 ghost use Rattle.std.specs.Prelude.{◌≡◌, true, ◌+◌, ◌≤◌, length};
 ghost use Rattle.lists.specs.Part.{part};
 ghost use Rattle.lists.specs.Text.{same};

@@ -1,4 +1,6 @@
 // The correction desk's program: does what scripts say, a command a line, and prints each answer and each board.
+#![tactic(auto)]
+
 mod files;
 mod script;
 

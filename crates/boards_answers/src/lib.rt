@@ -1,4 +1,6 @@
 // What a call answered, in words: an acceptance with what it changed, a refusal with what can be done about it. The call's numbers are given; what else is said is worked out by `boards_reasons` and `boards_keys`. Each function prints; nothing comes back and nothing is changed.
+#![tactic(auto)]
+
 use calls::{Counts, Four, Outcome};
 use columns::Table;
 

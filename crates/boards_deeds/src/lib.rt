@@ -1,4 +1,6 @@
 // What a command does once its files are read: what it leaves of the day's bytes, and of what is held between two lines. Each answer is printed.
+#![tactic(auto)]
+
 ghost use Rattle.std.specs.Prelude.{◌≡◌, ℕ, List};
 ghost use Rattle.script_text.specs.Rules.{word_at};
 ghost use Rattle.boards_deeds.specs.Deeds.{state, missed, declined, next_line, holding, enrolled_held, enrolled_register, opened_by, sent, withdrawn_by, asked_by, loaded_held, loaded_from};

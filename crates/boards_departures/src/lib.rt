@@ -1,4 +1,6 @@
 // The departures that a line of the script asks for: asked of the table, and printed, or why they are not. Nothing is changed.
+#![tactic(auto)]
+
 ghost use Rattle.std.specs.Prelude.{◌≡◌, ◌*◌, ◌<◌};
 ghost use Rattle.boards_departures.specs.Shown.{is_listed, is_shown};
 

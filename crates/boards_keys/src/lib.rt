@@ -1,4 +1,6 @@
 // Why an opening is refused by 9: which key arises twice. The plan's passages are worked out once more, since a refused opening leaves none. The refusal is printed; nothing comes back and nothing is changed.
+#![tactic(auto)]
+
 use reader::Reading;
 
 // Room for the pass times of any planning, the validities of any calendar, and as many passages as a book takes.

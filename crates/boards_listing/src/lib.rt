@@ -1,5 +1,6 @@
 // What the desk has listed: the day's messages, the registered pairs. Each function prints; nothing comes back and nothing is changed.
 // ---- The day's messages.
+#![tactic(auto)]
 
 // What stands behind the plan entries: the updates.
 fn behind_plans<'a>(used: &'a [u8]) -> &'a [u8] {

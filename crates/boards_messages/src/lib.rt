@@ -1,4 +1,6 @@
 // A message at the desk: whole, or fed in parts of so many bytes. What is left is the same.
+#![tactic(auto)]
+
 ghost use Rattle.std.specs.Prelude.{◌≡◌, ◌*◌, ◌≤◌, ◌<◌, length};
 ghost use Rattle.passage.specs.Layout.{body_wide};
 ghost use Rattle.calls.specs.Leaves.{leaves};

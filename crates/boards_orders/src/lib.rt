@@ -1,4 +1,6 @@
 // What a line of the script asks, or what is wrong with it.
+#![tactic(auto)]
+
 ghost use Rattle.std.specs.Prelude.{◌≡◌};
 ghost use Rattle.boards_orders.specs.Orders.{command_of, number_word, date_word, time_word, has_words, is_whole, is_of_day, is_silent, places_at, form_at, register_order, message_order, parts_order, withdraw_order, board_order, wants, order_by, commanded, order_in};
 

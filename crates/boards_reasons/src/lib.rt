@@ -1,4 +1,6 @@
 // Why a call refused a dossier, refusals 3 to 6: what stands in it at the places that the call answered. Each function prints the refusal; nothing comes back and nothing is changed.
+#![tactic(auto)]
+
 ghost use Rattle.std.specs.Prelude.{◌≤◌, ◌≡◌};
 ghost use Rattle.turbo.specs.Split.{fields};
 ghost use Rattle.columns.specs.Tables.{names};

@@ -1,4 +1,6 @@
 // A day as a file: sixteen bytes of name and version, three numbers, then the used bytes of register, book and table. Any bytes may stand in a file; only a sound day is taken from one.
+#![tactic(auto)]
+
 ghost use Rattle.std.specs.Prelude.{◌≡◌, ◌+◌, ◌*◌, ◌≤◌, length};
 ghost use Rattle.lists.specs.Part.{over};
 ghost use Rattle.script_text.specs.Rules.{appended};

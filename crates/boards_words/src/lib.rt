@@ -1,4 +1,6 @@
 // Lines as the desk reads them. A line is put together in a page and written by one write; nothing comes back and nothing lent is changed.
+#![tactic(auto)]
+
 use libc::STDOUT_FILENO;
 
 // ---- A page, and what a mark in it stands for.

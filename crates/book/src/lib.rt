@@ -1,4 +1,6 @@
 // The day book: how entries lie in its bytes, their split, order and ranges, and whether it is sound. `book_write` writes entries, `book_find` finds them.
+#![tactic(auto)]
+
 ghost use Rattle.std.specs.Prelude.{◌≡◌, true, ◌&&◌, map, ◌+◌, ◌*◌, ◌≤◌, length, drop};
 ghost use Rattle.lists.specs.Part.{part};
 ghost use Rattle.lists.specs.Rows.{rows_of};

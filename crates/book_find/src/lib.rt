@@ -1,4 +1,6 @@
 // What is found in a book: where a message stands among the updates, and the plan of a key. It writes nothing into the book.
+#![tactic(auto)]
+
 ghost use Rattle.std.specs.Prelude.{◌≡◌, true, map, ◌+◌, ◌*◌, ◌≤◌, length, drop};
 ghost use Rattle.lists.specs.Part.{part, over, some};
 ghost use Rattle.lists.specs.Rows.{rows_of};

@@ -1,4 +1,6 @@
 // What is written into a book: entries into its free tail, those of a plan or of a message with the next number, and the kind of a withdrawn message's.
+#![tactic(auto)]
+
 ghost use Rattle.std.specs.Prelude.{◌≡◌, true, map, ◌+◌, ◌*◌, ◌≤◌, length, drop};
 ghost use Rattle.lists.specs.Part.{part, over};
 ghost use Rattle.lists.specs.Rows.{rows_of, flat};

@@ -1,4 +1,6 @@
 // What the calls answer: their answers, and in specs/ the rules of open, message and withdraw.
+#![tactic(auto)]
+
 ghost use Rattle.std.specs.Prelude.{◌≡◌};
 ghost use Rattle.calls.specs.declared.Answer.TheVariants.{Accepted};
 ghost use Rattle.calls.specs.Answers.{numbers};

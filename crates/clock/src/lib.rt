@@ -1,5 +1,7 @@
 // Dates and moments as numbers: a date is YYYYMMDD, a moment counts seconds from 2000-01-01, and every day has 86,400 of them. A time of an
 // operating day, which goes on past midnight, becomes a moment through its date, and a moment is read back as a date and a second.
+#![tactic(auto)]
+
 ghost use Rattle.std.specs.Prelude.{◌≡◌, true, ◌*◌, ◌<◌};
 ghost use Rattle.clock.specs.Date.{days_in, is_date};
 ghost use Rattle.clock.specs.Moment.{month_start, month_of, day_count, moment_of, date_on, date_at, second_at};

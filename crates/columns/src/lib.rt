@@ -1,4 +1,6 @@
 // The wanted tables' columns as data: how many there are, each one's kind, and where its cell stands in a row. What a field gives is a rule here; `columns_cells` writes it.
+#![tactic(auto)]
+
 ghost use Rattle.std.specs.Prelude.{◌≡◌, ◌+◌, ◌*◌, ◌≤◌, ◌<◌};
 ghost use Rattle.columns.specs.Tables.{row_width, is_form, form_of};
 ghost use Rattle.columns.specs.Layout.{wanted, kind_at, optional_at, offset};

@@ -1,4 +1,6 @@
 // The cell that a field gives, written into a row: the bytes that are kept of it. First a number, a text and a time, then any cell by its column's kind.
+#![tactic(auto)]
+
 ghost use Rattle.std.specs.Prelude.{◌≡◌, ◌+◌, ◌≤◌, ◌<◌, length};
 ghost use Rattle.lists.specs.Part.{over, some};
 ghost use Rattle.turbo_labels.specs.Columns.{field_under};

@@ -1,4 +1,6 @@
 // An answer of a call on the day as the six numbers that the C face gives: which stands where says include/desk.h.
+#![tactic(auto)]
+
 ghost use Rattle.std.specs.Prelude.{◌≡◌, [], ◌∷◌};
 ghost use Rattle.desk_answers.specs.Answered.{outcome_number, answered};
 

@@ -1,4 +1,6 @@
 // The C face of boards. A board's answer is three numbers; include/desk.h says which.
+#![tactic(auto)]
+
 ghost use Rattle.std.specs.Prelude.{◌≡◌, [], ◌∷◌};
 ghost use Rattle.board_show.specs.Ask.{asked};
 ghost use Rattle.board.specs.Rules.{board_leaves};

@@ -1,4 +1,6 @@
 // The C face of a day: open, message and withdraw over plain numbers and lent memory. An answer is six numbers; include/desk.h says which.
+#![tactic(auto)]
+
 ghost use Rattle.std.specs.Prelude.{◌≡◌, take};
 ghost use Rattle.calls.specs.Leaves.{counts_of};
 ghost use Rattle.calls.specs.Open.{open_leaves};

@@ -1,4 +1,6 @@
 // The C face of messages that come in parts: begin, feed and end over plain numbers and lent memory. include/desk.h says what the numbers are.
+#![tactic(auto)]
+
 ghost use Rattle.std.specs.Prelude.{◌≡◌, take};
 ghost use Rattle.calls.specs.Leaves.{counts_of};
 ghost use Rattle.calls.specs.End.{end_leaves};

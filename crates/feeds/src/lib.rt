@@ -1,4 +1,6 @@
 // A dossier that comes in parts: what is kept between two parts, as numbers that the caller lends, and in specs/ what each byte changes in it.
+#![tactic(auto)]
+
 ghost use Rattle.std.specs.Prelude.{◌≡◌, true, ◌<◌, ◌≤◌, length, drop, get_or};
 ghost use Rattle.lists.specs.Part.{part, over};
 ghost use Rattle.columns.specs.declared.Table.TheVariants.{Message};

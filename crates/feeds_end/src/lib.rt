@@ -1,4 +1,6 @@
 // The end of a dossier that came in parts: the staged rows are taken whole, as a message, or refused whole.
+#![tactic(auto)]
+
 ghost use Rattle.std.specs.Prelude.{◌≡◌, true, ◌&&◌, ◌||◌, map, ◌*◌, ◌/◌, ◌≤◌, leb, ltb, length};
 ghost use Rattle.lists.specs.Part.{part};
 ghost use Rattle.lists.specs.Rows.{rows_of};

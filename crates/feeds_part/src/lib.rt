@@ -1,4 +1,6 @@
 // A part of a dossier is fed: its bytes are scanned once, its lines read where they lie, and what is left of the last is held for the next part.
+#![tactic(auto)]
+
 ghost use Rattle.std.specs.Prelude.{◌≡◌, ◌+◌, ◌-◌, ◌≤◌, ◌<◌, ltb, length, take};
 ghost use Rattle.lists.specs.Logic.{on};
 ghost use Rattle.lists.specs.Part.{over};

@@ -1,1 +1,2 @@
 // A dossier in parts against the whole one: statements in specs/, theorems in proofs/. There is no code here.
+#![tactic(auto)]

@@ -1,5 +1,7 @@
 // What a field's bytes mean by its type: numbers (N#), times (T), dates (D), stamps (U), and the types whose values are a few words, each with its code.
 // A reader is lent the field, a part of the line, and copies nothing.
+#![tactic(auto)]
+
 ghost use Rattle.std.specs.Prelude.{◌≡◌, true, ◌≤◌, ◌<◌};
 ghost use Rattle.clock.specs.Date.{is_date};
 ghost use Rattle.field_types.specs.Digits.{numeral, triple_of, triple};

@@ -1,4 +1,6 @@
 // The order of keys, whether the keys of rows rise, and where a key stands among rows, of any width and with their keys at any offset: table and plan are such rows.
+#![tactic(auto)]
+
 ghost use Rattle.std.specs.Prelude.{◌≡◌, true, map, ◌+◌, ◌*◌, ◌-◌, ◌≤◌, length};
 ghost use Rattle.lists.specs.Part.{part};
 ghost use Rattle.lists.specs.Rows.{rows_of};

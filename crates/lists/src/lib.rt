@@ -1,4 +1,5 @@
 // Moves and comparisons of bytes in lent slices, over any width, and numbers as bytes.
+#![tactic(auto)]
 
 ghost use Rattle.std.specs.Prelude.{◌≡◌, ◌+◌, ◌-◌, ◌≤◌, length, replicate};
 ghost use Rattle.lists.specs.Text.{same};

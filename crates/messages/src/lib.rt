@@ -1,4 +1,6 @@
 // Message: a dossier from a sender, taken whole into book and table or refused whole.
+#![tactic(auto)]
+
 ghost use Rattle.std.specs.Prelude.{◌≡◌, true, ◌+◌, ◌*◌, ◌≤◌, length};
 ghost use Rattle.lists.specs.Rows.{rows_of};
 ghost use Rattle.passage.specs.Layout.{body_wide};

@@ -1,5 +1,7 @@
 // Updates taken into the table, one after another, and only where their rows fit. Where there could be too many, the keys that are missing are counted, and only if those
 // are too many is it tried on a copy.
+#![tactic(auto)]
+
 ghost use Rattle.std.specs.Prelude.{◌≡◌, true, [], ◌+◌, ◌*◌, ◌≤◌, leb, length};
 ghost use Rattle.lists.specs.Part.{part};
 ghost use Rattle.lists.specs.Rows.{rows_of, insert_at, store};

@@ -1,4 +1,6 @@
 // Open: a planning and a calendar dossier become the plan, in book and table.
+#![tactic(auto)]
+
 ghost use Rattle.std.specs.Prelude.{◌≡◌, ◌*◌, ◌≤◌, length};
 ghost use Rattle.lists.specs.Rows.{rows_of};
 ghost use Rattle.reader.specs.Passes.{pass_wide, validity_wide};

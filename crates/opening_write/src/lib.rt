@@ -1,4 +1,6 @@
 // The plan's bodies by key, into book and table: the last steps of open.
+#![tactic(auto)]
+
 ghost use Rattle.std.specs.Prelude.{◌≡◌, map, ℕ, ◌+◌, ◌*◌, ◌≤◌, ◌<◌, length, take};
 ghost use Rattle.lists.specs.Each.{Each};
 ghost use Rattle.lists.specs.Part.{part, over};

@@ -1,5 +1,7 @@
 // How a passage lies in bytes, and whether an update's body, a plan entry's and a row of the table are in range. What they have in common is tested first, all rows
 // in one loop; then each by itself.
+#![tactic(auto)]
+
 ghost use Rattle.std.specs.Prelude.{◌≡◌, true, map, ◌+◌, ◌*◌, ◌≤◌, ◌<◌, length, get_or, drop};
 ghost use Rattle.lists.specs.Part.{part};
 ghost use Rattle.lists.specs.Rows.{rows_of};

@@ -1,4 +1,6 @@
 // The plan: each pass time of a planning joins each validity of a calendar that has the same owner and service level, and gives a plan passage on its date.
+#![tactic(auto)]
+
 ghost use Rattle.std.specs.Prelude.{◌≡◌, ◌+◌, ◌-◌, ◌*◌, ◌≤◌, ◌<◌, length, take, drop};
 ghost use Rattle.lists.specs.Text.{same};
 ghost use Rattle.lists.specs.Part.{part, over};

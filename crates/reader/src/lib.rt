@@ -1,4 +1,6 @@
 // The reader of turbo dossiers: from any bytes to rows in a staging area, or the refusal that document 01 gives. It knows nothing of boards.
+#![tactic(auto)]
+
 ghost use Rattle.std.specs.Prelude.{◌≡◌, [], ◌+◌, ◌≤◌, ◌<◌, length};
 ghost use Rattle.turbo_lines.specs.Lines.{lines, first_long};
 ghost use Rattle.reader.specs.declared.Reading.TheVariants.{Form};

@@ -1,4 +1,6 @@
 // One line of a dossier at a time: what is kept of the lines so far, and what a line changes in it and in the staging area. It asks for no line before or behind, so lines may come one by one.
+#![tactic(auto)]
+
 ghost use Rattle.std.specs.Prelude.{◌≡◌, ◌≤◌, ◌<◌, length};
 ghost use Rattle.rows.specs.Shape.{IsShape};
 ghost use Rattle.lists.specs.Text.{same};

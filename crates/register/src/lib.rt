@@ -1,4 +1,6 @@
 // The register: pairs of a sender and an owner whose passages it may send. Every message asks it, and it needs no more of a passage than how wide an owner is.
+#![tactic(auto)]
+
 ghost use Rattle.std.specs.Prelude.{◌≡◌, ◌∷◌, ◌+◌, ◌≤◌, length};
 ghost use Rattle.lists.specs.Text.{same};
 ghost use Rattle.lists.specs.Part.{part};

@@ -1,4 +1,6 @@
 // What the programs do with the text that they are given: its lines, words, parts and numbers, and bytes put behind others. A part that is handed back is the caller's own bytes.
+#![tactic(auto)]
+
 ghost use Rattle.std.specs.Prelude.{◌≡◌, false, [], ◌∷◌, ◌+◌, ◌-◌, ◌*◌, ◌%◌, ◌≤◌, ◌<◌, min, length, take, drop, get_or, replicate};
 ghost use Rattle.lists.specs.Part.{over};
 ghost use Rattle.turbo.specs.Split.{until, past};

@@ -1,4 +1,6 @@
 // The form of a turbo dossier: the states of a machine that reads it, and a check of a whole dossier that looks closely at loud bytes alone.
+#![tactic(auto)]
+
 ghost use Rattle.std.specs.Prelude.{◌≡◌, Bool, true, false, ◌+◌, ◌≤◌, ◌<◌, length, drop, get_or};
 ghost use Rattle.syntax.specs.inner.Quiet.{loud, quiet_for, fresh_at};
 ghost use Rattle.syntax.specs.declared.Kind.{Kind};

@@ -1,4 +1,6 @@
 // A turbo dossier's form for a reader that gets it byte by byte.
+#![tactic(auto)]
+
 ghost use Rattle.std.specs.Prelude.{◌≡◌};
 ghost use Rattle.syntax.specs.Machine.{field_step, escape_step, first_escape_step, null_step, return_step, slash_step, start_step, mark_step, step, accepting};
 

@@ -1,4 +1,6 @@
 // A part of a turbo dossier read from any state of the machine on, for a reader that gets a dossier in parts.
+#![tactic(auto)]
+
 ghost use Rattle.std.specs.Prelude.{◌≡◌, true, ◌≤◌, ◌<◌, length, drop};
 ghost use Rattle.syntax.specs.declared.State.TheVariants.{Open};
 ghost use Rattle.syntax.specs.inner.Scan.{in_text};

@@ -1,5 +1,7 @@
 // The table: rows of passages, sorted by key, in lent bytes. How many there is room for, whether they are sound, where a key stands, and a row put in, replaced or
 // taken out. It knows rows by their keys, and not what an update does to one.
+#![tactic(auto)]
+
 ghost use Rattle.std.specs.Prelude.{◌≡◌, true, map, ◌*◌, ◌≤◌, ◌+◌, ◌<◌, length, set};
 ghost use Rattle.passage.specs.Layout.{row_wide, body_of, key_wide};
 ghost use Rattle.table.specs.Rules.{rows, table_room, all_in_range, table_sound};

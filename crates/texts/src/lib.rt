@@ -1,4 +1,6 @@
 // Texts that are kept of a dossier's fields, decoded and padded. A reader is lent the field and gives a copy, or, where there is no escape, writes it where it is kept.
+#![tactic(auto)]
+
 ghost use Rattle.std.specs.Prelude.{◌≡◌, false, [], ◌+◌, ◌≤◌, length};
 ghost use Rattle.lists.specs.Part.{over};
 ghost use Rattle.texts.specs.Texts.{padded, text_given, text};

@@ -1,4 +1,6 @@
 // The walk over a line: escapes, where a byte stands, the fields as parts of the lent bytes, and how many there are. A dossier's lines are `turbo_lines`.
+#![tactic(auto)]
+
 ghost use Rattle.std.specs.Prelude.{◌≡◌, false, ℕ, ◌+◌, ◌≤◌, ◌<◌, length, drop, get_or};
 ghost use Rattle.turbo.specs.Escape.{escaped};
 ghost use Rattle.turbo.specs.Split.{until, past, field_at, tail_at, fields};

@@ -1,4 +1,6 @@
 // The search for column names in a label line: one name, or all that a table's reader wants. It stands above the walk over lines and fields, which it calls.
+#![tactic(auto)]
+
 ghost use Rattle.std.specs.Prelude.{◌≡◌, ◌≤◌, ◌<◌, length, get_or};
 ghost use Rattle.turbo.specs.Split.{until, fields};
 ghost use Rattle.turbo_labels.specs.Columns.{column_of, field_under, columns_of, most};

@@ -1,4 +1,6 @@
 // The walk over a dossier by lines, as parts of the lent bytes, lines that are too long, and a line's mark.
+#![tactic(auto)]
+
 ghost use Rattle.std.specs.Prelude.{◌≡◌, ◌+◌, ◌≤◌, ◌<◌, length, drop};
 ghost use Rattle.turbo.specs.Split.{until, past};
 ghost use Rattle.turbo_lines.specs.Lines.{lines, first_long, letter, mark_of, after_mark};

@@ -1,5 +1,7 @@
 // The row rule: what an update does to a passage. All but the key becomes the update's, the status moves by the BISON table, an optional that is absent keeps what is held,
 // and heard becomes 1. The only room that knows which field does what.
+#![tactic(auto)]
+
 ghost use Rattle.std.specs.Prelude.{◌≡◌, ◌+◌, ◌≤◌, length};
 ghost use Rattle.lists.specs.Part.{part, over};
 ghost use Rattle.passage.specs.Layout.{body_wide, row_wide};

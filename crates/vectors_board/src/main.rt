@@ -1,4 +1,6 @@
 // Asks the boards that standard input asks for, a line each, and prints what is answered and every lent place.
+#![tactic(auto)]
+
 mod lines;
 mod say;
 

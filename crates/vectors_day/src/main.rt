@@ -1,4 +1,6 @@
 // Runs the calls that standard input asks for, a line each, and prints what they answer and what they leave.
+#![tactic(auto)]
+
 mod held;
 mod lines;
 mod say;

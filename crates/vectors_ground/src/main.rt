@@ -1,4 +1,6 @@
 // Runs vectors, good and damaged, through the public functions of the crates that read a dossier, and prints what they answer.
+#![tactic(auto)]
+
 mod damage;
 mod days;
 mod form;

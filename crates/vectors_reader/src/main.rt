@@ -1,4 +1,6 @@
 // Runs the dossiers of standard input, good and at fault, through the readers, and prints what is answered and what is staged.
+#![tactic(auto)]
+
 mod lines;
 mod say;
 mod spell;

@@ -1,4 +1,6 @@
 // Withdraw: a message's entries become kind 3, and each passage that they name is worked out again from the book.
+#![tactic(auto)]
+
 ghost use Rattle.std.specs.Prelude.{◌≡◌, true, map, ◌+◌, ◌*◌, ◌≤◌, length};
 ghost use Rattle.book.specs.Entries.{entry_wide};
 ghost use Rattle.book.specs.Rules.{book_sound};

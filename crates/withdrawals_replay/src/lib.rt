@@ -1,5 +1,7 @@
 // The passages that a message names, worked out again from the book: a slot for each, with its row or that there is none, begun from the plan, changed by the standing
 // updates of the other messages, and taken into the table's rows.
+#![tactic(auto)]
+
 ghost use Rattle.std.specs.Prelude.{◌≡◌, true, ◌∷◌, map, [], ℕ, ◌+◌, ◌*◌, ◌≤◌, ◌<◌, leb, length, take, drop};
 ghost use Rattle.lists.specs.Each.{Each};
 ghost use Rattle.lists.specs.Part.{part, over};
