@@ -13,7 +13,7 @@ ghost use Rattle.board_show.specs.Ask.{asked, asks_in_range};
 use clock::{ClockSeconds, OperatingSeconds};
 
 // Whether a row is shown, and if so its departure moment.
-#[derive(Drop)]
+#[derive(Clone, Copy)]
 pub enum Shown {
     At(ClockSeconds),
     Hidden,

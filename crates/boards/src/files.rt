@@ -1,7 +1,7 @@
 // Files.
 
 // What a file gave: so many bytes, or that it cannot be read.
-#[derive(Drop)]
+#[derive(Clone, Copy)]
 pub enum Loaded {
     Bytes(usize),
     Unreadable,
@@ -70,7 +70,7 @@ pub fn store(
 
 // ---- A script's lines, one read a byte: so each is done as it comes, and what follows it is left to whoever reads on.
 
-#[derive(Drop)]
+#[derive(Clone, Copy)]
 pub enum Line {
     Whole(usize),
     Long,
@@ -78,7 +78,7 @@ pub enum Line {
     Failed,
 }
 
-#[derive(Drop)]
+#[derive(Clone, Copy)]
 enum Byte {
     Is(u8),
     End,

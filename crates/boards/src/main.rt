@@ -27,7 +27,7 @@ fn line_behind<'a>(line: &'a [u8], others: u32) -> &'a [u8] {
 }
 
 // What is held behind a line, and whether the script goes on.
-#[derive(Drop)]
+#[derive(Clone, Copy)]
 struct Behind {
     held: Held,
     more: bool,

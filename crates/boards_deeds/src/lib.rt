@@ -9,7 +9,7 @@ use boards_saved::Saved;
 use calls::{Counts, Outcome};
 
 // What is kept between two lines: the counts, how much of the register is used, whether a day is open; and of the script the line's number, how many lines were not done and how many were refused.
-#[derive(Drop)]
+#[derive(Clone, Copy)]
 pub struct Held {
     pub counts: Counts,
     pub register: usize,

@@ -7,7 +7,7 @@ ghost use Rattle.boards_orders.specs.Orders.{command_of, number_word, date_word,
 use field_types::Number;
 
 // What a line asks, with the numbers in it; its words and files are read when it is done. `Bad` has the place of the word that is wrong, and why.
-#[derive(Drop)]
+#[derive(Clone, Copy)]
 pub enum Order {
     Nothing,
     Open,

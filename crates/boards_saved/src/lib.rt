@@ -25,7 +25,7 @@ const TABLE: usize = table::MOST_ROWS * passage::ROW_WIDE;
 pub const MOST_BYTES: usize = HEADING_WIDE + register::MOST_BYTES + book::MOST_BYTES + TABLE;
 
 // What a file gives: a day with so many bytes of register and book used and so many rows, or none.
-#[derive(Drop)]
+#[derive(Clone, Copy)]
 pub enum Saved {
     Day(u32, u32, u32),
     Other,

@@ -13,7 +13,7 @@ ghost use Rattle.book_find.specs.inner.Held.{leading_of, held_as};
 use keys::Found;
 
 // Where a message stands: the place of its first entry among the updates, and how many follow each other.
-#[derive(Drop)]
+#[derive(Clone, Copy)]
 pub enum Held {
     Nowhere,
     At(usize, usize),

@@ -10,7 +10,7 @@ ghost use Rattle.calls.specs.inner.Steps.{four_of, passed_of};
 use reader::Reading;
 
 // What a call answers. `dossier` is 1 for the planning, 2 for the calendar, 0 for a message.
-#[derive(Drop)]
+#[derive(Clone, Copy)]
 pub enum Answer {
     Accepted(u32),
     Unsound,
@@ -31,14 +31,14 @@ pub enum Answer {
 }
 
 // Used bytes of the book, rows of the table.
-#[derive(Drop)]
+#[derive(Clone, Copy)]
 pub struct Counts {
     pub used: usize,
     pub rows: usize,
 }
 
 // An answer, and the counts to pass on.
-#[derive(Drop)]
+#[derive(Clone, Copy)]
 pub struct Outcome {
     pub answer: Answer,
     pub counts: Counts,
@@ -62,7 +62,7 @@ pub fn accepted(number: u32, used: usize, rows: usize) -> Outcome
 }
 
 // What comes of a dossier that was read: on with so many rows, or off with a refusal.
-#[derive(Drop)]
+#[derive(Clone, Copy)]
 pub enum Next {
     On(usize),
     Off(Answer),
@@ -84,7 +84,7 @@ pub fn passed(reading: Reading, dossier: u8) -> Next
 }
 
 // An answer by document 01's numbers: the number, two values besides, and which dossier; 0 where there is none.
-#[derive(Drop)]
+#[derive(Clone, Copy)]
 pub struct Four {
     pub number: u32,
     pub value: usize,

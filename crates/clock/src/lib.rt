@@ -7,11 +7,11 @@ ghost use Rattle.clock.specs.Date.{days_in, is_date};
 ghost use Rattle.clock.specs.Moment.{month_start, month_of, day_count, moment_of, date_on, date_at, second_at};
 
 // Seconds within an operating day, 0 to 115,199.
-#[derive(Drop)]
+#[derive(Clone, Copy)]
 pub struct OperatingSeconds(pub u32);
 
 // Seconds on the clock since 2000-01-01 00:00:00.
-#[derive(Drop)]
+#[derive(Clone, Copy)]
 pub struct ClockSeconds(pub u32);
 
 // The days of month `m` of year `y`.

@@ -7,14 +7,14 @@ ghost use Rattle.columns.specs.Layout.{wanted, kind_at, optional_at, offset};
 ghost use Rattle.columns.specs.inner.Digit.{digit_of, digit_at, kind_named, kinds_packed};
 
 // The form of a message: the old one, or that of turbo 8.5.
-#[derive(Drop)]
+#[derive(Clone, Copy)]
 pub enum Form {
     Old,
     New,
 }
 
 // The tables that are wanted: of a message, of the planning, of the calendar.
-#[derive(Drop)]
+#[derive(Clone, Copy)]
 pub enum Table {
     Message(Form),
     Planning,
@@ -23,7 +23,7 @@ pub enum Table {
 
 // The kinds of wanted columns: a text, a date, numbers of up to six, two and three digits, a timestamp, a status, two times, a stop type, a bit, a flexible, and in
 // the 8.5 form a yes or no, and how a cancelled journey is shown.
-#[derive(Drop)]
+#[derive(Clone, Copy)]
 pub enum Kind {
     Text,
     Date,

@@ -13,7 +13,7 @@ use syntax::{Kind, State};
 
 // What is kept of the bytes so far. `form` is any number; that it is unknown is answered at the end. `at`: how many they are, one more than the largest dossier standing for any more. `fault`: the first byte at fault, counted from 1;
 // `long`: the first line that is too long; 0 for none. `size`: the bytes of the unfinished line, its CR too. `staged`: how many rows lie in the staging area.
-#[derive(Drop)]
+#[derive(Clone, Copy)]
 pub struct Feed {
     pub sender: u8,
     pub form: u32,
@@ -27,7 +27,7 @@ pub struct Feed {
 }
 
 // Numbers that were read: whether they are those of a begun feed, and the feed; a new one where they are not.
-#[derive(Drop)]
+#[derive(Clone, Copy)]
 pub struct Kept {
     pub begun: bool,
     pub feed: Feed,

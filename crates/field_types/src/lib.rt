@@ -15,7 +15,7 @@ use clock::OperatingSeconds;
 // ---- numbers
 
 // What a field of a number type holds.
-#[derive(Drop)]
+#[derive(Clone, Copy)]
 pub enum Number {
     Is(u32),
     Wrong,
@@ -51,7 +51,7 @@ pub fn read_number(field: &[u8], most: usize) -> Number
 // ---- three numbers with marks between
 
 // Three numbers of a time or a date.
-#[derive(Drop)]
+#[derive(Clone, Copy)]
 enum Triple {
     Three(u32, u32, u32),
     Other,
@@ -95,7 +95,7 @@ fn read_triple(field: &[u8], width: usize, mark: u8) -> Triple
 // ---- times
 
 // What a field of type T holds.
-#[derive(Drop)]
+#[derive(Clone, Copy)]
 pub enum Time {
     Is(OperatingSeconds),
     Wrong,

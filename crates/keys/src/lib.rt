@@ -10,7 +10,7 @@ ghost use Rattle.keys.specs.Keys.{cmp, by_byte};
 ghost use Rattle.keys.specs.declared.Order.TheVariants.{Same};
 ghost use Rattle.keys.specs.Sorted.{is_less, sorted_rows, lookup};
 
-#[derive(Drop)]
+#[derive(Clone, Copy)]
 pub enum Order {
     Less,
     Same,
@@ -18,7 +18,7 @@ pub enum Order {
 }
 
 // Where a key stands, or where its row would be put.
-#[derive(Drop)]
+#[derive(Clone, Copy)]
 pub enum Found {
     At(usize),
     Missing(usize),

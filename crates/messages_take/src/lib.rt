@@ -116,7 +116,7 @@ pub fn take_placed(
 // ---- only where their rows fit
 
 // How many rows there are once updates are taken, or that there would be too many.
-#[derive(Drop)]
+#[derive(Clone, Copy)]
 pub enum Fitted {
     Count(usize),
     TooMany,

@@ -14,7 +14,7 @@ use reader_step::State;
 use syntax::Verdict;
 
 // What a reader answers: refusals 2 to 6 and 15 with their places, or how many rows the dossier has.
-#[derive(Drop)]
+#[derive(Clone, Copy)]
 pub enum Reading {
     TooLong,
     Syntax(usize),

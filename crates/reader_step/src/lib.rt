@@ -15,7 +15,7 @@ use turbo_lines::Mark;
 
 // What is kept of the lines so far. `place`: 0 outside the table, 1 between its `\T` and `\L` lines, 2 under its labels.
 // `line` is the number of the line to come; `form`, `wrong` with `column`, and `owner` are the first lines at fault, 0 for none.
-#[derive(Drop)]
+#[derive(Clone, Copy)]
 pub struct State {
     pub place: u8,
     pub line: usize,

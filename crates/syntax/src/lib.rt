@@ -11,7 +11,7 @@ ghost use Rattle.syntax.specs.inner.Scan.{in_text, marked_start, plain_start, Ah
 // ---- the machine's states
 
 // The kind of line that is being read, or at a line's start the kind of the line before. Rows: labels and data.
-#[derive(Drop)]
+#[derive(Clone, Copy)]
 pub enum Kind {
     Nothing,
     Group,
@@ -20,7 +20,7 @@ pub enum Kind {
 }
 
 // Where in the line.
-#[derive(Drop)]
+#[derive(Clone, Copy)]
 pub enum State {
     Open(Kind),
     Mark(Kind),
@@ -32,13 +32,13 @@ pub enum State {
     Ret(Kind),
 }
 
-#[derive(Drop)]
+#[derive(Clone, Copy)]
 pub enum Next {
     To(State),
     Bad,
 }
 
-#[derive(Drop)]
+#[derive(Clone, Copy)]
 pub enum Verdict {
     Fine,
     FaultAt(usize),
@@ -123,7 +123,7 @@ pub fn begins(dossier: &[u8], i: usize, j: usize, fresh: bool) -> bool
 // ---- the rest of a line
 
 // Where reading on leads: to a place, or no further than a byte.
-#[derive(Drop)]
+#[derive(Clone, Copy)]
 enum Reached {
     On(usize),
     Stuck(usize),
@@ -220,7 +220,7 @@ fn line_end(dossier: &[u8], i: usize) -> Reached
 // ---- lines
 
 // A line's kind and the place of its first field, or of the line after it; or the byte that begins no line.
-#[derive(Drop)]
+#[derive(Clone, Copy)]
 enum Started {
     In(Kind, usize),
     Never(usize),

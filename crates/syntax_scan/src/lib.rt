@@ -10,14 +10,14 @@ ghost use Rattle.syntax_scan.specs.inner.Turn.{NullField, Passed, from_turn};
 use syntax::{Kind, Next, State};
 
 // To the state behind the bytes, or stuck at the first that may not stand there.
-#[derive(Drop)]
+#[derive(Clone, Copy)]
 pub enum Scanned {
     To(State),
     Stuck(usize),
 }
 
 // Where a turn leads: to a state before a place, or no further than a byte.
-#[derive(Drop)]
+#[derive(Clone, Copy)]
 enum Turn {
     On(State, usize),
     At(usize),

@@ -7,14 +7,14 @@ ghost use Rattle.texts.specs.Texts.{padded, text_given, text};
 ghost use Rattle.texts.specs.inner.Steps.{kept_step, step_of, plain};
 
 // A text that is kept, padded with zero bytes; all zero where it is not ok.
-#[derive(Drop)]
+#[derive(Clone, Copy)]
 pub struct Text {
     pub ok: bool,
     pub bytes: [u8; 10],
 }
 
 // What one more byte of a text does: it begins an escape, gives a byte, or is refused.
-#[derive(Drop)]
+#[derive(Clone, Copy)]
 enum Step {
     Mark,
     Byte(u8),

@@ -199,7 +199,7 @@ fn bars_in_sixteen(line: &[u8], at: usize) -> u8
 }
 
 // What the count of a line's bars has come to: how many stand before a place.
-#[derive(Drop)]
+#[derive(Clone, Copy)]
 struct Bars {
     at: usize,
     count: usize,

@@ -37,14 +37,14 @@ pub fn lookup<'a>(line: &'a [u8], column: usize, columns: usize) -> &'a [u8]
 }
 
 // What the search for one name has found so far.
-#[derive(Drop)]
+#[derive(Clone, Copy)]
 enum Seen {
     First(usize),
     Twice,
 }
 
 // Where wanted names stand in a label line.
-#[derive(Drop)]
+#[derive(Clone, Copy)]
 pub struct Columns {
     pub twice: bool,
     pub places: [usize; 20],

@@ -89,7 +89,7 @@ pub fn line_feed(bytes: &[u8]) -> usize
 // ---- marks
 
 // What a line begins with.
-#[derive(Drop)]
+#[derive(Clone, Copy)]
 pub enum Mark {
     Group,
     Table,

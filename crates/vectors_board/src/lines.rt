@@ -2,7 +2,7 @@
 use crate::say;
 
 // How many bytes of the table are lent, and the number of rows that is passed.
-#[derive(Drop)]
+#[derive(Clone, Copy)]
 struct Held {
     size: usize,
     rows: usize,

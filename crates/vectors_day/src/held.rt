@@ -1,7 +1,7 @@
 // What the program keeps between two lines of its input, and how a line is read.
 
 // The line's letter and its two numbers, how much of book and table is lent, the counts, and where register and dossier end on the desk.
-#[derive(Drop)]
+#[derive(Clone, Copy)]
 pub struct Held {
     pub letter: u8,
     pub a: usize,

@@ -2,7 +2,7 @@
 use crate::{form, parts, say, text};
 
 // Values with one verdict, from one on.
-#[derive(Drop)]
+#[derive(Clone, Copy)]
 struct Run {
     from: usize,
     verdict: usize,

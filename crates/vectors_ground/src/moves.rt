@@ -2,7 +2,7 @@
 use crate::{parts, say};
 
 // The numbers of a vector of two or three parts.
-#[derive(Drop)]
+#[derive(Clone, Copy)]
 struct Numbers {
     a: usize,
     b: usize,

@@ -2,7 +2,7 @@
 // chooses, and `*` and a byte for 65532 of it: with a few around them they are as many as a dossier may have.
 
 // A byte, how many of it, and the place of the last byte that tells it.
-#[derive(Drop)]
+#[derive(Clone, Copy)]
 struct Item {
     byte: u8,
     many: usize,

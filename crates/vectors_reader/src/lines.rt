@@ -5,14 +5,14 @@ use field_types::Number;
 use reader::Reading;
 
 // The letter of the group's reader, and where on the desk ends what is held.
-#[derive(Drop)]
+#[derive(Clone, Copy)]
 struct Held {
     letter: u8,
     end: usize,
 }
 
 // What is asked: where sender and register end, where the dossier ends, and the size of the staging area.
-#[derive(Drop)]
+#[derive(Clone, Copy)]
 struct Job {
     letter: u8,
     who: usize,

@@ -20,7 +20,7 @@ pub fn count(what: &[u8], number: usize) {
     io::print_decimal(STDOUT_FILENO, number as u64);
 }
 
-#[derive(Drop)]
+#[derive(Clone, Copy)]
 struct Three {
     word: usize,
     a: usize,

@@ -1,0 +1,17 @@
+-- `feed_through` meets its contract. Assumes nothing.
+use native.Mathlib.Omega.{arith}
+use Rattle.boards_messages.proofs.CutLaws.{as-whole}
+use Rattle.boards_messages.proofs.feed_through.Goals as goal
+
+pub feed_all-requires : goal.feed_all-requires
+feed_all-requires c = c.requires.0
+
+pub returns : goal.returns
+returns c =
+    let a = c.args in
+    let b = c.begin in
+    let f = c.feed_all in
+    let e = c.end in
+    as-whole a.dossier.now a.register.now a.size a.sender a.form a.line.now a.staging.now a.book.now a.table.now a.counts (omega (arith, c.ranges.sender)) (omega (arith, c.ranges.form)) c.requires.0 c.requires.1
+    e.result b.new.0 f.new.1.1.1.1.1.0 f.new.1.1.1.1.0 f.new.1.1.1.0 e.new.1.1.0 e.new.1.1.1.0 e.new.1.1.1.1.1.0
+    b.ensures f.ensures e.ensures.0

@@ -1,0 +1,12 @@
+use mathlib.Core.Path.{sym}
+use Rattle.book.proofs.ChainLaws.{entry-from}
+use borrow.Author.Rules.{rules}
+use Rattle.book.proofs.entry_is_sound.Goals as goal
+
+pub update_in_range-requires : goal.update_in_range-requires
+update_in_range-requires c = (search rules, c.requires.book_value)
+
+pub returns : goal.returns
+returns c =
+    let a = c.args in
+    rw (c.update_in_range.ensures, c.get_number-n.ensures) (sym (entry-from a.at a.book.now a.number a.sender a.kind))

@@ -1,0 +1,60 @@
+use mathlib.Core.Path.{◌≡◌, sym, ap, ◌∙◌}
+use mathlib.Core.List.{List}
+use Prim.Native.Nat.{ℕ, ◌+◌, ◌*◌, ◌<◌}
+use native.Mathlib.Omega.{arith}
+use lib.ListN.{length, length-set, length-take, length-drop}
+use Rattle.lists.specs.Part.{part, over}
+use Rattle.lists.proofs.OverLaws.{over-nil, length_over}
+use Rattle.passage.specs.Layout.{key_wide, body_wide}
+use Rattle.keys.specs.declared.Found.TheVariants.{At}
+use Rattle.keys.specs.Sorted.{lookup}
+use Rattle.book.specs.Entries.{plan_wide}
+use Rattle.book.specs.inner.Steps.{plan_body_at}
+use Rattle.book.proofs.WriteLaws.{lent-part}
+use Rattle.book.proofs.PlanLaws.{bodies}
+use Rattle.book_find.proofs.FindLaws.{found_below, row-found, row-missing, some-row, row_written}
+use borrow.Author.Rules.{rules}
+use Rattle.book_find.proofs.plan_row.Goals as goal
+
+found : (c : goal.In-At) → At c.in-At.i ≡ lookup (part c.args.from key_wide c.args.key.now) (bodies c.args.plans c.args.book.now)
+found c = sym c.in-At.is ∙ c.find_plan-f.ensures
+
+below : (c : goal.In-At) → c.in-At.i < c.args.plans
+below c = found_below c.args.plans c.args.book.now _ c.requires.plan_wide_in_bounds.0 _ (found c)
+
+pub overflow_mul-p : goal.overflow_mul-p
+overflow_mul-p c = let h = below c in search rules
+
+pub overflow_add-p : goal.overflow_add-p
+overflow_add-p c = let h = below c in search rules
+
+pub overflow_add-p-in-At : goal.overflow_add-p-in-At
+overflow_add-p-in-At c = let h = below c.before in search rules
+
+pub slice_bounds-copy_to-end : goal.slice_bounds-copy_to-end
+slice_bounds-copy_to-end c = let h = below c.before in search rules
+
+pub copy_to-requires : goal.copy_to-requires
+copy_to-requires c = let h = below c.before.before in simp (length-take, length-drop) (omega arith)
+
+pub bounds-out-at : goal.bounds-out-at
+bounds-out-at c =
+    let l = ap length c.copy_to.ensures ∙ length_over _ _ _ in
+    omega arith
+
+pub shape_of-out-in-At : goal.shape_of-out-in-At
+shape_of-out-in-At c =
+    length-set c.copy_to.new.bytes (c.args.at + body_wide) 0 ∙ ap length c.copy_to.ensures ∙ length_over c.args.at _ c.args.out.now
+
+pub returns-in-At : goal.returns-in-At
+returns-in-At c =
+    let i = c.in-At.i in
+    let g = row-found c.args.plans c.args.book.now (part c.args.from key_wide c.args.key.now) c.requires.plan_wide_in_bounds.0 i (found c.before.before.before.before.before) in
+    let h = below c.before.before.before.before.before in
+    let e = c.copy_to.ensures ∙ ap (λ (r : List ℕ). over c.args.at r c.args.out.now) (lent-part (i * plan_wide + 1) body_wide c.args.book.now) in
+    (rw g (some-row (plan_body_at i c.args.book.now)), rw g (row_written c.args.at (i * plan_wide + 1) c.args.book.now c.args.out.now c.copy_to.new.bytes (omega arith) e))
+
+pub returns-in-Missing : goal.returns-in-Missing
+returns-in-Missing c =
+    let g = row-missing c.args.plans c.args.book.now (part c.args.from key_wide c.args.key.now) c.requires.plan_wide_in_bounds.0 c.in-Missing.field-0 (sym c.in-Missing.is ∙ c.find_plan-f.ensures) in
+    (rw g, rw (g, over-nil))

@@ -1,0 +1,6 @@
+use native.Mathlib.Omega.{arith}
+use Rattle.columns.proofs.DigitLaws.{digit-is}
+use Rattle.columns.proofs.digit_of.Goals as goal
+
+pub returns : goal.returns
+returns c = (digit-is c.args.packed c.args.j c.requires, omega arith)

@@ -1,0 +1,6 @@
+-- `set_answer` meets its contract: the numbers of the answer are written. Assumes nothing.
+use Rattle.desk_answers.proofs.AnswerLaws.{written}
+use Rattle.desk_answers.proofs.set_answer.Goals as goal
+
+pub returns : goal.returns
+returns c = written _ c.numbers-n.result _ _ c.numbers-n.ensures c.write_answer.ensures

@@ -1,0 +1,6 @@
+-- `desk_boards::desk_board` meets its contract: the outcome that the call promises, told as numbers. Assumes nothing.
+use Rattle.desk_boards.proofs.AnswerLaws.{of-board}
+use Rattle.desk_boards.proofs.desk_board.Goals as goal
+
+pub returns : goal.returns
+returns c = of-board _ _ _ _ _ c.set_board.ensures c.board-a.ensures

@@ -1,0 +1,13 @@
+-- `set_board` meets its contract: each arm writes the numbers of its case. Assumes nothing.
+use Rattle.board.specs.declared.Listing.TheVariants.{Listed, Unsound, OutOfRange}
+use Rattle.desk_boards.proofs.AnswerLaws.{board-written}
+use Rattle.desk_boards.proofs.set_board.Goals as goal
+
+pub returns-in-Listed : goal.returns-in-Listed
+returns-in-Listed c = let g = c.listing-1.given in board-written _ (Listed g.0.0 g.0.1.0) _ _ g.1 c.write_three.ensures
+
+pub returns-in-Unsound : goal.returns-in-Unsound
+returns-in-Unsound c = board-written _ Unsound _ _ c.in-Unsound.is c.write_three-in-Unsound.ensures
+
+pub returns-in-OutOfRange : goal.returns-in-OutOfRange
+returns-in-OutOfRange c = board-written _ OutOfRange _ _ c.in-OutOfRange.is c.write_three-in-OutOfRange.ensures

@@ -1,0 +1,6 @@
+-- `desk_feeds::desk_feed_end` meets its contract: the outcome that the call promises, told as numbers. Assumes nothing.
+use Rattle.desk_answers.proofs.AnswerLaws.{of_end}
+use Rattle.desk_feeds.proofs.desk_feed_end.Goals as goal
+
+pub returns : goal.returns
+returns c = of_end _ _ _ _ _ _ _ _ c.set_answer.ensures c.end-outcome.ensures

@@ -1,0 +1,8 @@
+use Rattle.feeds.proofs.KeptLaws.{kept-written}
+use Rattle.feeds.proofs.keep.Goals as goal
+
+pub returns : goal.returns
+returns c =
+    let n = c.machine_number-number in
+    let p = c.keep_places in
+    kept-written c.args.feed n.result p.new.0 p.ensures.0 p.ensures.1 n.ensures

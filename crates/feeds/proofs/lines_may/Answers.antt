@@ -1,0 +1,7 @@
+use mathlib.Core.Path.{refl}
+use Rattle.feeds.specs.Kept.{lines_may}
+use Rattle.feeds.proofs.lines_may.Goals as goal
+
+pub returns : goal.returns
+unfolding lines_may
+returns c = refl

@@ -1,0 +1,56 @@
+use mathlib.Core.Path.{sym, ◌∙◌}
+use native.Mathlib.Omega.{arith}
+use lib.ListN.{length}
+use lib.Seq.{length-take-le}
+use Rattle.feeds_part.specs.inner.Lines.{lent}
+use Rattle.feeds_part.proofs.PartLaws.{opened, front-room, front_at, front-fed, stuck-within, stuck-leads, stuck_at, stuck-fed, fault-most}
+use Rattle.feeds_part.proofs.feed_bytes.Goals as goal
+
+pub slice_bounds-scan-end : goal.slice_bounds-scan-end
+slice_bounds-scan-end c = let a = c.args in let o = c.open_for-open in let part = a.part.now in let q = opened (length part) a.feed o.result o.ensures in sym (length-take-le _ part q.most)
+
+pub slice_bounds-feed_lines-end : goal.slice_bounds-feed_lines-end
+slice_bounds-feed_lines-end c = let a = c.args in let o = c.open_for-open in let part = a.part.now in let q = opened (length part) a.feed o.result o.ensures in sym (length-take-le _ part q.most)
+
+pub feed_lines-f-requires : goal.feed_lines-f-requires
+feed_lines-f-requires c = let a = c.args in let o = c.open_for-open in let part = a.part.now in let q = opened (length part) a.feed o.result o.ensures in ((c.requires.0, c.requires.1), (sym c.scan.ensures ∙ c.in-To.is, front-room part a.feed o.result q o.result (omega arith)))
+
+pub overflow_sub-part : goal.overflow_sub-part
+overflow_sub-part c = let a = c.args in let o = c.open_for-open in let part = a.part.now in let q = opened (length part) a.feed o.result o.ensures in omega (arith, q.most)
+
+pub count-requires : goal.count-requires
+count-requires c = let a = c.args in let o = c.open_for-open in let part = a.part.now in let q = opened (length part) a.feed o.result o.ensures in let f = c.feed_lines-f in front_at part a.feed o.result q f.result f.ensures.1.0 c.requires.1
+
+pub slice_bounds-state_behind-end : goal.slice_bounds-state_behind-end
+slice_bounds-state_behind-end c = let a = c.args in let o = c.open_for-open in let part = a.part.now in let q = opened (length part) a.feed o.result o.ensures in sym (length-take-le _ part (omega (arith, q.most, stuck-within part a.feed o.result q c.in-Stuck.j (sym c.scan.ensures ∙ c.in-Stuck.is))))
+
+pub state_behind-m-requires : goal.state_behind-m-requires
+state_behind-m-requires c = let a = c.args in let o = c.open_for-open in let part = a.part.now in let q = opened (length part) a.feed o.result o.ensures in stuck-leads part a.feed o.result q c.in-Stuck.j (sym c.scan.ensures ∙ c.in-Stuck.is)
+
+pub slice_bounds-feed_lines-end-in-Stuck : goal.slice_bounds-feed_lines-end-in-Stuck
+slice_bounds-feed_lines-end-in-Stuck c = let a = c.args in let o = c.open_for-open in let part = a.part.now in let q = opened (length part) a.feed o.result o.ensures in sym (length-take-le _ part (omega (arith, q.most, stuck-within part a.feed o.result q c.in-Stuck.j (sym c.scan.ensures ∙ c.in-Stuck.is))))
+
+pub feed_lines-f-requires-in-Stuck : goal.feed_lines-f-requires-in-Stuck
+feed_lines-f-requires-in-Stuck c = let a = c.args in let o = c.open_for-open in let part = a.part.now in let q = opened (length part) a.feed o.result o.ensures in let j = c.j-1.given in ((c.requires.0, c.requires.1), (c.state_behind-m.ensures, front-room part a.feed o.result q j.0.0 (omega (arith, stuck-within part a.feed o.result q j.0.0 (sym c.scan.ensures ∙ j.1)))))
+
+pub at_fault-requires : goal.at_fault-requires
+at_fault-requires c = let a = c.args in let o = c.open_for-open in let part = a.part.now in let q = opened (length part) a.feed o.result o.ensures in let j = c.j-1.given in let f = c.feed_lines-f-in-Stuck in let m = c.state_behind-m in stuck_at part a.feed o.result q j.0.0 (sym c.scan.ensures ∙ j.1) a.register.now (lent a.feed a.line.now a.staging.now) m.result m.ensures f.result f.new.1.1.1.1.1.0 f.new.1.1.1.1.0 f.ensures.0 f.ensures.1.0 f.ensures.1.1 f.ensures.1.2
+
+pub overflow_add-j : goal.overflow_add-j
+overflow_add-j c = let a = c.args in let o = c.open_for-open in let part = a.part.now in let q = opened (length part) a.feed o.result o.ensures in let j = c.j-1.given in omega (arith, stuck-within part a.feed o.result q j.0.0 (sym c.scan.ensures ∙ j.1), q.most)
+
+pub overflow_sub-part-in-Stuck : goal.overflow_sub-part-in-Stuck
+overflow_sub-part-in-Stuck c = let a = c.args in let o = c.open_for-open in let part = a.part.now in let q = opened (length part) a.feed o.result o.ensures in let j = c.j-1.given in omega (arith, stuck-within part a.feed o.result q j.0.0 (sym c.scan.ensures ∙ j.1), q.most)
+
+pub count-requires-in-Stuck : goal.count-requires-in-Stuck
+count-requires-in-Stuck c = let a = c.args in let o = c.open_for-open in let part = a.part.now in let q = opened (length part) a.feed o.result o.ensures in let j = c.j-1.given in let f = c.feed_lines-f-in-Stuck in let m = c.state_behind-m in
+    let h = stuck_at part a.feed o.result q j.0.0 (sym c.scan.ensures ∙ j.1) a.register.now (lent a.feed a.line.now a.staging.now) m.result m.ensures f.result f.new.1.1.1.1.1.0 f.new.1.1.1.1.0 f.ensures.0 f.ensures.1.0 f.ensures.1.1 f.ensures.1.2 in
+    fault-most f.result c.at_fault.result c.at_fault.ensures h
+
+pub returns-in-To : goal.returns-in-To
+returns-in-To c = let a = c.args in let o = c.open_for-open in let part = a.part.now in let q = opened (length part) a.feed o.result o.ensures in let f = c.feed_lines-f in front-fed part a.feed o.result q a.register.now (lent a.feed a.line.now a.staging.now) f.result f.new.1.1.1.1.1.0 f.new.1.1.1.1.0 f.ensures.0 f.ensures.1.0 f.ensures.1.1 c.requires.1 c.count.result c.count.ensures
+
+pub returns-in-Stuck : goal.returns-in-Stuck
+returns-in-Stuck c = let a = c.args in let o = c.open_for-open in let part = a.part.now in let q = opened (length part) a.feed o.result o.ensures in let j = c.j-1.given in let f = c.feed_lines-f-in-Stuck in let m = c.state_behind-m in
+    stuck-fed part a.feed o.result q j.0.0 (sym c.scan.ensures ∙ j.1) a.register.now (lent a.feed a.line.now a.staging.now) m.result m.ensures f.result f.new.1.1.1.1.1.0 f.new.1.1.1.1.0 f.ensures.0 f.ensures.1.0 f.ensures.1.1 f.ensures.1.2
+    c.at_fault.result c.at_fault.ensures c.count-in-Stuck.result c.count-in-Stuck.ensures

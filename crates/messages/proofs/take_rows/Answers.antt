@@ -1,0 +1,78 @@
+-- `take_rows` meets its contract. Assumes nothing.
+use Prim.Native.Nat.{ℕ, ◌+◌, ◌*◌, ◌≤◌, ◌<◌}
+use native.Mathlib.Omega.{arith}
+use mathlib.Core.Path.{◌≡◌, sym, ◌∙◌}
+use mathlib.Core.List.{List, []}
+use lib.ListN.{length}
+use Rattle.lists.specs.Rows.{rows_of}
+use Rattle.lists.proofs.RowLaws.{length-rows_of}
+use Rattle.passage.specs.Layout.{body_wide, row_wide}
+use Rattle.table.specs.Rules.{most_rows}
+use Rattle.table.proofs.SoundLaws.{room_most, room_fits, sound-within, sound-fits, sound-sorted}
+use Rattle.book.specs.Entries.{entry_wide}
+use Rattle.book.specs.Rules.{book_room}
+use Rattle.messages.proofs.SoundLaws.{used-fits}
+use Rattle.messages.proofs.TakeLaws.{rowless, book-short, table-short, fits}
+use Rattle.messages.proofs.take_rows.Goals as goal
+
+-- the staged bodies
+abbrev bodies : goal.Start → List (List ℕ)
+bodies s = rows_of body_wide s.args.count s.args.staging.now
+
+no-bodies : (s : goal.Start) → s.args.count ≡ 0 → bodies s ≡ []
+unfolding rows_of
+no-bodies s e = rw e
+
+pub returns-then-count-eq0 : goal.returns-then-count-eq0
+returns-then-count-eq0 c =
+    let a = c.args in
+    rowless a.sender a.book.now a.table.now a.counts c.requires.book_value (bodies c.before.before.before.before.before) (no-bodies c.before.before.before.before.before c.if-count-eq0.true) c.unchanged.result c.unchanged.ensures
+
+pub overflow_add-used : goal.overflow_add-used
+overflow_add-used c =
+    let u = used-fits c.args.counts.used c.args.book.now c.requires.book_value.0 in
+    omega arith
+
+pub returns-then-book_room-used : goal.returns-then-book_room-used
+returns-then-book_room-used c =
+    let a = c.args in
+    let room = c.book_room.ensures in
+    let h : book_room a.book.now < a.counts.used + length (bodies c.before.before.before.before.before.before.before) * entry_wide = rw (← room, length-rows_of body_wide a.count a.staging.now) c.if-book_room-used.true in
+    book-short (bodies c.before.before.before.before.before.before.before) a.sender a.book.now a.table.now a.counts h c.unchanged-then-book_room-used.result c.unchanged-then-book_room-used.ensures
+
+pub take_fitting-requires : goal.take_fitting-requires
+take_fitting-requires c =
+    let a = c.args in
+    let t = c.requires.book_value.1 in
+    let m = c.rows_room-most.ensures in
+    let most : c.rows_room-most.result ≤ most_rows = rw m (room_most a.table.now) in
+    let held : a.counts.rows ≤ c.rows_room-most.result = rw m (sound-within a.counts.rows a.table.now t) in
+    let within : c.rows_room-most.result * row_wide ≤ length a.table.now = rw m (room_fits a.table.now) in
+    let room = c.requires.count_le_most_updates in
+    let some = c.if-count-eq0.false in
+    ((sound-fits a.counts.rows a.table.now t, omega arith, held, most, omega arith), (sound-sorted a.counts.rows a.table.now t, within))
+
+pub write_rows-requires : goal.write_rows-requires
+write_rows-requires c =
+    let a = c.args in
+    let room = c.book_room.ensures in
+    let fit : a.counts.used + a.count * entry_wide ≤ book_room a.book.now = rw (← room) c.if-book_room-used.false in
+    (c.requires.count_le_most_updates, (c.requires.book_value.0, fit))
+
+pub returns-in-Count : goal.returns-in-Count
+returns-in-Count c =
+    let a = c.args in
+    let all = length-rows_of body_wide a.count a.staging.now in
+    let room = c.book_room.ensures in
+    let fit : a.counts.used + length (bodies c.before.before.before.before.before.before.before.before.before.before.before.before.before.before.before.before.before.before) * entry_wide ≤ book_room a.book.now = rw (← room, all) c.if-book_room-used.false in
+    let some : length (bodies c.before.before.before.before.before.before.before.before.before.before.before.before.before.before.before.before.before.before) ≡ 0 → ⊥ = λ e. c.if-count-eq0.false (sym all ∙ e) in
+    let wrote = c.write_rows in
+    let e = wrote.ensures in
+    fits (bodies c.before.before.before.before.before.before.before.before.before.before.before.before.before.before.before.before.before.before) a.sender a.book.now a.table.now a.counts _ c.rows_room-most.ensures c.take_fitting.result _ c.take_fitting.ensures some fit _ c.in-Count.is wrote.result _ a.count (sym all) e.0 e.1
+
+pub returns-in-TooMany : goal.returns-in-TooMany
+returns-in-TooMany c =
+    let a = c.args in
+    let room = c.book_room.ensures in
+    let fit : a.counts.used + length (bodies c.before.before.before.before.before.before.before.before.before.before.before.before.before.before) * entry_wide ≤ book_room a.book.now = rw (← room, length-rows_of body_wide a.count a.staging.now) c.if-book_room-used.false in
+    table-short (bodies c.before.before.before.before.before.before.before.before.before.before.before.before.before.before) a.sender a.book.now a.table.now a.counts _ c.rows_room-most.ensures c.take_fitting.result _ c.take_fitting.ensures fit c.in-TooMany.is c.unchanged-in-TooMany.result c.unchanged-in-TooMany.ensures

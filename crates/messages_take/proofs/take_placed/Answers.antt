@@ -1,0 +1,43 @@
+use Prim.Native.Nat.{◌+◌, ◌-◌, ◌*◌, ◌≤◌}
+use native.Mathlib.Omega.{arith}
+use borrow.Author.Rules.{rules}
+use lib.ListN.{length}
+use Rattle.lists.specs.Rows.{rows_of}
+use Rattle.passage.specs.Layout.{body_wide, row_wide}
+use Rattle.messages_take.proofs.LoopLaws.{after, after-rises, taking-start, taking-length, taking-end, taking-asked, taking-next}
+use Rattle.messages_take.proofs.take_placed.Goals as goal
+
+pub loop-k-init : goal.loop-k-init
+loop-k-init c =
+    (search rules, taking-start c.args.bodies.now c.args.table.now c.args.count c.requires.row_wide_in_bounds.0)
+
+pub take_near-held-requires : goal.take_near-held-requires
+take_near-held-requires c =
+    let l = c.loop-k in
+    let a = c.args in
+    let there : l.k * body_wide + body_wide ≤ length a.bodies.now = omega arith in
+    let room : length (after a.bodies.now (rows_of row_wide a.count a.table.now) (l.k + 1)) * row_wide ≤ length a.table.now =
+    omega (arith, after-rises a.bodies.now (rows_of row_wide a.count a.table.now) (l.k + 1) a.updates (omega arith), c.requires.row_wide_in_bounds_2) in
+    taking-asked a.bodies.now a.table.now a.count c.requires.row_wide_in_bounds.0 l.k l.held l.table l.invariant.1 there room c.requires.table_value
+
+pub loop-k-preserved : goal.loop-k-preserved
+loop-k-preserved c =
+    let l = c.loop-k in
+    let a = c.args in
+    let row = c.take_near-held in
+    let there : l.k * body_wide + body_wide ≤ length a.bodies.now = omega arith in
+    let room : length (after a.bodies.now (rows_of row_wide a.count a.table.now) (l.k + 1)) * row_wide ≤ length a.table.now =
+    omega (arith, after-rises a.bodies.now (rows_of row_wide a.count a.table.now) (l.k + 1) a.updates (omega arith), c.requires.row_wide_in_bounds_2) in (
+      omega arith,
+      taking-next a.bodies.now a.table.now a.count c.requires.row_wide_in_bounds.0 l.k l.held l.table l.invariant.1 there room row.result row.new.0 row.ensures.0 row.ensures.1,
+    )
+
+pub shape_of-table : goal.shape_of-table
+shape_of-table c =
+    let l = c.loop-k in
+    taking-length c.args.bodies.now c.args.table.now c.args.count c.requires.row_wide_in_bounds.0 l.k l.held l.table l.invariant.1
+
+pub returns : goal.returns
+returns c =
+    let l = c.loop-k in
+    taking-end c.args.bodies.now c.args.table.now c.args.count c.requires.row_wide_in_bounds.0 l.k c.args.updates l.held l.table (omega arith) l.invariant.1

@@ -1,0 +1,71 @@
+use mathlib.Core.Path.{sym}
+use mathlib.Core.List.{List}
+use Prim.Native.Nat.{ℕ, ◌*◌}
+use native.Mathlib.Omega.{arith}
+use lib.ListN.{length, length-replicate}
+use Rattle.reader.specs.Passes.{pass_wide, validity_wide}
+use Rattle.reader.proofs.AnswerLaws.{planning-few, calendar-few}
+use Rattle.calls.proofs.NumbersLaws.{open_told}
+use Rattle.opening.specs.inner.Steps.{most_passes, most_validities, few_passes, few_validities, HoldsPasses, HoldsValidities}
+use Rattle.lists.proofs.AreaLaws.{made-room}
+use Rattle.opening.proofs.AreaLaws.{both-within}
+use Rattle.opening.proofs.open.Goals as goal
+
+-- small dossiers: their lengths tell how many rows they can have
+small-passes : (t : goal.Then-planning-calendar) → HoldsPasses t.args.planning.now (few_passes * pass_wide)
+small-passes t n e = let h = (both-within (length t.args.planning.now) _ (length t.args.calendar.now) _ t.if-planning-calendar.true).0 in let f = (planning-few t.args.planning.now n e).0 in omega arith
+
+small-validities : (t : goal.Then-planning-calendar) → HoldsValidities t.args.calendar.now (few_validities * validity_wide)
+small-validities t n e = let h = (both-within (length t.args.planning.now) _ (length t.args.calendar.now) _ t.if-planning-calendar.true).1 in let f = (calendar-few t.args.calendar.now n e).0 in omega arith
+
+-- any dossiers
+all-passes : (planning : List ℕ) → HoldsPasses planning (most_passes * pass_wide)
+all-passes planning n e = let f = (planning-few planning n e).1 in omega arith
+
+all-validities : (calendar : List ℕ) → HoldsValidities calendar (most_validities * validity_wide)
+all-validities calendar n e = let f = (calendar-few calendar n e).1 in omega arith
+
+-- ---- small dossiers
+pub slice_bounds-open_by-end : goal.slice_bounds-open_by-end
+slice_bounds-open_by-end c = sym (length-replicate {A = ℕ} (few_passes * pass_wide) 0)
+
+pub slice_bounds-open_by-end-then-planning-calendar : goal.slice_bounds-open_by-end-then-planning-calendar
+slice_bounds-open_by-end-then-planning-calendar c = sym (length-replicate {A = ℕ} (few_validities * validity_wide) 0)
+
+pub open_by-requires : goal.open_by-requires
+open_by-requires c =
+    ((λ n e. made-room (n * pass_wide) (few_passes * pass_wide) (small-passes c.before.before.before.before n e)), (λ n e. made-room (n * validity_wide) (few_validities * validity_wide) (small-validities c.before.before.before.before n e)))
+
+pub shape_of-book-then-planning-calendar : goal.shape_of-book-then-planning-calendar
+shape_of-book-then-planning-calendar c = c.open_by.auto.1.1.1.1.0
+
+pub shape_of-table-then-planning-calendar : goal.shape_of-table-then-planning-calendar
+shape_of-table-then-planning-calendar c = c.open_by.auto.1.1.1.1.1.0
+
+pub returns-then-planning-calendar : goal.returns-then-planning-calendar
+returns-then-planning-calendar c =
+    let a = c.args in
+    open_told a.planning.now a.calendar.now a.book.now a.table.now a.counts _ _ _ c.open_by.ensures
+
+-- ---- any dossiers
+pub slice_bounds-open_by-end-2 : goal.slice_bounds-open_by-end-2
+slice_bounds-open_by-end-2 c = sym (length-replicate {A = ℕ} (most_passes * pass_wide) 0)
+
+pub slice_bounds-open_by-end-3 : goal.slice_bounds-open_by-end-3
+slice_bounds-open_by-end-3 c = sym (length-replicate {A = ℕ} (most_validities * validity_wide) 0)
+
+pub open_by-requires-2 : goal.open_by-requires-2
+open_by-requires-2 c =
+    let a = c.args in
+    ((λ n e. made-room (n * pass_wide) (most_passes * pass_wide) (all-passes a.planning.now n e)), (λ n e. made-room (n * validity_wide) (most_validities * validity_wide) (all-validities a.calendar.now n e)))
+
+pub shape_of-book : goal.shape_of-book
+shape_of-book c = c.open_by-2.auto.1.1.1.1.0
+
+pub shape_of-table : goal.shape_of-table
+shape_of-table c = c.open_by-2.auto.1.1.1.1.1.0
+
+pub returns : goal.returns
+returns c =
+    let a = c.args in
+    open_told a.planning.now a.calendar.now a.book.now a.table.now a.counts _ _ _ c.open_by-2.ensures

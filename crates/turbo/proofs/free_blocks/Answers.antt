@@ -1,0 +1,13 @@
+use Prim.Native.Nat.{◌-◌}
+use native.Mathlib.Omega.{arith}
+use Rattle.turbo.proofs.SplitLaws.{until-free}
+use Rattle.turbo.proofs.free_blocks.Goals as goal
+
+pub returns-then-block_has : goal.returns-then-block_has
+returns-then-block_has c = c.loop-p.invariant
+
+pub loop-p-preserved : goal.loop-p-preserved
+loop-p-preserved c = let l = c.loop-p in (omega arith, omega (arith, until-free c.args.byte c.args.bytes.now l.p 16 (omega arith) (c.block_has.ensures c.if-block_has.false)))
+
+pub returns : goal.returns
+returns c = c.loop-p.invariant

@@ -1,0 +1,11 @@
+use Prim.Native.Nat.{◌-◌}
+use mathlib.Core.Path.{sym}
+use lib.Seq.{length-take-le}
+use Rattle.turbo.proofs.SplitLaws.{upto_is}
+use Rattle.turbo_lines.proofs.first_line.Goals as goal
+
+pub slice_bounds-result-end : goal.slice_bounds-result-end
+slice_bounds-result-end c = sym (length-take-le _ _ c.find_far-n.ensures.within)
+
+pub returns : goal.returns
+returns c = upto_is 13 _ _ c.find_far-n.ensures.is

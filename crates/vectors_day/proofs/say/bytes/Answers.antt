@@ -1,0 +1,25 @@
+-- `say::bytes` is safe and ends. Assumes nothing.
+use native.Mathlib.Omega.{arith}
+use Prim.Native.Nat.{◌-◌}
+use Rattle.vectors_day.proofs.say.bytes.Goals as goal
+
+pub loop-i-init : goal.loop-i-init
+loop-i-init c = omega arith
+
+pub hex-requires : goal.hex-requires
+hex-requires c = tt
+
+pub overflow_add-i : goal.overflow_add-i
+overflow_add-i c = omega arith
+
+pub between-requires : goal.between-requires
+between-requires c = tt
+
+pub loop-i-smaller : goal.loop-i-smaller
+loop-i-smaller c = omega arith
+
+pub loop-i-preserved : goal.loop-i-preserved
+loop-i-preserved c = omega arith
+
+pub returns : goal.returns
+returns c = tt

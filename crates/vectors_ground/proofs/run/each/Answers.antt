@@ -1,0 +1,24 @@
+-- `run::each` is safe, and ends since each turn leaves a shorter input. Assumes nothing.
+use native.Mathlib.Omega.{arith}
+use Rattle.vectors_ground.proofs.run.each.Goals as goal
+
+pub loop-rest-init : goal.loop-rest-init
+loop-rest-init c = omega arith
+
+pub first_line-requires : goal.first_line-requires
+first_line-requires c = tt
+
+pub one-r-requires : goal.one-r-requires
+one-r-requires c = tt
+
+pub rest_after_line-next-requires : goal.rest_after_line-next-requires
+rest_after_line-next-requires c = tt
+
+pub loop-rest-smaller : goal.loop-rest-smaller
+loop-rest-smaller c = omega arith
+
+pub loop-rest-preserved : goal.loop-rest-preserved
+loop-rest-preserved c = omega arith
+
+pub returns : goal.returns
+returns c = tt

@@ -1,0 +1,57 @@
+use native.Mathlib.Omega.{arith}
+use borrow.Author.Rules.{rules}
+use Rattle.withdrawals.proofs.WorkLaws.{used-fits, few, lent-long, Sorted, sorted-into, lent-there, order-most, order_below, order-rises, order-count, plans-within, plans-fit, plans-rise, updates-fit, keys-are, worked}
+use Rattle.withdrawals.proofs.work_out.Goals as goal
+
+pub slice_bounds-e-end : goal.slice_bounds-e-end
+slice_bounds-e-end c =
+    let a = c.args in
+    let u = used-fits a.used a.at a.count a.book.now c.requires.book_value c.requires.entry_wide_bound.0 in
+    search rules
+
+pub sort_keys-c-requires : goal.sort_keys-c-requires
+sort_keys-c-requires c =
+    let a = c.args in
+    let k = few a.used a.at a.count a.book.now c.requires.book_value c.requires.entry_wide_bound.0 in
+    (omega arith, lent-long a.used a.at a.count a.book.now c.requires.book_value c.requires.entry_wide_bound.0, omega arith, omega arith)
+
+-- the names are sorted
+sorted : (c : goal.After-sort_keys-c) → let a = c.args in Sorted a.used a.at a.count a.book.now c.sort_keys-c.result c.sort_keys-c.new.order
+sorted c =
+    let a = c.args in
+    sorted-into a.used a.at a.count a.book.now c.requires.book_value c.requires.entry_wide_bound.0 a.order.now c.requires.entry_wide_bound.1 _ _ c.sort_keys-c.ensures.value c.sort_keys-c.ensures.order_after
+
+pub count_plans-n-requires : goal.count_plans-n-requires
+count_plans-n-requires c =
+    let a = c.args in
+    used-fits a.used a.at a.count a.book.now c.requires.book_value c.requires.entry_wide_bound.0
+
+pub begin_slots-requires : goal.begin_slots-requires
+begin_slots-requires c =
+    let w = sorted c.before.before.before.before in
+    let plans = c.count_plans-n.ensures in
+    let k = order-most w in
+    ((plans-fit w plans, lent-there w, w.long, omega arith), (plans-rise w plans, order_below w))
+
+pub overflow_mul-from : goal.overflow_mul-from
+overflow_mul-from c =
+    let w = plans-within (sorted c.before.before.before.before.before.before.before) c.count_plans-n.ensures in
+    omega arith
+
+pub overflow_sub-k : goal.overflow_sub-k
+overflow_sub-k c =
+    plans-within (sorted c.before.before.before.before.before.before.before) c.count_plans-n.ensures
+
+pub replay-requires : goal.replay-requires
+replay-requires c =
+    let w = sorted c.before.before.before.before.before.before.before.before in
+    let plans = c.count_plans-n.ensures in
+    let k = order-most w in
+    ((updates-fit w plans, lent-there w, w.long, omega arith), (order_below w, (order-rises w, keys-are w plans c.args.slots.now _ (omega arith) c.begin_slots.ensures)))
+
+pub returns : goal.returns
+returns c =
+    let w = sorted c.before.before.before.before.before.before.before.before.before.before.before in
+    let a = c.args in
+    let k = order-most w in
+    (order-count w, worked w c.count_plans-n.ensures a.slots.now _ (omega arith) c.begin_slots.ensures a.number _ c.replay.ensures.taken)

@@ -1,0 +1,49 @@
+use mathlib.Core.Path.{refl}
+use Prim.Native.Nat.{◌+◌, ◌*◌, ◌-◌, ◌≤◌}
+use native.Mathlib.Omega.{arith}
+use borrow.Author.Rules.{rules}
+use lib.ListN.{get_or, length}
+use Rattle.book.specs.Entries.{entry_wide, body_at}
+use Rattle.passage.specs.Layout.{key_wide}
+use Rattle.withdrawals_replay.proofs.BeginLaws.{spot-fits, begin-start, begin-turn, begin-end}
+use Rattle.withdrawals_replay.proofs.begin_slots.Goals as goal
+
+pub loop-i-init : goal.loop-i-init
+loop-i-init c =
+    let a = c.args in
+    (search rules, refl, begin-start a.plans a.book.now a.message.now a.entries a.order.now a.named c.requires.plan_wide_in_bounds.0 c.requires.plan_wide_in_bounds.1 c.requires.plan_wide_in_bounds.2 c.requires.each a.slots.now)
+
+-- the key of the name in turn is there
+spot : (c : goal.In-loop-i) → let a = c.args in get_or a.order.now c.loop-i.i 0 * entry_wide + body_at + key_wide ≤ length a.message.now
+spot c =
+    let a = c.args in
+    spot-fits a.plans a.book.now a.message.now a.entries a.order.now a.named c.requires.plan_wide_in_bounds.0 c.requires.plan_wide_in_bounds.1 c.requires.plan_wide_in_bounds.2 c.requires.each c.loop-i.i c.loop-i-test.true
+
+pub overflow_cast-p : goal.overflow_cast-p
+overflow_cast-p c = omega (arith, spot c.before)
+
+pub overflow_mul-p : goal.overflow_mul-p
+overflow_mul-p c = omega (arith, spot c.before)
+
+pub overflow_add-p : goal.overflow_add-p
+overflow_add-p c = omega (arith, spot c.before)
+
+pub begin_slot-requires : goal.begin_slot-requires
+begin_slot-requires c =
+    ((c.requires.plan_wide_in_bounds.0, spot c.before.before, omega arith), c.requires.book_value)
+
+pub loop-i-preserved : goal.loop-i-preserved
+loop-i-preserved c =
+    let a = c.args in
+    let loop = c.loop-i in (
+      omega arith,
+      omega arith,
+      begin-turn a.plans a.book.now a.message.now a.entries a.order.now a.named c.requires.plan_wide_in_bounds.0 c.requires.plan_wide_in_bounds.1 c.requires.plan_wide_in_bounds.2 c.requires.each a.slots.now loop.i loop.slots _ c.loop-i-test.true
+          loop.invariant.2 c.begin_slot.ensures,
+    )
+
+pub returns : goal.returns
+returns c =
+    let a = c.args in
+    let loop = c.loop-i in
+    begin-end a.plans a.book.now a.message.now a.entries a.order.now a.named c.requires.plan_wide_in_bounds.0 c.requires.plan_wide_in_bounds.1 c.requires.plan_wide_in_bounds.2 c.requires.each a.slots.now loop.i loop.slots (omega arith) loop.invariant.2

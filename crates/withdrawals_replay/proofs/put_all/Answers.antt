@@ -1,0 +1,54 @@
+use mathlib.Core.Path.{◌≡◌}
+use Prim.Native.Nat.{◌+◌, ◌*◌, ◌-◌, ◌≤◌}
+use native.Mathlib.Omega.{arith}
+use borrow.Author.Rules.{rules}
+use lib.ListN.{length}
+use Rattle.table.specs.Rules.{rows}
+use Rattle.table.proofs.RunLaws.{holds-length, holds_fits, holds-sorted}
+use Rattle.passage.specs.Layout.{row_wide}
+use Rattle.withdrawals_replay.specs.inner.Slots.{slot_wide, slots_of, puts}
+use Rattle.withdrawals_replay.proofs.TableLaws.{put-start, put-room, put-turn, puts-rises}
+use Rattle.withdrawals_replay.proofs.put_all.Goals as goal
+
+pub loop-i-init : goal.loop-i-init
+loop-i-init c =
+    let a = c.args in
+    (search rules, put-start a.count a.table.now a.slots.now c.requires.row_wide_in_bounds.0 c.requires.table_value)
+
+-- the slot in turn, and room for what it puts
+there : (c : goal.In-loop-i) → c.loop-i.i * slot_wide + slot_wide ≤ length c.args.slots.now
+there c = omega arith
+
+space : (c : goal.In-loop-i) → let a = c.args in length (puts (slots_of (c.loop-i.i + 1) a.slots.now) (rows a.count a.table.now)) * row_wide ≤ length a.table.now
+space c =
+    let a = c.args in
+    omega (arith, puts-rises a.slots.now (rows a.count a.table.now) (c.loop-i.i + 1) a.named (omega arith), c.requires.row_wide_in_bounds.2)
+
+pub put_one-held-requires : goal.put_one-held-requires
+put_one-held-requires c =
+    let a = c.args in
+    let loop = c.loop-i in
+    let rs = puts (slots_of loop.i a.slots.now) (rows a.count a.table.now) in
+    let h = loop.invariant.1 in
+    ((holds_fits a.count a.table.now loop.held loop.table rs h, there c.before.before, put-room a.count a.table.now a.slots.now loop.i loop.held loop.table h (there c.before.before) (space c.before.before)), holds-sorted a.count a.table.now loop.held loop.table rs h)
+
+pub loop-i-preserved : goal.loop-i-preserved
+loop-i-preserved c =
+    let a = c.args in
+    let loop = c.loop-i in
+    let one = c.put_one-held in
+    (omega arith, put-turn a.count a.table.now a.slots.now loop.i loop.held loop.table loop.invariant.1 (there c.before.before.before.before.before) (space c.before.before.before.before.before) one.result _ one.ensures.0 one.ensures.1)
+
+pub shape_of-table : goal.shape_of-table
+shape_of-table c =
+    let a = c.args in
+    let loop = c.loop-i in
+    holds-length a.count a.table.now loop.held loop.table (puts (slots_of loop.i a.slots.now) (rows a.count a.table.now)) loop.invariant.1
+
+pub returns : goal.returns
+returns c =
+    let a = c.args in
+    let loop = c.loop-i in
+    let e : loop.i ≡ a.named = omega arith in
+    let h = loop.invariant.1 in
+    (rw e at h.count, rw e at h.stored)
