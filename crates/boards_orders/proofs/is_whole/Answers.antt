@@ -33,4 +33,4 @@ returns-in-9 c = rw c.in-9.is c.has_words-in-9.ensures
 
 pub returns-in_default : goal.returns-in_default
 unfolding is_whole
-returns-in_default c = let r = c.in_default.rest in rw (ne_eqb _ 2 r.0.0.0.0.0.0.1, ne_eqb _ 4 r.0.0.0.0.0.1, ne_eqb _ 5 r.0.0.0.0.1, ne_eqb _ 6 r.0.0.0.1, ne_eqb _ 7 r.0.0.1, ne_eqb _ 8 r.0.1, ne_eqb _ 9 r.1) c.has_words-in_default.ensures
+returns-in_default c = let r = c.in_default.in_default-own.rest in rw (ne_eqb _ 2 r.0.0.0.0.0.0.1, ne_eqb _ 4 r.0.0.0.0.0.1, ne_eqb _ 5 r.0.0.0.0.1, ne_eqb _ 6 r.0.0.0.1, ne_eqb _ 7 r.0.0.1, ne_eqb _ 8 r.0.1, ne_eqb _ 9 r.1) c.has_words-in_default.ensures

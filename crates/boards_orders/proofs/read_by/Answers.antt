@@ -45,4 +45,4 @@ returns-in-9 c = rw c.in-9.is c.read_parts.ensures
 
 pub returns-in_default : goal.returns-in_default
 unfolding order_by
-returns-in_default c = let r = c.in_default.rest in rw (ne_eqb _ 0 r.0.0.0.0.0.0.0.0.0.1, ne_eqb _ 1 r.0.0.0.0.0.0.0.0.1, ne_eqb _ 2 r.0.0.0.0.0.0.0.1, ne_eqb _ 3 r.0.0.0.0.0.0.1, ne_eqb _ 4 r.0.0.0.0.0.1, ne_eqb _ 5 r.0.0.0.0.1, ne_eqb _ 6 r.0.0.0.1, ne_eqb _ 7 r.0.0.1, ne_eqb _ 8 r.0.1, ne_eqb _ 9 r.1) c.wants.ensures
+returns-in_default c = let r = c.in_default.in_default-own.rest in rw (ne_eqb _ 0 r.0.0.0.0.0.0.0.0.0.1, ne_eqb _ 1 r.0.0.0.0.0.0.0.0.1, ne_eqb _ 2 r.0.0.0.0.0.0.0.1, ne_eqb _ 3 r.0.0.0.0.0.0.1, ne_eqb _ 4 r.0.0.0.0.0.1, ne_eqb _ 5 r.0.0.0.0.1, ne_eqb _ 6 r.0.0.0.1, ne_eqb _ 7 r.0.0.1, ne_eqb _ 8 r.0.1, ne_eqb _ 9 r.1) c.wants.ensures

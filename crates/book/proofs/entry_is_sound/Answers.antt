@@ -4,7 +4,7 @@ use borrow.Author.Rules.{rules}
 use Rattle.book.proofs.entry_is_sound.Goals as goal
 
 pub update_in_range-requires : goal.update_in_range-requires
-update_in_range-requires c = (search rules, c.requires.book_value)
+update_in_range-requires c = record { body_wide_in_bounds = search rules; bytes_value = c.requires.book_value }
 
 pub returns : goal.returns
 returns c =

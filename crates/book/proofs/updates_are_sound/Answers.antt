@@ -10,7 +10,7 @@ pub all_common-common-requires : goal.all_common-common-requires
 all_common-common-requires c = (omega arith, omega arith)
 
 pub updates_follow-requires : goal.updates_follow-requires
-updates_follow-requires c = (omega arith, sym c.all_common-common.ensures ∙ c.if-common.true)
+updates_follow-requires c = record { entry_wide_in_bounds = omega arith; book_value = sym c.all_common-common.ensures ∙ c.if-common.true }
 
 pub returns-then-common : goal.returns-then-common
 returns-then-common c = c.updates_follow.ensures

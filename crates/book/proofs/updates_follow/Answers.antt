@@ -22,7 +22,7 @@ common c =
     common-now entry_wide body_at a.entries a.at a.book.now c.loop-i.i c.loop-i-test.true (omega arith) c.loop-i.invariant.2
 
 pub entry_is_sound-requires : goal.entry_is_sound-requires
-entry_is_sound-requires c = (search rules, (common c).0)
+entry_is_sound-requires c = record { entry_wide_in_bounds = search rules; book_value = (common c).0 }
 
 pub loop-i-preserved : goal.loop-i-preserved
 loop-i-preserved c =

@@ -35,12 +35,11 @@ returns-then-i-m c =
 
 -- the place found is within the updates, and they are within the used bytes
 places : (c : goal.Else-i-m) → let s = c.args in (c.count_leading-i.result ≤ (s.used - c.count_plans-from.result * plan_wide) / entry_wide) × (c.count_plans-from.result * plan_wide ≤ s.used) × (s.used ≤ length s.book.now)
-places c =
-    (
-      place-within (c.count_plans-from.result * plan_wide) _ _ c.args.book.now _ c.count_leading-i.ensures,
-      count-within c.args.used c.args.book.now c.count_plans-from.result c.count_plans-from.ensures,
-      (used-within _ _ (sound-facts _ _ c.requires)).0,
-    )
+places c = (
+  place-within (c.count_plans-from.result * plan_wide) _ _ c.args.book.now _ c.count_leading-i.ensures,
+  count-within c.args.used c.args.book.now c.count_plans-from.result c.count_plans-from.ensures,
+  (used-within _ _ (sound-facts _ _ c.requires)).0,
+)
 
 pub overflow_mul-i : goal.overflow_mul-i
 overflow_mul-i c =

@@ -52,9 +52,9 @@ returns-in-At c =
     let g = row-found c.args.plans c.args.book.now (part c.args.from key_wide c.args.key.now) c.requires.plan_wide_in_bounds.0 i (found c.before.before.before.before.before) in
     let h = below c.before.before.before.before.before in
     let e = c.copy_to.ensures ∙ ap (λ (r : List ℕ). over c.args.at r c.args.out.now) (lent-part (i * plan_wide + 1) body_wide c.args.book.now) in
-    (rw g (some-row (plan_body_at i c.args.book.now)), rw g (row_written c.args.at (i * plan_wide + 1) c.args.book.now c.args.out.now c.copy_to.new.bytes (omega arith) e))
+    record { value = rw g (some-row (plan_body_at i c.args.book.now)); out_after = rw g (row_written c.args.at (i * plan_wide + 1) c.args.book.now c.args.out.now c.copy_to.new.bytes (omega arith) e) }
 
 pub returns-in-Missing : goal.returns-in-Missing
 returns-in-Missing c =
     let g = row-missing c.args.plans c.args.book.now (part c.args.from key_wide c.args.key.now) c.requires.plan_wide_in_bounds.0 c.in-Missing.field-0 (sym c.in-Missing.is ∙ c.find_plan-f.ensures) in
-    (rw g, rw (g, over-nil))
+    record { value = rw g; out_after = rw (g, over-nil) }

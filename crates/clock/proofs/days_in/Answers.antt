@@ -12,5 +12,5 @@ pub returns-in-4 : goal.returns-in-4
 returns-in-4 c = days-30 _ _ c.in-4.is
 
 pub returns-in_default : goal.returns-in_default
-returns-in_default c = let r = c.in_default.rest.1 in
-    days-31 _ _ c.in_default.rest.0.1 (λ e. r (inl e)) (λ e. r (inr (inl e))) (λ e. r (inr (inr (inl e)))) (λ e. r (inr (inr (inr e))))
+returns-in_default c = let r = c.in_default.in_default-own.rest.1 in
+    days-31 _ _ c.in_default.in_default-own.rest.0.1 (λ e. r (inl e)) (λ e. r (inr (inl e))) (λ e. r (inr (inr (inl e)))) (λ e. r (inr (inr (inr e))))

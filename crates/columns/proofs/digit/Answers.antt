@@ -5,9 +5,9 @@ use Rattle.columns.proofs.digit.Goals as goal
 pub returns-then-j-lt16 : goal.returns-then-j-lt16
 returns-then-j-lt16 c =
     let a = c.args in
-    (c.digit_of.ensures.is ∙ digit-first a.first a.second a.j c.if-j-lt16.true, c.digit_of.ensures.few)
+    record { is = c.digit_of.ensures.is ∙ digit-first a.first a.second a.j c.if-j-lt16.true; few = c.digit_of.ensures.few }
 
 pub returns : goal.returns
 returns c =
     let a = c.args in
-    (c.digit_of-2.ensures.is ∙ digit-second a.first a.second a.j c.if-j-lt16.false, c.digit_of-2.ensures.few)
+    record { is = c.digit_of-2.ensures.is ∙ digit-second a.first a.second a.j c.if-j-lt16.false; few = c.digit_of-2.ensures.few }

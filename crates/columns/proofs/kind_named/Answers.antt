@@ -57,4 +57,4 @@ unfolding kind_named
 returns-in-12 c = rw c.in-12.is
 
 pub returns-in_default : goal.returns-in_default
-returns-in_default c = sym (kind-last _ c.in_default.rest)
+returns-in_default c = sym (kind-last _ c.in_default.in_default-own.rest)

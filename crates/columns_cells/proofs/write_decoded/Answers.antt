@@ -18,9 +18,9 @@ returns-then-t c =
     let read = c.read_text-t in
     let ten = ap (λ (t : Text). length t.bytes) read.ensures ∙ text-length _ in
     let kept = text-kept read.result c.if-t.true ∙ ap text_cell read.ensures in
-    kept-long c.args.at c.args.row.now kept (omega arith) c.copy_to.ensures
+    let t = kept-long c.args.at c.args.row.now kept (omega arith) c.copy_to.ensures in record { some = t.0; written = t.1 }
 
 pub returns : goal.returns
 returns c =
     let read = c.read_text-t in
-    kept-none c.args.at c.args.row.now (ap text_cell (sym read.ensures) ∙ text-refused read.result c.if-t.false)
+    let t = kept-none c.args.at c.args.row.now (ap text_cell (sym read.ensures) ∙ text-refused read.result c.if-t.false) in record { some = t.0; written = t.1 }

@@ -17,7 +17,7 @@ returns-then-is_plain c =
     let f = c.args.field.now in
     let told : plain f ≡ true = sym c.is_plain.ensures ∙ c.if-is_plain.true in
     let ten = padded-length f (plain-is f told).1 in
-    kept-long c.args.at c.args.row.now (ap text_cell (sym (plain-text f told))) (omega arith) c.write_plain.ensures
+    let t = kept-long c.args.at c.args.row.now (ap text_cell (sym (plain-text f told))) (omega arith) c.write_plain.ensures in record { some = t.0; written = t.1 }
 
 pub returns : goal.returns
-returns c = c.write_decoded.ensures
+returns c = let t = c.write_decoded.ensures in record { some = t.0; written = t.1 }

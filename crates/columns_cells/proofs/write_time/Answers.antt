@@ -19,25 +19,25 @@ returns-then-same_bytes c =
     let told : c.same_bytes.result ≡ same c.lookup-here.result.now word = c.same_bytes.ensures in
     let here = ap (λ (l : List ℕ). same l word) (sym c.lookup-here.ensures) ∙ sym told ∙ c.if-same_bytes.true in
     let time = time-missing word (field_under c.args.stop c.args.columns c.args.line.now) c.args.field.now (sym c.is_null.ensures ∙ c.if-is_null.true) here in
-    kept-spelled c.args.at c.args.row.now 3 16777215 (missing-spelled ∙ time) (omega arith) c.put_number.ensures
+    let t = kept-spelled c.args.at c.args.row.now 3 16777215 (missing-spelled ∙ time) (omega arith) c.put_number.ensures in record { some = t.0; written = t.1 }
 
 pub returns-then-is_null : goal.returns-then-is_null
 returns-then-is_null c =
     let word = c.args.word.now in
     let told : c.same_bytes.result ≡ same c.lookup-here.result.now word = c.same_bytes.ensures in
     let here = ap (λ (l : List ℕ). same l word) (sym c.lookup-here.ensures) ∙ sym told ∙ c.if-same_bytes.false in
-    kept-none c.args.at c.args.row.now
-    (time-none word (field_under c.args.stop c.args.columns c.args.line.now) c.args.field.now (sym c.is_null.ensures ∙ c.if-is_null.true) here)
+    let t = kept-none c.args.at c.args.row.now
+    (time-none word (field_under c.args.stop c.args.columns c.args.line.now) c.args.field.now (sym c.is_null.ensures ∙ c.if-is_null.true) here) in record { some = t.0; written = t.1 }
 
 pub returns-in-Is : goal.returns-in-Is
 returns-in-Is c =
     let read = c.read_time in
     let told = sym c.in-Is.is ∙ read.ensures in
     let time = time-told c.args.word.now (field_under c.args.stop c.args.columns c.args.line.now) c.args.field.now (sym c.is_null.ensures ∙ c.if-is_null.false) in
-    kept-spelled c.args.at c.args.row.now 3 _ (ap time_cell told ∙ time) (omega arith) c.put_number-in-Is.ensures
+    let t = kept-spelled c.args.at c.args.row.now 3 _ (ap time_cell told ∙ time) (omega arith) c.put_number-in-Is.ensures in record { some = t.0; written = t.1 }
 
 pub returns-in-Wrong : goal.returns-in-Wrong
 returns-in-Wrong c =
     let told = sym c.read_time.ensures ∙ c.in-Wrong.is in
     let time = time-told c.args.word.now (field_under c.args.stop c.args.columns c.args.line.now) c.args.field.now (sym c.is_null.ensures ∙ c.if-is_null.false) in
-    kept-none c.args.at c.args.row.now (sym time ∙ ap time_cell told)
+    let t = kept-none c.args.at c.args.row.now (sym time ∙ ap time_cell told) in record { some = t.0; written = t.1 }

@@ -3,4 +3,4 @@ use Rattle.desk_boards.proofs.AnswerLaws.{of-board}
 use Rattle.desk_boards.proofs.desk_board.Goals as goal
 
 pub returns : goal.returns
-returns c = of-board _ _ _ _ _ c.set_board.ensures c.board-a.ensures
+returns c = let t = of-board _ _ _ _ _ c.set_board.ensures c.board-a.ensures in record { number = t.0; answer = t.1.0; places = t.1.1 }

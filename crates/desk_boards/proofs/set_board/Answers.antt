@@ -4,10 +4,10 @@ use Rattle.desk_boards.proofs.AnswerLaws.{board-written}
 use Rattle.desk_boards.proofs.set_board.Goals as goal
 
 pub returns-in-Listed : goal.returns-in-Listed
-returns-in-Listed c = let g = c.listing-1.given in board-written _ (Listed g.0.0 g.0.1.0) _ _ g.1 c.write_three.ensures
+returns-in-Listed c = let g = c.listing-1.given in let t = board-written _ (Listed g.0.0 g.0.1.0) _ _ g.1 c.write_three.ensures in record { value = t.0; answer_after = t.1 }
 
 pub returns-in-Unsound : goal.returns-in-Unsound
-returns-in-Unsound c = board-written _ Unsound _ _ c.in-Unsound.is c.write_three-in-Unsound.ensures
+returns-in-Unsound c = let t = board-written _ Unsound _ _ c.in-Unsound.is c.write_three-in-Unsound.ensures in record { value = t.0; answer_after = t.1 }
 
 pub returns-in-OutOfRange : goal.returns-in-OutOfRange
-returns-in-OutOfRange c = board-written _ OutOfRange _ _ c.in-OutOfRange.is c.write_three-in-OutOfRange.ensures
+returns-in-OutOfRange c = let t = board-written _ OutOfRange _ _ c.in-OutOfRange.is c.write_three-in-OutOfRange.ensures in record { value = t.0; answer_after = t.1 }

@@ -3,4 +3,4 @@ use Rattle.desk_answers.proofs.AnswerLaws.{of-call}
 use Rattle.desk_day.proofs.desk_message.Goals as goal
 
 pub returns : goal.returns
-returns c = of-call _ _ _ _ _ _ _ c.set_answer.ensures c.message-outcome.ensures
+returns c = let t = of-call _ _ _ _ _ _ _ c.set_answer.ensures c.message-outcome.ensures in record { told = t.0; numbers = t.1 }

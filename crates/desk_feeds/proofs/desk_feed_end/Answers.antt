@@ -3,4 +3,4 @@ use Rattle.desk_answers.proofs.AnswerLaws.{of_end}
 use Rattle.desk_feeds.proofs.desk_feed_end.Goals as goal
 
 pub returns : goal.returns
-returns c = of_end _ _ _ _ _ _ _ _ c.set_answer.ensures c.end-outcome.ensures
+returns c = let t = of_end _ _ _ _ _ _ _ _ c.set_answer.ensures c.end-outcome.ensures in record { told = t.0; numbers = t.1 }

@@ -22,4 +22,4 @@ pub returns : goal.returns
 returns c =
     let l = c.loop-i in
     let a = c.args in
-    (l.invariant.3 ∙ ap (λ (b : List ℕ). over 18 b a.kept.now) (take_all l.i a.t2 (omega arith)), l.invariant.2)
+    record { kept = l.invariant.3 ∙ ap (λ (b : List ℕ). over 18 b a.kept.now) (take_all l.i a.t2 (omega arith)); room = l.invariant.2 }

@@ -24,5 +24,5 @@ returns-in-6 c = rw c.in-6.is
 
 pub returns-in_default : goal.returns-in_default
 returns-in_default c =
-    let r = c.in_default.rest in
+    let r = c.in_default.in_default-own.rest in
     rw (ne_eqb _ 0 r.0.0.0.0.0.0.1, ne_eqb _ 1 r.0.0.0.0.0.1, ne_eqb _ 2 r.0.0.0.0.1, ne_eqb _ 3 r.0.0.0.1, ne_eqb _ 4 r.0.0.1, ne_eqb _ 5 r.0.1, ne_eqb _ 6 r.1)

@@ -11,14 +11,14 @@ pub returns-then-is_accepted : goal.returns-then-is_accepted
 returns-then-is_accepted c =
     let a = c.args in
     let e = sym c.is_accepted.ensures ∙ c.if-is_accepted.true in
-    end-told a.register.now a.staging.now a.book.now a.table.now a.counts a.kept.now c.End-kept.result _ _ _
-    (end-leaves a.register.now a.staging.now a.book.now a.table.now a.counts a.kept.now c.read-read.result c.read-read.ensures c.End-kept.result _ _ c.End-kept.ensures _
-    (kept-cleared c.End-kept.result.answer a.kept.now _ e c.clear.ensures))
+    let t = end-told a.register.now a.staging.now a.book.now a.table.now a.counts a.kept.now c.end_kept-outcome.result _ _ _
+    (end-leaves a.register.now a.staging.now a.book.now a.table.now a.counts a.kept.now c.read-read.result c.read-read.ensures c.end_kept-outcome.result _ _ c.end_kept-outcome.ensures _
+    (kept-cleared c.end_kept-outcome.result.answer a.kept.now _ e c.clear.ensures)) in record { lent = t.0; numbers = t.1 }
 
 pub returns : goal.returns
 returns c =
     let a = c.args in
     let e = sym c.is_accepted.ensures ∙ c.if-is_accepted.false in
-    end-told a.register.now a.staging.now a.book.now a.table.now a.counts a.kept.now c.End-kept.result _ _ _
-    (end-leaves a.register.now a.staging.now a.book.now a.table.now a.counts a.kept.now c.read-read.result c.read-read.ensures c.End-kept.result _ _ c.End-kept.ensures _
-    (kept-left c.End-kept.result.answer a.kept.now e))
+    let t = end-told a.register.now a.staging.now a.book.now a.table.now a.counts a.kept.now c.end_kept-outcome.result _ _ _
+    (end-leaves a.register.now a.staging.now a.book.now a.table.now a.counts a.kept.now c.read-read.result c.read-read.ensures c.end_kept-outcome.result _ _ c.end_kept-outcome.ensures _
+    (kept-left c.end_kept-outcome.result.answer a.kept.now e)) in record { lent = t.0; numbers = t.1 }

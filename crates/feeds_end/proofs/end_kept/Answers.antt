@@ -6,12 +6,12 @@ use Rattle.feeds_end.proofs.end_kept.Goals as goal
 pub end_known-requires : goal.end_known-requires
 end_known-requires c =
     let a = c.args in
-    (sym c.is_sound.ensures ∙ c.if-is_sound.true, right-few a.staging.now a.kept (sym c.staged_right.ensures ∙ c.if-staged_right.true) c.requires)
+    record { counts_value = sym c.is_sound.ensures ∙ c.if-is_sound.true; staged_le_most_rows = right-few a.staging.now a.kept (sym c.staged_right.ensures ∙ c.if-staged_right.true) c.requires }
 
 pub returns-then-staged_right : goal.returns-then-staged_right
 returns-then-staged_right c =
     let a = c.args in
-    all_right a.register.now a.staging.now a.book.now a.table.now a.counts a.kept (sym c.is_sound.ensures ∙ c.if-is_sound.true) (sym c.staged_right.ensures ∙ c.if-staged_right.true) _ c.End-known.ensures
+    all_right a.register.now a.staging.now a.book.now a.table.now a.counts a.kept (sym c.is_sound.ensures ∙ c.if-is_sound.true) (sym c.staged_right.ensures ∙ c.if-staged_right.true) _ c.end_known.ensures
 
 pub returns-then-is_sound : goal.returns-then-is_sound
 returns-then-is_sound c =

@@ -4,12 +4,12 @@ use Rattle.feeds_end.proofs.EndLaws.{form-known, form-unknown}
 use Rattle.feeds_end.proofs.end_known.Goals as goal
 
 pub end_read-requires : goal.end_read-requires
-end_read-requires c = c.requires
+end_read-requires c = let t = c.requires in record { counts_value = t.0; staged_le_most_rows = t.1 }
 
 pub returns-then-is_form : goal.returns-then-is_form
 returns-then-is_form c =
     let a = c.args in
-    form-known a.register.now a.staging.now a.book.now a.table.now a.counts a.feed (sym c.is_form.ensures ∙ c.if-is_form.true) _ c.End-read.ensures
+    form-known a.register.now a.staging.now a.book.now a.table.now a.counts a.feed (sym c.is_form.ensures ∙ c.if-is_form.true) _ c.end_read.ensures
 
 pub returns : goal.returns
 returns c =

@@ -12,7 +12,7 @@ goes : (p : goal.After-passed) (x : Next) → p.passed.result ≡ x → passed_o
 goes p x e = sym (p.passed.ensures ∙ ap (passed_of 0) p.reading_kept.ensures) ∙ e
 
 pub post-requires : goal.post-requires
-post-requires c = c.requires
+post-requires c = let t = c.requires in record { counts_value = t.0; staged_le_most_rows = t.1 }
 
 pub returns-in-On : goal.returns-in-On
 returns-in-On c =

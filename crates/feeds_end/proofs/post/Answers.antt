@@ -31,7 +31,7 @@ pub take_rows-requires : goal.take_rows-requires
 take_rows-requires c =
     let a = c.args in
     let parts = sound-parts a.staging.now a.register.now a.book.now a.table.now a.feed.sender a.feed.form a.counts c.requires.counts_value in
-    ((here-few c.before.before.before.before.before.before, c.staged_here-here.ensures.within), (parts.1, parts.2))
+    record { count_le_most_updates = (here-few c.before.before.before.before.before.before, c.staged_here-here.ensures.within); book_value = (parts.1, parts.2) }
 
 pub returns : goal.returns
 returns c =

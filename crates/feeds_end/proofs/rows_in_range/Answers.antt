@@ -6,7 +6,7 @@ use Rattle.feeds_end.proofs.RowsLaws.{range_none}
 use Rattle.feeds_end.proofs.rows_in_range.Goals as goal
 
 pub updates_in_range-requires : goal.updates_in_range-requires
-updates_in_range-requires c = (c.requires, sym c.all_common.ensures ∙ c.if-all_common.true)
+updates_in_range-requires c = record { body_wide_in_bounds = c.requires; staging_value = sym c.all_common.ensures ∙ c.if-all_common.true }
 
 pub returns : goal.returns
 returns c =

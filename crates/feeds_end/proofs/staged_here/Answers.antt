@@ -4,7 +4,7 @@ use Rattle.feeds_end.proofs.RowsLaws.{least-all, least-cut}
 use Rattle.feeds_end.proofs.staged_here.Goals as goal
 
 pub returns-then-staged-room : goal.returns-then-staged-room
-returns-then-staged-room c = let h = c.if-staged-room.true in (least-all _ _ h, omega arith)
+returns-then-staged-room c = let h = c.if-staged-room.true in record { is = least-all _ _ h; within = omega arith }
 
 pub returns : goal.returns
-returns c = (least-cut _ _ c.if-staged-room.false, omega arith)
+returns c = record { is = least-cut _ _ c.if-staged-room.false; within = omega arith }

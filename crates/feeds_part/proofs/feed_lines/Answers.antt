@@ -54,4 +54,4 @@ returns c = let a = c.args in let k = c.loop-n in let i = k.invariant in
     let h = c.hold_bytes in
     let e : c.stand.result ≡ stands_at a.machine (longer (length k.rest.now) k.f) = c.stand.ensures ∙ ap (stands_at a.machine) c.lengthen.ensures in
     let d = left-done a.register.now (fed a.register.now (lent a.feed a.line.now a.staging.now) a.bytes.now) a.machine (a.feed.at + length a.bytes.now) a.feed.fault k.f k.line k.staging k.rest.now i.0 (omega (arith, i.1, c.loop-n-test.false)) h.new.0 h.ensures c.stand.result e in
-    (d.0, (d.1, d.2, d.3))
+    record { is = d.0; counted = (d.1, d.2, d.3) }

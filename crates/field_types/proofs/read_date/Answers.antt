@@ -7,7 +7,7 @@ use Rattle.field_types.proofs.TripleLaws.{triple-below}
 use Rattle.field_types.proofs.read_date.Goals as goal
 
 -- the three numbers as read
-read :  (c : goal.In-Three) → let g = c.y-1.given.0 in Three g.0 g.1.0 g.1.1.0 ≡ triple 4 45 c.args.field.now
+read : (c : goal.In-Three) → let g = c.y-1.given.0 in Three g.0 g.1.0 g.1.1.0 ≡ triple 4 45 c.args.field.now
 read c = sym c.in-Three.is ∙ c.read_triple.ensures
 
 pub returns-in_default : goal.returns-in_default

@@ -29,7 +29,7 @@ returns-then-b-gt57 c = let k = c.loop-i in
     number-other _ f (k.invariant.2 ∙ digits-stop f k.i (search rules) (above-range 48 57 _ c.if-b-gt57.true))
 
 -- the next number has one digit more
-below_next :  (c : goal.Else-b-gt57) → let k = c.loop-i in let b = get_or c.args.field.now k.i 0 in k.n * 10 + (b - 48) < 10 ^ (k.i + 1)
+below_next : (c : goal.Else-b-gt57) → let k = c.loop-i in let b = get_or c.args.field.now k.i 0 in k.n * 10 + (b - 48) < 10 ^ (k.i + 1)
 below_next c = more-digits _ _ _ c.loop-i.invariant.1 (omega arith)
 
 pub overflow_mul-n : goal.overflow_mul-n

@@ -8,11 +8,11 @@ use Rattle.field_types.proofs.StampLaws.{offset-length, offset-colon, offset-no-
 use Rattle.field_types.proofs.read_offset.Goals as goal
 
 -- the hour as read
-hour :  (c : goal.In-Is) → Is c.in-Is.h ≡ numeral 2 (take 2 c.args.field.now)
+hour : (c : goal.In-Is) → Is c.in-Is.h ≡ numeral 2 (take 2 c.args.field.now)
 hour c = sym c.in-Is.is ∙ c.read_number.ensures
 
 -- the minute as read
-minute :  (c : goal.In-Is-read_number) → Is c.in-Is-read_number.m ≡ numeral 2 (take 2 (drop 3 c.args.field.now))
+minute : (c : goal.In-Is-read_number) → Is c.in-Is-read_number.m ≡ numeral 2 (take 2 (drop 3 c.args.field.now))
 minute c = sym c.in-Is-read_number.is ∙ c.read_number-2.ensures
 
 pub returns-then-field-ne5 : goal.returns-then-field-ne5

@@ -27,12 +27,11 @@ pub loop-i-smaller : goal.loop-i-smaller
 loop-i-smaller c = omega arith
 
 pub loop-i-preserved : goal.loop-i-preserved
-loop-i-preserved c =
-    (
-      omega arith,
-      c.loop-i.invariant.1,
-      sym (same-agree c.args.left.now c.args.right.now c.loop-i.i (omega arith) (omega arith) c.if-left-i.false) ∙ c.loop-i.invariant.2,
-    )
+loop-i-preserved c = (
+  omega arith,
+  c.loop-i.invariant.1,
+  sym (same-agree c.args.left.now c.args.right.now c.loop-i.i (omega arith) (omega arith) c.if-left-i.false) ∙ c.loop-i.invariant.2,
+)
 
 pub returns : goal.returns
 returns c =

@@ -13,7 +13,7 @@ take_sound-requires c = (sym c.is_sound.ensures ∙ c.if-is_sound.true, sym c.is
 pub returns-then-is_form : goal.returns-then-is_form
 returns-then-is_form c =
     let a = c.args in
-    message-told a.dossier.now a.sender a.form a.register.now a.book.now a.table.now a.counts _ _ _ c.take_sound.ensures
+    let t = message-told a.dossier.now a.sender a.form a.register.now a.book.now a.table.now a.counts _ _ _ c.take_sound.ensures in record { lent = t.0; numbers = t.1 }
 
 pub unchanged-requires : goal.unchanged-requires
 unchanged-requires c = tt
@@ -27,8 +27,8 @@ shape_of-table-then-is_sound c = refl
 pub returns-then-is_sound : goal.returns-then-is_sound
 returns-then-is_sound c =
     let a = c.args in
-    message-told a.dossier.now a.sender a.form a.register.now a.book.now a.table.now a.counts _ _ _
-    (unknown a.dossier.now a.sender a.form a.register.now a.book.now a.table.now a.counts (sym c.is_sound.ensures ∙ c.if-is_sound.true) (sym c.is_form.ensures ∙ c.if-is_form.false) c.unchanged.result c.unchanged.ensures)
+    let t = message-told a.dossier.now a.sender a.form a.register.now a.book.now a.table.now a.counts _ _ _
+    (unknown a.dossier.now a.sender a.form a.register.now a.book.now a.table.now a.counts (sym c.is_sound.ensures ∙ c.if-is_sound.true) (sym c.is_form.ensures ∙ c.if-is_form.false) c.unchanged.result c.unchanged.ensures) in record { lent = t.0; numbers = t.1 }
 
 pub unchanged-requires-2 : goal.unchanged-requires-2
 unchanged-requires-2 c = tt
@@ -42,5 +42,5 @@ shape_of-table c = refl
 pub returns : goal.returns
 returns c =
     let a = c.args in
-    message-told a.dossier.now a.sender a.form a.register.now a.book.now a.table.now a.counts _ _ _
-    (unsound a.dossier.now a.sender a.form a.register.now a.book.now a.table.now a.counts (sym c.is_sound.ensures ∙ c.if-is_sound.false) c.unchanged-2.result c.unchanged-2.ensures)
+    let t = message-told a.dossier.now a.sender a.form a.register.now a.book.now a.table.now a.counts _ _ _
+    (unsound a.dossier.now a.sender a.form a.register.now a.book.now a.table.now a.counts (sym c.is_sound.ensures ∙ c.if-is_sound.false) c.unchanged-2.result c.unchanged-2.ensures) in record { lent = t.0; numbers = t.1 }

@@ -36,7 +36,7 @@ take_rows-requires c =
     let parts = sound-parts a.dossier.now a.register.now a.book.now a.table.now a.sender a.form a.counts c.requires.counts_value.0 in
     let holds = c.requires.holds_rows _ few.1 few.0 in
     let l = c.read_message-reading.auto.1.1.1.1.0 in
-    ((few.1, omega arith), (parts.1, parts.2))
+    record { count_le_most_updates = (few.1, omega arith); book_value = (parts.1, parts.2) }
 
 pub returns-in-On : goal.returns-in-On
 returns-in-On c =

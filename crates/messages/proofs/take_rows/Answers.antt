@@ -50,14 +50,14 @@ take_fitting-requires c =
     let within : c.rows_room-most.result * row_wide ≤ length a.table.now = rw m (room_fits a.table.now) in
     let room = c.requires.count_le_most_updates in
     let some = c.if-count-eq0.false in
-    ((sound-fits a.counts.rows a.table.now t, omega arith, held, most, omega arith), (sound-sorted a.counts.rows a.table.now t, within))
+    record { row_wide_in_bounds = (sound-fits a.counts.rows a.table.now t, omega arith, held, most, omega arith); table_value = sound-sorted a.counts.rows a.table.now t; row_wide_in_bounds_2 = within }
 
 pub write_rows-requires : goal.write_rows-requires
 write_rows-requires c =
     let a = c.args in
     let room = c.book_room.ensures in
     let fit : a.counts.used + a.count * entry_wide ≤ book_room a.book.now = rw (← room) c.if-book_room-used.false in
-    (c.requires.count_le_most_updates, (c.requires.book_value.0, fit))
+    record { count_le_most_updates = c.requires.count_le_most_updates; book_value = c.requires.book_value.0; entry_wide_bound = fit }
 
 pub returns-in-Count : goal.returns-in-Count
 returns-in-Count c =

@@ -40,4 +40,4 @@ shape_of-table c =
 pub returns : goal.returns
 returns c =
     let l = c.loop-i in
-    taking-end c.args.bodies.now c.args.table.now c.args.count c.requires.row_wide_in_bounds.0 l.i c.args.updates l.held l.table (omega arith) l.invariant.1
+    let t = taking-end c.args.bodies.now c.args.table.now c.args.count c.requires.row_wide_in_bounds.0 l.i c.args.updates l.held l.table (omega arith) l.invariant.1 in record { value = t.0; table_after = t.1 }

@@ -12,14 +12,14 @@ take_all-requires c =
     let a = c.args in
     let p = c.requires in
     let fit = all_fit a.bodies.now a.table.now a.count a.updates a.most c.if-count-updates.true in
-    ((p.0.0, p.0.1), (p.1.0, fits-room a.count a.most (after a.bodies.now (rows_of row_wide a.count a.table.now) a.updates) a.table.now true fit refl p.1.1))
+    record { row_wide_in_bounds = (p.0.0, p.0.1); table_value = p.1.0; row_wide_in_bounds_2 = fits-room a.count a.most (after a.bodies.now (rows_of row_wide a.count a.table.now) a.updates) a.table.now true fit refl p.1.1 }
 
 pub returns-then-count-updates : goal.returns-then-count-updates
 returns-then-count-updates c =
     let a = c.args in
     let took = c.take_all in
     let fit = all_fit a.bodies.now a.table.now a.count a.updates a.most c.if-count-updates.true in
-    fits-yes a.count a.most (after a.bodies.now (rows_of row_wide a.count a.table.now) a.updates) a.table.now true fit refl took.result _ took.ensures
+    let t = fits-yes a.count a.most (after a.bodies.now (rows_of row_wide a.count a.table.now) a.updates) a.table.now true fit refl took.result _ took.ensures in record { value = t.0; table_after = t.1 }
 
 pub returns : goal.returns
-returns c = c.take_tight.ensures
+returns c = let t = c.take_tight.ensures in record { value = t.0; table_after = t.1 }

@@ -32,11 +32,11 @@ returns-in-At c =
     let a = c.args in
     let i = c.in-At.i in
     let e = sym c.requires.found_value ∙ c.in-At.is in
-    (held-count a.table.now a.bodies.now a.count a.from i c.requires.row_wide_in_bounds.0 c.requires.row_wide_in_bounds.1 e, held-store a.table.now a.bodies.now a.count a.from i c.requires.row_wide_in_bounds.0 c.requires.row_wide_in_bounds.1 e _ c.apply_row.ensures)
+    record { value = held-count a.table.now a.bodies.now a.count a.from i c.requires.row_wide_in_bounds.0 c.requires.row_wide_in_bounds.1 e; table_after = held-store a.table.now a.bodies.now a.count a.from i c.requires.row_wide_in_bounds.0 c.requires.row_wide_in_bounds.1 e _ c.apply_row.ensures }
 
 pub returns-in-Missing : goal.returns-in-Missing
 returns-in-Missing c =
     let a = c.args in
     let i = c.in-Missing.i in
     let e = sym c.requires.found_value ∙ c.in-Missing.is in
-    (new-count a.table.now a.bodies.now a.count a.from i c.requires.row_wide_in_bounds.0 c.requires.row_wide_in_bounds.1 e, new-store a.table.now a.bodies.now a.count a.from i c.requires.row_wide_in_bounds.0 c.requires.row_wide_in_bounds.1 e _ c.insert_new.ensures)
+    record { value = new-count a.table.now a.bodies.now a.count a.from i c.requires.row_wide_in_bounds.0 c.requires.row_wide_in_bounds.1 e; table_after = new-store a.table.now a.bodies.now a.count a.from i c.requires.row_wide_in_bounds.0 c.requires.row_wide_in_bounds.1 e _ c.insert_new.ensures }

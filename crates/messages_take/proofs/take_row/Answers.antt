@@ -2,7 +2,7 @@ use Rattle.messages_take.proofs.take_row.Goals as goal
 
 pub take_found-requires : goal.take_found-requires
 take_found-requires c =
-    (c.requires.row_wide_in_bounds, (c.find-f.ensures, c.requires.row_wide_in_bounds_2))
+    record { row_wide_in_bounds = c.requires.row_wide_in_bounds; found_value = c.find-f.ensures; row_wide_in_bounds_2 = c.requires.row_wide_in_bounds_2 }
 
 pub returns : goal.returns
-returns c = c.take_found.ensures
+returns c = let t = c.take_found.ensures in record { value = t.0; table_after = t.1 }

@@ -10,15 +10,15 @@ take_placed-requires c =
     let a = c.args in
     let p = c.requires in
     let room = fits-room a.count a.most (after a.bodies.now (rows_of row_wide a.count a.table.now) a.updates) a.table.now _ c.fits_with.ensures c.if-fits_with.true p.1.1.0 in
-    ((p.0.0, p.0.1, omega arith), (p.1.0, room))
+    record { row_wide_in_bounds = (p.0.0, p.0.1, omega arith); table_value = p.1.0; row_wide_in_bounds_2 = room }
 
 pub returns-then-fits_with : goal.returns-then-fits_with
 returns-then-fits_with c =
     let a = c.args in
     let took = c.take_placed in
-    fits-yes a.count a.most (after a.bodies.now (rows_of row_wide a.count a.table.now) a.updates) a.table.now _ c.fits_with.ensures c.if-fits_with.true took.result _ took.ensures
+    let t = fits-yes a.count a.most (after a.bodies.now (rows_of row_wide a.count a.table.now) a.updates) a.table.now _ c.fits_with.ensures c.if-fits_with.true took.result _ took.ensures in record { value = t.0; table_after = t.1 }
 
 pub returns : goal.returns
 returns c =
     let a = c.args in
-    fits-no a.count a.most (after a.bodies.now (rows_of row_wide a.count a.table.now) a.updates) a.table.now _ c.fits_with.ensures c.if-fits_with.false
+    let t = fits-no a.count a.most (after a.bodies.now (rows_of row_wide a.count a.table.now) a.updates) a.table.now _ c.fits_with.ensures c.if-fits_with.false in record { value = t.0; table_after = t.1 }

@@ -34,7 +34,7 @@ slice_bounds-open_by-end-then-planning-calendar c = sym (length-replicate {A = �
 
 pub open_by-requires : goal.open_by-requires
 open_by-requires c =
-    ((λ n e. made-room (n * pass_wide) (few_passes * pass_wide) (small-passes c.before.before.before.before n e)), (λ n e. made-room (n * validity_wide) (few_validities * validity_wide) (small-validities c.before.before.before.before n e)))
+    record { holds_passes = (λ n e. made-room (n * pass_wide) (few_passes * pass_wide) (small-passes c.before.before.before.before n e)); holds_validities = (λ n e. made-room (n * validity_wide) (few_validities * validity_wide) (small-validities c.before.before.before.before n e)) }
 
 pub shape_of-book-then-planning-calendar : goal.shape_of-book-then-planning-calendar
 shape_of-book-then-planning-calendar c = c.open_by.auto.1.1.1.1.0
@@ -45,7 +45,7 @@ shape_of-table-then-planning-calendar c = c.open_by.auto.1.1.1.1.1.0
 pub returns-then-planning-calendar : goal.returns-then-planning-calendar
 returns-then-planning-calendar c =
     let a = c.args in
-    open_told a.planning.now a.calendar.now a.book.now a.table.now a.counts _ _ _ c.open_by.ensures
+    let t = open_told a.planning.now a.calendar.now a.book.now a.table.now a.counts _ _ _ c.open_by.ensures in record { lent = t.0; numbers = t.1 }
 
 -- ---- any dossiers
 pub slice_bounds-open_by-end-2 : goal.slice_bounds-open_by-end-2
@@ -57,7 +57,7 @@ slice_bounds-open_by-end-3 c = sym (length-replicate {A = ℕ} (most_validities 
 pub open_by-requires-2 : goal.open_by-requires-2
 open_by-requires-2 c =
     let a = c.args in
-    ((λ n e. made-room (n * pass_wide) (most_passes * pass_wide) (all-passes a.planning.now n e)), (λ n e. made-room (n * validity_wide) (most_validities * validity_wide) (all-validities a.calendar.now n e)))
+    record { holds_passes = (λ n e. made-room (n * pass_wide) (most_passes * pass_wide) (all-passes a.planning.now n e)); holds_validities = (λ n e. made-room (n * validity_wide) (most_validities * validity_wide) (all-validities a.calendar.now n e)) }
 
 pub shape_of-book : goal.shape_of-book
 shape_of-book c = c.open_by-2.auto.1.1.1.1.0
@@ -68,4 +68,4 @@ shape_of-table c = c.open_by-2.auto.1.1.1.1.1.0
 pub returns : goal.returns
 returns c =
     let a = c.args in
-    open_told a.planning.now a.calendar.now a.book.now a.table.now a.counts _ _ _ c.open_by-2.ensures
+    let t = open_told a.planning.now a.calendar.now a.book.now a.table.now a.counts _ _ _ c.open_by-2.ensures in record { lent = t.0; numbers = t.1 }

@@ -28,7 +28,7 @@ fits n = n.requires.holds_passes _ (rows n)
 pub read_and_join-requires : goal.read_and_join-requires
 read_and_join-requires c =
     let r = c.read_planning-reading in
-    ((room_for _ (length c.args.passes.now) r.last.1.0 r.kept.1.0 (fits c.before.before.before.before), (planning-few c.args.planning.now _ (rows c.before.before.before.before)).1), c.requires.holds_validities)
+    record { pass_wide_in_bounds = (room_for _ (length c.args.passes.now) r.last.1.0 r.kept.1.0 (fits c.before.before.before.before), (planning-few c.args.planning.now _ (rows c.before.before.before.before)).1); holds_validities = c.requires.holds_validities }
 
 pub returns-in-On : goal.returns-in-On
 returns-in-On c =

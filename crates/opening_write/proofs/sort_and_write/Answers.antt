@@ -64,7 +64,7 @@ write_plan-requires c =
     let l = k.kept.1.1.1.1.0 in
     let f = few c.before.before.before.before.before.before.before.before.before.before.before in
     let m = (room_within c.args.book.now).0 in
-    ((omega arith, c.requires.0, omega arith), places-each c.args.bodies.now c.args.count (all-places c.before.before.before) _ _ k.ensures.1 f)
+    record { plan_wide_in_bounds = (omega arith, c.requires.0, omega arith); each = places-each c.args.bodies.now c.args.count (all-places c.before.before.before) _ _ k.ensures.1 f }
 
 pub write_rows-requires : goal.write_rows-requires
 write_rows-requires c =
@@ -73,7 +73,7 @@ write_rows-requires c =
     let f = few c.before.before.before.before.before.before.before.before.before.before.before.before.before.before.before.before in
     let m = room_fits c.args.table.now in
     let r = c.rows_room-room.ensures in
-    ((omega arith, c.requires.0, omega arith), places-each c.args.bodies.now c.args.count (all-places c.before.before.before.before.before.before.before.before) _ _ k.ensures.1 f)
+    record { row_wide_in_bounds = (omega arith, c.requires.0, omega arith); each = places-each c.args.bodies.now c.args.count (all-places c.before.before.before.before.before.before.before.before) _ _ k.ensures.1 f }
 
 pub returns : goal.returns
 returns c =

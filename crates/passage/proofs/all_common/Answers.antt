@@ -32,7 +32,7 @@ get_number-date-requires c = (omega (arith, fit c, c.loop-i.invariant.2), omega 
 
 pub common_at-requires : goal.common_at-requires
 common_at-requires c =
-    (omega (arith, fit c.before, c.loop-i.invariant.2), (c.get_number-date.ensures, c.loop-i.invariant.1))
+    record { body_wide_in_bounds = omega (arith, fit c.before, c.loop-i.invariant.2); date_value = (c.get_number-date.ensures, c.loop-i.invariant.1) }
 
 pub overflow_add-p : goal.overflow_add-p
 overflow_add-p c = omega (arith, fit c.before.before.before, c.loop-i.invariant.2)

@@ -25,4 +25,4 @@ overflow_add-result-4 c =
 
 pub returns : goal.returns
 unfolding role_in
-returns c = (refl, role-most c.args.from c.args.i)
+returns c = record { is = refl; few = role-most c.args.from c.args.i }

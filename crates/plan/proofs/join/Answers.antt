@@ -14,7 +14,7 @@ returns-then-most-k c =
     let a = c.args in
     let l = c.loop-i in
     let j = c.join_one-k in
-    plan-full a.passes.now a.validities.now a.times a.days a.most a.out.now c.requires.0 c.requires.1 l.out l.k l.i l.invariant.3 c.loop-i-test.true j.result j.new.1.1.1.1.0 j.ensures.0 j.ensures.1 c.if-most-k.true
+    let t = plan-full a.passes.now a.validities.now a.times a.days a.most a.out.now c.requires.0 c.requires.1 l.out l.k l.i l.invariant.3 c.loop-i-test.true j.result j.new.1.1.1.1.0 j.ensures.0 j.ensures.1 c.if-most-k.true in record { count = t.0; bodies = t.1 }
 
 pub loop-i-preserved : goal.loop-i-preserved
 loop-i-preserved c =
@@ -29,4 +29,4 @@ pub returns : goal.returns
 returns c =
     let a = c.args in
     let l = c.loop-i in
-    plan-end a.passes.now a.validities.now a.times a.days a.most a.out.now l.out l.k l.i l.invariant.3 c.loop-i-test.false
+    let t = plan-end a.passes.now a.validities.now a.times a.days a.most a.out.now l.out l.k l.i l.invariant.3 c.loop-i-test.false in record { count = t.0; bodies = t.1 }

@@ -23,7 +23,7 @@ pub returns-then-m-most : goal.returns-then-m-most
 returns-then-m-most c =
     let a = c.args in
     let l = c.loop-j in
-    join-full (part a.pass pass_wide a.passes.now) a.validities.now a.days (length_part a.pass pass_wide a.passes.now c.requires.1) c.requires.2 a.held a.most a.out.now a.shared.now c.requires.0 l.out l.m l.j l.invariant.3 c.loop-j-test.true c.if-m-most.true
+    let t = join-full (part a.pass pass_wide a.passes.now) a.validities.now a.days (length_part a.pass pass_wide a.passes.now c.requires.1) c.requires.2 a.held a.most a.out.now a.shared.now c.requires.0 l.out l.m l.j l.invariant.3 c.loop-j-test.true c.if-m-most.true in record { count = t.0; bodies = t.1 }
 
 pub next_with-j-requires-in-loop-j : goal.next_with-j-requires-in-loop-j
 next_with-j-requires-in-loop-j c =
@@ -41,4 +41,4 @@ pub returns : goal.returns
 returns c =
     let a = c.args in
     let l = c.loop-j in
-    join-end (part a.pass pass_wide a.passes.now) a.validities.now a.days (length_part a.pass pass_wide a.passes.now c.requires.1) c.requires.2 a.held a.most a.out.now a.shared.now c.requires.0 l.out l.m l.j l.invariant.3 c.loop-j-test.false
+    let t = join-end (part a.pass pass_wide a.passes.now) a.validities.now a.days (length_part a.pass pass_wide a.passes.now c.requires.1) c.requires.2 a.held a.most a.out.now a.shared.now c.requires.0 l.out l.m l.j l.invariant.3 c.loop-j-test.false in record { count = t.0; bodies = t.1 }

@@ -5,10 +5,10 @@ use Rattle.reader_step.proofs.line_step.Goals as goal
 pub returns-then-state-ne0 : goal.returns-then-state-ne0
 returns-then-state-ne0 c =
     let l = line-counted c.args.table c.args.register.now c.args.sender c.args.state c.args.line.now c.args.staging.now c.if-state-ne0.true in
-    (c.moved_to.ensures ∙ l.0, l.1)
+    record { state = c.moved_to.ensures ∙ l.0; area = l.1 }
 
 pub returns : goal.returns
 returns c =
     let l = line-goes c.args.table c.args.register.now c.args.sender c.args.state c.args.line.now c.args.staging.now c.if-state-ne0.false in
     let n = c.line_by_mark in
-    (n.ensures.0 ∙ l.0, n.ensures.1 ∙ l.1)
+    record { state = n.ensures.0 ∙ l.0; area = n.ensures.1 ∙ l.1 }

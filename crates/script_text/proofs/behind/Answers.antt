@@ -4,4 +4,4 @@ use Rattle.script_text.proofs.TextLaws.{behind-is}
 use Rattle.script_text.proofs.behind.Goals as goal
 
 pub returns : goal.returns
-returns c = (c.after.ensures.is ∙ behind-is _ _ _ c.find-n.ensures.is, c.after.ensures.shorter)
+returns c = record { is = c.after.ensures.is ∙ behind-is _ _ _ c.find-n.ensures.is; shorter = c.after.ensures.shorter }

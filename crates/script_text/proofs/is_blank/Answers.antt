@@ -17,4 +17,4 @@ returns-in-32 c = rw c.in-32.is
 
 pub returns-in_default : goal.returns-in_default
 unfolding is_blank
-returns-in_default c = let r = c.in_default.rest in rw (ne_eqb _ 9 r.0.0.1, ne_eqb _ 13 r.0.1, ne_eqb _ 32 r.1)
+returns-in_default c = let r = c.in_default.in_default-own.rest in rw (ne_eqb _ 9 r.0.0.1, ne_eqb _ 13 r.0.1, ne_eqb _ 32 r.1)

@@ -11,7 +11,7 @@ pub loop-left-init : goal.loop-left-init
 loop-left-init c = (refl, omega arith, omega arith, refl, refl)
 
 pub returns-then-area-end : goal.returns-then-area-end
-returns-then-area-end c = let l = c.loop-left in let f : length c.args.area.now ≤ l.end = omega arith in (pad-end _ _ _ _ _ l.invariant.0 l.invariant.1 l.invariant.2 (inr f), sym (over-past _ _ _ c.if-area-end.true) ∙ l.invariant.4)
+returns-then-area-end c = let l = c.loop-left in let f : length c.args.area.now ≤ l.end = omega arith in record { end = pad-end _ _ _ _ _ l.invariant.0 l.invariant.1 l.invariant.2 (inr f); bytes = sym (over-past _ _ _ c.if-area-end.true) ∙ l.invariant.4 }
 
 pub overflow_add-end : goal.overflow_add-end
 overflow_add-end c = omega arith
@@ -26,4 +26,4 @@ pub loop-left-preserved : goal.loop-left-preserved
 loop-left-preserved c = let l = c.loop-left in (omega arith, omega arith, omega arith, simp length-set l.invariant.3, pad-turn _ _ _ _ c.loop-left-test.true ∙ l.invariant.4)
 
 pub returns : goal.returns
-returns c = let l = c.loop-left in let z : l.left ≡ 0 = omega arith in (pad-end _ _ _ _ _ l.invariant.0 l.invariant.1 l.invariant.2 (inl z), pad-done c.args.value l.end l.left l.area z ∙ l.invariant.4)
+returns c = let l = c.loop-left in let z : l.left ≡ 0 = omega arith in record { end = pad-end _ _ _ _ _ l.invariant.0 l.invariant.1 l.invariant.2 (inl z); bytes = pad-done c.args.value l.end l.left l.area z ∙ l.invariant.4 }

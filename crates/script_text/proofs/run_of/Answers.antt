@@ -21,7 +21,7 @@ pub loop-i-preserved : goal.loop-i-preserved
 loop-i-preserved c = let a = c.args in let e = run_on a.blank a.s.now c.loop-i.i c.loop-i-test.true (sym c.is_kind.ensures ∙ c.if-is_kind.true) in (omega arith, omega (arith, e))
 
 pub returns-else-is_kind : goal.returns-else-is_kind
-returns-else-is_kind c = let a = c.args in let e = run-stop a.blank a.s.now c.loop-i.i c.loop-i-test.true (sym c.is_kind.ensures ∙ c.if-is_kind.false) in (omega (arith, e), omega arith)
+returns-else-is_kind c = let a = c.args in let e = run-stop a.blank a.s.now c.loop-i.i c.loop-i-test.true (sym c.is_kind.ensures ∙ c.if-is_kind.false) in record { is = omega (arith, e); within = omega arith }
 
 pub returns : goal.returns
-returns c = let a = c.args in let e = run_end a.blank a.s.now c.loop-i.i c.loop-i-test.false in (omega (arith, e), omega arith)
+returns c = let a = c.args in let e = run_end a.blank a.s.now c.loop-i.i c.loop-i-test.false in record { is = omega (arith, e); within = omega arith }

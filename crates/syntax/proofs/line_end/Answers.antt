@@ -13,13 +13,13 @@ pub begins-fresh-requires : goal.begins-fresh-requires
 begins-fresh-requires c = let p = quiet-place c.args.dossier.now c.loop-i.p c.quiet_end-j.result c.loop-i.invariant.within c.quiet_end-j.ensures in (p.0, p.1)
 
 pub returns-then-dossier-j : goal.returns-then-dossier-j
-returns-then-dossier-j c = stopped-short c.args.dossier.now c.args.i c.loop-i.p c.loop-i.fresh c.loop-i.invariant c.quiet_end-j.result c.quiet_end-j.ensures c.if-dossier-j.true
+returns-then-dossier-j c = let t = stopped-short c.args.dossier.now c.args.i c.loop-i.p c.loop-i.fresh c.loop-i.invariant c.quiet_end-j.result c.quiet_end-j.ensures c.if-dossier-j.true in record { ahead = t.0; leads = t.1 }
 
 pub ret_end-requires : goal.ret_end-requires
 ret_end-requires c = let l = c.loop-i in let q = c.quiet_end-j in (c.if-dossier-j.false, (quiet-place c.args.dossier.now l.p q.result l.invariant.within q.ensures).2 c.if-dossier-j.false, c.if-dossier-j-ne92.true)
 
 pub returns-then-dossier-j-ne92 : goal.returns-then-dossier-j-ne92
-returns-then-dossier-j-ne92 c = let l = c.loop-i in let q = c.quiet_end-j in ended c.args.dossier.now c.args.i l.p l.fresh l.invariant q.result q.ensures c.ret_end.result c.ret_end.ensures.ahead c.ret_end.ensures.leads
+returns-then-dossier-j-ne92 c = let l = c.loop-i in let q = c.quiet_end-j in let t = ended c.args.dossier.now c.args.i l.p l.fresh l.invariant q.result q.ensures c.ret_end.result c.ret_end.ensures.ahead c.ret_end.ensures.leads in record { ahead = t.0; leads = t.1 }
 
 pub escape_end-requires : goal.escape_end-requires
 escape_end-requires c = (c.if-dossier-j.false, c.if-dossier-j-ne92.false)
@@ -31,4 +31,4 @@ pub loop-i-preserved : goal.loop-i-preserved
 loop-i-preserved c = let l = c.loop-i in let q = c.quiet_end-j in let o = c.escape_end in (turned c.args.dossier.now c.args.i l.p l.fresh l.invariant q.result q.ensures o.result c.begins-fresh.result c.begins-fresh.ensures o.ensures.0 o.ensures.1 c.in-On.n c.in-On.is).1
 
 pub returns-in-Stuck : goal.returns-in-Stuck
-returns-in-Stuck c = let l = c.loop-i in let q = c.quiet_end-j in let o = c.escape_end in stopped c.args.dossier.now c.args.i l.p l.fresh l.invariant q.result q.ensures o.result c.begins-fresh.result c.begins-fresh.ensures o.ensures.0 o.ensures.1 c.in-Stuck.x c.in-Stuck.is
+returns-in-Stuck c = let l = c.loop-i in let q = c.quiet_end-j in let o = c.escape_end in let t = stopped c.args.dossier.now c.args.i l.p l.fresh l.invariant q.result q.ensures o.result c.begins-fresh.result c.begins-fresh.ensures o.ensures.0 o.ensures.1 c.in-Stuck.x c.in-Stuck.is in record { ahead = t.0; leads = t.1 }

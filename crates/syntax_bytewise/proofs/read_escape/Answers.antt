@@ -10,7 +10,7 @@ returns-in-105 c = ⊎_elim (λ e. rw e) (⊎_elim (λ e. rw e) (⊎_elim (λ e.
 pub returns-in_default : goal.returns-in_default
 unfolding escape_step
 returns-in_default c =
-    let no = c.in_default.rest.1 in
+    let no = c.in_default.in_default-own.rest.1 in
     simp (
       ne_eqb _ _ (λ e. no (inl e)),
       ne_eqb _ _ (λ e. no (inr (inl e))),

@@ -9,7 +9,7 @@ use Rattle.table.proofs.find.Goals as goal
 
 pub find_key-requires : goal.find_key-requires
 find_key-requires c =
-    ((c.requires.row_wide_in_bounds.0, omega arith, c.requires.row_wide_in_bounds.1), rows-rise (rows c.args.count c.args.table.now) ∙ c.requires.table_value)
+    record { width_in_bounds = (c.requires.row_wide_in_bounds.0, omega arith, c.requires.row_wide_in_bounds.1); bytes_value = rows-rise (rows c.args.count c.args.table.now) ∙ c.requires.table_value }
 
 pub returns : goal.returns
 returns c =

@@ -33,9 +33,9 @@ overflow_sub-result c = omega (arith, below c.before.before.before.before.before
 pub returns-in-At : goal.returns-in-At
 returns-in-At c =
     let e = remove-at (key c.before.before.before.before.before.before.before.before.before.before) (rows c.args.count c.args.table.now) _ (found c.before.before.before.before.before) in
-    (rw e (sym (length-remove_at row_wide c.args.count _ c.args.table.now c.requires.row_wide_in_bounds.0 (below c.before.before.before.before.before))), rw e c.remove_row.ensures)
+    record { value = rw e (sym (length-remove_at row_wide c.args.count _ c.args.table.now c.requires.row_wide_in_bounds.0 (below c.before.before.before.before.before))); table_after = rw e c.remove_row.ensures }
 
 pub returns-in-Missing : goal.returns-in-Missing
 returns-in-Missing c =
     let e = remove-at (key c.before.before.before.before.before) (rows c.args.count c.args.table.now) _ (sym c.find-f.ensures ∙ c.in-Missing.is) in
-    (rw (e, length-rows_of), rw (e, store_same))
+    record { value = rw (e, length-rows_of); table_after = rw (e, store_same) }

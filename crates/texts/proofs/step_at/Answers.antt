@@ -5,7 +5,7 @@ use Rattle.texts.proofs.step_at.Goals as goal
 
 pub returns-then-after : goal.returns-then-after
 unfolding step_of
-returns-then-after c = c.Kept-step.ensures ∙ ap kept_step c.escaped.ensures ∙ rw c.if-after.true
+returns-then-after c = c.kept_step.ensures ∙ ap kept_step c.escaped.ensures ∙ rw c.if-after.true
 
 pub returns-then-b-eq92 : goal.returns-then-b-eq92
 unfolding step_of

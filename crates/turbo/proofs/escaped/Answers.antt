@@ -21,5 +21,5 @@ returns-in-112 c = rw c.in-112.is
 pub returns-in_default : goal.returns-in_default
 unfolding escaped
 returns-in_default c =
-    let r = c.in_default.rest in
+    let r = c.in_default.in_default-own.rest in
     rw (ne_eqb _ 114 r.0.0.0.1, ne_eqb _ 110 r.0.0.1, ne_eqb _ 105 r.0.1, ne_eqb _ 112 r.1)

@@ -3,7 +3,7 @@ use Rattle.turbo.proofs.SplitLaws.{rest-is, rest-none}
 use Rattle.turbo.proofs.read_field.Goals as goal
 
 pub returns-then-n-tail : goal.returns-then-n-tail
-returns-then-n-tail c = (rest-is 124 _ _ c.find-n.ensures.is, c.find-n.ensures.is)
+returns-then-n-tail c = record { tail = rest-is 124 _ _ c.find-n.ensures.is; size = c.find-n.ensures.is }
 
 pub returns : goal.returns
-returns c = (rest-none 124 _ _ c.find-n.ensures.is c.if-n-tail.false, c.find-n.ensures.is)
+returns c = record { tail = rest-none 124 _ _ c.find-n.ensures.is c.if-n-tail.false; size = c.find-n.ensures.is }

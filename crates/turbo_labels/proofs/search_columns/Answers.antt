@@ -24,7 +24,7 @@ columns-init c = (c.names.invariant.0, refl, omega arith, refl, sym (tail-zero _
 pub size_at-n-requires : goal.size_at-n-requires
 size_at-n-requires c = λ h. c.requires.1 c.columns.k h ∙ ap (λ (x : List ℕ). length (until 124 x)) (sym c.columns.invariant.4)
 
-slice-aggregate-same-bytes :  goal.slice_bounds-same_bytes-end
+slice-aggregate-same-bytes : goal.slice_bounds-same_bytes-end
 slice-aggregate-same-bytes c = sym (length-take-le _ _ c.before.size-at.ensures.1)
 
 pub overflow_add-k : goal.overflow_add-k

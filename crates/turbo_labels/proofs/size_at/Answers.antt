@@ -6,7 +6,7 @@ use Rattle.turbo_labels.proofs.size_at.Goals as goal
 pub returns-then-k-sizes : goal.returns-then-k-sizes
 returns-then-k-sizes c =
     let e = c.requires (omega arith) in
-    (e, omega (arith, e, until-le 124 c.args.l.now))
+    record { is = e; within = omega (arith, e, until-le 124 c.args.l.now) }
 
 pub returns : goal.returns
-returns c = c.find.ensures
+returns c = let t = c.find.ensures in record { is = t.0; within = t.1 }

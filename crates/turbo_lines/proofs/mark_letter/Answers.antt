@@ -12,4 +12,4 @@ pub returns-in-76 : goal.returns-in-76
 returns-in-76 c = rw c.in-76.is
 
 pub returns-in_default : goal.returns-in_default
-returns-in_default c = let r = c.in_default.rest in rw (ne_eqb _ 71 r.0.0.1, ne_eqb _ 84 r.0.1, ne_eqb _ 76 r.1)
+returns-in_default c = let r = c.in_default.in_default-own.rest in rw (ne_eqb _ 71 r.0.0.1, ne_eqb _ 84 r.0.1, ne_eqb _ 76 r.1)

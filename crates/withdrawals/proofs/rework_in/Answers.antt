@@ -29,7 +29,7 @@ fits_after-requires c =
     let a = c.args in
     let x = worked c.before.before.before.before in
     let k = names-most x in
-    ((sound-fits a.counts.rows a.table.now x.tables, omega arith, sound-most a.counts.rows a.table.now x.tables, names-few x), sound-sorted a.counts.rows a.table.now x.tables)
+    record { row_wide_in_bounds = (sound-fits a.counts.rows a.table.now x.tables, omega arith, sound-most a.counts.rows a.table.now x.tables, names-few x); table_value = sound-sorted a.counts.rows a.table.now x.tables }
 
 pub settle-settled-requires : goal.settle-settled-requires
 settle-settled-requires c =

@@ -48,7 +48,7 @@ pub overflow_add-at : goal.overflow_add-at
 overflow_add-at c = omega (arith, fits c)
 
 pub withdraw_found-requires : goal.withdraw_found-requires
-withdraw_found-requires c = (c.requires, found c.before.before)
+withdraw_found-requires c = record { counts_value = c.requires; message_at = found c.before.before }
 
 pub returns-in-Nowhere : goal.returns-in-Nowhere
 returns-in-Nowhere c =

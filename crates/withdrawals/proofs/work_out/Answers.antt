@@ -31,7 +31,7 @@ begin_slots-requires c =
     let w = sorted c.before.before.before.before in
     let plans = c.count_plans-n.ensures in
     let k = order-most w in
-    ((plans-fit w plans, lent-there w, w.long, omega arith), (plans-rise w plans, order_below w))
+    record { plan_wide_in_bounds = (plans-fit w plans, lent-there w, w.long, omega arith); book_value = plans-rise w plans; each = order_below w }
 
 pub overflow_mul-from : goal.overflow_mul-from
 overflow_mul-from c =
@@ -47,11 +47,11 @@ replay-requires c =
     let w = sorted c.before.before.before.before.before.before.before.before in
     let plans = c.count_plans-n.ensures in
     let k = order-most w in
-    ((updates-fit w plans, lent-there w, w.long, omega arith), (order_below w, (order-rises w, keys-are w plans c.args.slots.now _ (omega arith) c.begin_slots.ensures)))
+    record { entry_wide_in_bounds = (updates-fit w plans, lent-there w, w.long, omega arith); each = order_below w; order_value = order-rises w; slots_value = keys-are w plans c.args.slots.now _ (omega arith) c.begin_slots.ensures }
 
 pub returns : goal.returns
 returns c =
     let w = sorted c.before.before.before.before.before.before.before.before.before.before.before in
     let a = c.args in
     let k = order-most w in
-    (order-count w, worked w c.count_plans-n.ensures a.slots.now _ (omega arith) c.begin_slots.ensures a.number _ c.replay.ensures.taken)
+    record { value = order-count w; slots_after = worked w c.count_plans-n.ensures a.slots.now _ (omega arith) c.begin_slots.ensures a.number _ c.replay.ensures.taken }

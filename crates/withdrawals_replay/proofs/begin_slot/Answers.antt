@@ -29,7 +29,7 @@ pub plan_row-requires : goal.plan_row-requires
 plan_row-requires c =
     let a = c.args in
     let l = length-set a.slots.now a.at 0 in
-    ((c.requires.plan_wide_in_bounds.0, c.requires.plan_wide_in_bounds.1), (c.requires.book_value, omega arith))
+    record { plan_wide_in_bounds = (c.requires.plan_wide_in_bounds.0, c.requires.plan_wide_in_bounds.1); book_value = c.requires.book_value; row_wide_in_bounds = omega arith }
 
 pub bounds-slots-at-then-plan_row : goal.bounds-slots-at-then-plan_row
 bounds-slots-at-then-plan_row c =

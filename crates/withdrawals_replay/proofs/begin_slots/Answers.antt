@@ -30,7 +30,7 @@ overflow_add-p c = omega (arith, spot c.before)
 
 pub begin_slot-requires : goal.begin_slot-requires
 begin_slot-requires c =
-    ((c.requires.plan_wide_in_bounds.0, spot c.before.before, omega arith), c.requires.book_value)
+    record { plan_wide_in_bounds = (c.requires.plan_wide_in_bounds.0, spot c.before.before, omega arith); book_value = c.requires.book_value }
 
 pub loop-i-preserved : goal.loop-i-preserved
 loop-i-preserved c =

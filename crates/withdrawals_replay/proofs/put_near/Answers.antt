@@ -50,9 +50,9 @@ insert_row-requires c =
 pub returns-in-At : goal.returns-in-At
 returns-in-At c =
     let e = put-at c.args.row.now (rows c.args.count c.args.table.now) _ (found c.before.before.before.before.before) in
-    (rw (e, length-set, length-rows_of), rw e c.replace_row.ensures)
+    record { value = rw (e, length-set, length-rows_of); table_after = rw e c.replace_row.ensures }
 
 pub returns-in-Missing : goal.returns-in-Missing
 returns-in-Missing c =
     let e = put-at c.args.row.now (rows c.args.count c.args.table.now) _ (absent c.before.before.before.before.before) in
-    (sym (grown c.before.before.before.before.before), rw e c.insert_row.ensures)
+    record { value = sym (grown c.before.before.before.before.before); table_after = rw e c.insert_row.ensures }

@@ -40,4 +40,4 @@ returns c =
     let loop = c.loop-i in
     let e : loop.i ≡ a.named = omega arith in
     let h = loop.invariant.1.0 in
-    (rw e at h.count, rw e at h.stored)
+    record { value = rw e at h.count; table_after = rw e at h.stored }

@@ -13,7 +13,7 @@ loop-i-init c =
 
 pub replay_one-requires : goal.replay_one-requires
 replay_one-requires c =
-    ((omega arith, c.requires.entry_wide_in_bounds.1, c.requires.entry_wide_in_bounds.2, omega arith), (c.requires.each, (c.requires.order_value, c.loop-i.invariant.3.keys)))
+    record { entry_wide_in_bounds = (omega arith, c.requires.entry_wide_in_bounds.1, c.requires.entry_wide_in_bounds.2, omega arith); each = c.requires.each; order_value = c.requires.order_value; slots_value = c.loop-i.invariant.3.keys }
 
 pub loop-i-preserved : goal.loop-i-preserved
 loop-i-preserved c =
@@ -25,4 +25,4 @@ pub returns : goal.returns
 returns c =
     let a = c.args in
     let loop = c.loop-i in
-    (heard-end a.number a.book.now a.at a.updates _ _ loop.i (slots_of a.named loop.slots) c.loop-i-test.false loop.invariant.3, loop.invariant.2)
+    record { taken = heard-end a.number a.book.now a.at a.updates _ _ loop.i (slots_of a.named loop.slots) c.loop-i-test.false loop.invariant.3; rest = loop.invariant.2 }

@@ -7,18 +7,18 @@ use Rattle.withdrawals_replay.proofs.replay_one.Goals as goal
 pub returns-then-kind-ne2 : goal.returns-then-kind-ne2
 returns-then-kind-ne2 c =
     let a = c.args in
-    (entry-fallen a.number a.at a.book.now _ c.requires.entry_wide_in_bounds.0 c.if-kind-ne2.true, refl)
+    record { taken = entry-fallen a.number a.at a.book.now _ c.requires.entry_wide_in_bounds.0 c.if-kind-ne2.true; rest = refl }
 
 pub returns-then-own-number : goal.returns-then-own-number
 returns-then-own-number c =
     let a = c.args in
-    (entry-own a.number a.at a.book.now _ c.requires.entry_wide_in_bounds.0 (sym c.get_number-own.ensures ∙ c.if-own-number.true), refl)
+    record { taken = entry-own a.number a.at a.book.now _ c.requires.entry_wide_in_bounds.0 (sym c.get_number-own.ensures ∙ c.if-own-number.true); rest = refl }
 
 pub take_update-requires : goal.take_update-requires
 take_update-requires c =
-    ((omega arith, c.requires.entry_wide_in_bounds.1, c.requires.entry_wide_in_bounds.2, c.requires.entry_wide_in_bounds.3), c.requires.1)
+    let t = ((omega arith, c.requires.entry_wide_in_bounds.1, c.requires.entry_wide_in_bounds.2, c.requires.entry_wide_in_bounds.3), c.requires.1) in record { body_wide_in_bounds = t.0; each = t.1.0; order_value = t.1.1.0; slots_value = t.1.1.1 }
 
 pub returns : goal.returns
 returns c =
     let a = c.args in
-    (c.take_update.ensures.taken ∙ entry_other a.number a.at a.book.now (slots_of a.named a.slots.now) c.requires.entry_wide_in_bounds.0 c.if-kind-ne2.false (λ e. c.if-own-number.false (c.get_number-own.ensures ∙ e)), c.take_update.ensures.rest)
+    record { taken = c.take_update.ensures.taken ∙ entry_other a.number a.at a.book.now (slots_of a.named a.slots.now) c.requires.entry_wide_in_bounds.0 c.if-kind-ne2.false (λ e. c.if-own-number.false (c.get_number-own.ensures ∙ e)); rest = c.take_update.ensures.rest }
