@@ -139,7 +139,7 @@ returns-in-Arrival c =
     let stop = field_under c.args.stop c.args.columns c.args.line.now in
     let kind = kind-as stop c.args.field.now c.in-Arrival.is in
     let write = c.write_time in
-    let said : Kept c.args.at (time_at (bytes "FIRST") stop c.args.field.now) c.args.row.now write.result write.new.1.1.1.1.1.0 = write.ensures in
+    let said : Kept c.args.at (time_at (bytes "FIRST") stop c.args.field.now) c.args.row.now write.result write.new.row = write.ensures in
     let t = kept-as c.args.at c.args.row.now kind said in record { some = t.0; written = t.1 }
 
 pub returns-in-Departure : goal.returns-in-Departure
@@ -148,7 +148,7 @@ returns-in-Departure c =
     let stop = field_under c.args.stop c.args.columns c.args.line.now in
     let kind = kind-as stop c.args.field.now c.in-Departure.is in
     let write = c.write_time-in-Departure in
-    let said : Kept c.args.at (time_at (bytes "LAST") stop c.args.field.now) c.args.row.now write.result write.new.1.1.1.1.1.0 = write.ensures in
+    let said : Kept c.args.at (time_at (bytes "LAST") stop c.args.field.now) c.args.row.now write.result write.new.row = write.ensures in
     let t = kept-as c.args.at c.args.row.now kind said in record { some = t.0; written = t.1 }
 
 pub returns-in-StopType : goal.returns-in-StopType

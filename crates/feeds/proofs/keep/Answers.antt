@@ -5,4 +5,4 @@ pub returns : goal.returns
 returns c =
     let n = c.machine_number-number in
     let p = c.keep_places in
-    kept-written c.args.feed n.result p.new.0 p.ensures.0 p.ensures.1 n.ensures
+    kept-written c.args.feed n.result p.new.kept p.ensures.kept p.ensures.room n.ensures

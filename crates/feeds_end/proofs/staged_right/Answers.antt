@@ -9,7 +9,7 @@ returns-then-rows-le-MOST_ROWS c =
     let here = c.staged_here-here in
     let a = c.args in
     right-rows a.staging.now a.kept c.if-kept.true c.if-rows-le-MOST_ROWS.true _
-    (c.rows_in_range.ensures ∙ ap all_in_range (rows-here a.staging.now a.kept.feed here.result here.ensures.0))
+    (c.rows_in_range.ensures ∙ ap all_in_range (rows-here a.staging.now a.kept.feed here.result here.ensures.is))
 
 pub returns-then-kept : goal.returns-then-kept
 returns-then-kept c = let a = c.args in right-many a.staging.now a.kept c.if-rows-le-MOST_ROWS.false

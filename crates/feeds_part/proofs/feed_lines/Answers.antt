@@ -22,7 +22,7 @@ pub overflow_add-rest : goal.overflow_add-rest
 overflow_add-rest c = let a = c.args in let k = c.loop-n in let i = k.invariant in omega (arith, left-room a.register.now (fed a.register.now (lent a.feed a.line.now a.staging.now) a.bytes.now) a.machine (a.feed.at + length a.bytes.now) a.feed.fault k.f k.line k.staging k.rest.now i.0 k.n c.loop-n-test.true)
 
 pub slice_bounds-rest-start : goal.slice_bounds-rest-start
-slice_bounds-rest-start c = let k = c.loop-n in omega (arith, c.loop-n-test.true)
+slice_bounds-rest-start c = omega (arith, c.loop-n-test.true)
 
 pub loop-n-smaller : goal.loop-n-smaller
 loop-n-smaller c = let a = c.args in let k = c.loop-n in let i = k.invariant in left-shorter a.register.now (fed a.register.now (lent a.feed a.line.now a.staging.now) a.bytes.now) a.machine (a.feed.at + length a.bytes.now) a.feed.fault k.f k.line k.staging k.rest.now i.0 k.n _ i.1 c.loop-n-test.true (rest-is 10 k.n k.rest.now i.1)
@@ -32,7 +32,7 @@ loop-n-preserved c = let a = c.args in let k = c.loop-n in let i = k.invariant i
     let g = c.line_ended-f in (
       left-turn a.register.now (fed a.register.now (lent a.feed a.line.now a.staging.now) a.bytes.now) a.machine (a.feed.at + length a.bytes.now) a.feed.fault k.f k.line k.staging k.rest.now i.0
           k.n (take k.n k.rest.now) (take (length k.rest.now - (k.n + 1)) (drop (k.n + 1) k.rest.now)) i.1 c.loop-n-test.true (upto_is 10 k.n k.rest.now i.1) (rest-is 10 k.n k.rest.now i.1)
-          g.result g.new.1.1.1.1.0 g.new.1.1.1.0 g.ensures (g.auto.1.1.1.1.0 ∙ i.0.room),
+          g.result g.new.line g.new.staging g.ensures (g.auto.1.1.1.1.0 ∙ i.0.room),
       c.line_feed-n-in-loop-n.ensures.is,
       g.auto.1.1.1.0 ∙ i.2,
     )
@@ -53,5 +53,5 @@ pub returns : goal.returns
 returns c = let a = c.args in let k = c.loop-n in let i = k.invariant in
     let h = c.hold_bytes in
     let e : c.stand.result ≡ stands_at a.machine (longer (length k.rest.now) k.f) = c.stand.ensures ∙ ap (stands_at a.machine) c.lengthen.ensures in
-    let d = left-done a.register.now (fed a.register.now (lent a.feed a.line.now a.staging.now) a.bytes.now) a.machine (a.feed.at + length a.bytes.now) a.feed.fault k.f k.line k.staging k.rest.now i.0 (omega (arith, i.1, c.loop-n-test.false)) h.new.0 h.ensures c.stand.result e in
+    let d = left-done a.register.now (fed a.register.now (lent a.feed a.line.now a.staging.now) a.bytes.now) a.machine (a.feed.at + length a.bytes.now) a.feed.fault k.f k.line k.staging k.rest.now i.0 (omega (arith, i.1, c.loop-n-test.false)) h.new.line h.ensures c.stand.result e in
     record { is = d.0; counted = (d.1, d.2, d.3) }

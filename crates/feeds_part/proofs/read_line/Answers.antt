@@ -26,7 +26,7 @@ staged_after-more-requires c =
     let m = c.message_of-table in
     let e = c.without_return-end in
     after-rows c.args.register.now (take e.result c.args.bytes.now) c.args.feed n.result c.requires.1
-    (n.ensures.0 ∙ ap (λ (t : Table). line_step t c.args.register.now c.args.feed.sender c.args.feed.lines (take e.result c.args.bytes.now)) m.ensures)
+    (n.ensures.state ∙ ap (λ (t : Table). line_step t c.args.register.now c.args.feed.sender c.args.feed.lines (take e.result c.args.bytes.now)) m.ensures)
 
 pub end_line-requires : goal.end_line-requires
 end_line-requires c = c.requires.0
@@ -38,12 +38,12 @@ returns c =
     let m = c.message_of-table in
     let e = c.without_return-end in
     let l = take e.result a.bytes.now in
-    let area = n.new.1.1.1.1.1.0 in
+    let area = n.new.staging in
     let q : take e.result a.bytes.now ≡ take (length a.bytes.now - 1) a.bytes.now = ap (λ (k : ℕ). take k a.bytes.now) e.ensures in
     let step : n.result ≡ line_step (message_of a.feed) a.register.now a.feed.sender a.feed.lines l =
-    n.ensures.0 ∙ ap (λ (t : Table). line_step t a.register.now a.feed.sender a.feed.lines l) m.ensures in
+    n.ensures.state ∙ ap (λ (t : Table). line_step t a.register.now a.feed.sender a.feed.lines l) m.ensures in
     let staged : area ≡ line_staged (message_of a.feed) a.register.now a.feed.sender a.feed.lines l a.staging.now =
-    n.ensures.1 ∙ ap (λ (t : Table). line_staged t a.register.now a.feed.sender a.feed.lines l a.staging.now) m.ensures in
+    n.ensures.area ∙ ap (λ (t : Table). line_staged t a.register.now a.feed.sender a.feed.lines l a.staging.now) m.ensures in
     let more : c.staged_after-more.result ≡ on (rows_stay (message_of a.feed) a.feed.lines.rows n.result.rows a.feed.staged (length area)) (a.feed.staged + 1) a.feed.staged =
     c.staged_after-more.ensures ∙ ap (λ (t : Table). on (rows_stay t a.feed.lines.rows n.result.rows a.feed.staged (length area)) (a.feed.staged + 1) a.feed.staged) m.ensures in let t = (
       line-on a.register.now l a.feed a.staging.now area n.result step staged c.staged_after-more.result more c.end_line.result c.end_line.ensures

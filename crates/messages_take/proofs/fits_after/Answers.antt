@@ -22,7 +22,7 @@ trial_fits-requires c =
     let p = c.requires in
     let most = c.args.most in
     let fits : most + 1 ≤ most_rows + 1 = omega arith in
-    record { row_wide_in_bounds = (p.0.0, p.0.1, p.0.2, made-room ((most + 1) * row_wide) ((most_rows + 1) * row_wide) (mul-le-mul_right row_wide fits)); table_value = p.1 }
+    record { row_wide_in_bounds = (p.row_wide_in_bounds.0, p.row_wide_in_bounds.1, p.row_wide_in_bounds.2, made-room ((most + 1) * row_wide) ((most_rows + 1) * row_wide) (mul-le-mul_right row_wide fits)); table_value = p.table_value }
 
 pub returns : goal.returns
 returns c = c.trial_fits.ensures

@@ -9,5 +9,5 @@ returns c =
     let a = c.args in
     let begun = c.begin_row in
     let applied = c.apply_row in
-    new-insert a.table.now _ a.bodies.now (replicate row_wide 0) begun.new.0 applied.new.0 a.count a.place a.from
+    new-insert a.table.now _ a.bodies.now (replicate row_wide 0) begun.new.row applied.new.row a.count a.place a.from
     c.requires.2 refl begun.ensures applied.ensures c.insert_row.ensures

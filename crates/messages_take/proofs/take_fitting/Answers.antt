@@ -12,7 +12,7 @@ take_all-requires c =
     let a = c.args in
     let p = c.requires in
     let fit = all_fit a.bodies.now a.table.now a.count a.updates a.most c.if-count-updates.true in
-    record { row_wide_in_bounds = (p.0.0, p.0.1); table_value = p.1.0; row_wide_in_bounds_2 = fits-room a.count a.most (after a.bodies.now (rows_of row_wide a.count a.table.now) a.updates) a.table.now true fit refl p.1.1 }
+    record { row_wide_in_bounds = (p.row_wide_in_bounds.0, p.row_wide_in_bounds.1); table_value = p.table_value; row_wide_in_bounds_2 = fits-room a.count a.most (after a.bodies.now (rows_of row_wide a.count a.table.now) a.updates) a.table.now true fit refl p.row_wide_in_bounds_2 }
 
 pub returns-then-count-updates : goal.returns-then-count-updates
 returns-then-count-updates c =

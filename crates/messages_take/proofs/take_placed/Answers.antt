@@ -29,7 +29,7 @@ loop-k-preserved c =
     let room : length (after a.bodies.now (rows_of row_wide a.count a.table.now) (l.k + 1)) * row_wide ≤ length a.table.now =
     omega (arith, after-rises a.bodies.now (rows_of row_wide a.count a.table.now) (l.k + 1) a.updates (omega arith), c.requires.row_wide_in_bounds_2) in (
       omega arith,
-      taking-next a.bodies.now a.table.now a.count c.requires.row_wide_in_bounds.0 l.k l.held l.table l.invariant.1 there room row.result row.new.0 row.ensures.0 row.ensures.1,
+      taking-next a.bodies.now a.table.now a.count c.requires.row_wide_in_bounds.0 l.k l.held l.table l.invariant.1 there room row.result row.new.table row.ensures.value row.ensures.table_after,
     )
 
 pub shape_of-table : goal.shape_of-table

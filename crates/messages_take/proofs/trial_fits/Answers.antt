@@ -6,14 +6,14 @@ pub loop-tried-init : goal.loop-tried-init
 loop-tried-init c =
     let a = c.args in
     let copied = c.copy_to in
-    trying_start a.bodies.now a.table.now a.trial.now copied.new.0 a.count a.updates a.most c.requires copied.ensures
+    trying_start a.bodies.now a.table.now a.trial.now copied.new.bytes a.count a.updates a.most c.requires copied.ensures
 
 pub take_row-held-requires : goal.take_row-held-requires
 take_row-held-requires c =
     let l = c.loop-tried in
     let copied = c.copy_to in
     let a = c.args in
-    trying-asked a.bodies.now a.table.now a.trial.now copied.new.0 a.count a.updates a.most c.requires copied.ensures l.tried l.held l.trial c.loop-tried-test.true l.invariant
+    trying-asked a.bodies.now a.table.now a.trial.now copied.new.bytes a.count a.updates a.most c.requires copied.ensures l.tried l.held l.trial c.loop-tried-test.true l.invariant
 
 pub returns-then-most-held : goal.returns-then-most-held
 returns-then-most-held c =
@@ -21,8 +21,8 @@ returns-then-most-held c =
     let l = c.loop-tried in
     let copied = c.copy_to in
     let a = c.args in
-    trying-over a.bodies.now a.table.now a.trial.now copied.new.0 a.count a.updates a.most c.requires copied.ensures l.tried l.held l.trial
-    c.loop-tried-test.true l.invariant row.result row.new.0 row.ensures c.if-most-held.true
+    trying-over a.bodies.now a.table.now a.trial.now copied.new.bytes a.count a.updates a.most c.requires copied.ensures l.tried l.held l.trial
+    c.loop-tried-test.true l.invariant row.result row.new.table row.ensures c.if-most-held.true
 
 pub loop-tried-preserved : goal.loop-tried-preserved
 loop-tried-preserved c =
@@ -30,12 +30,12 @@ loop-tried-preserved c =
     let l = c.loop-tried in
     let copied = c.copy_to in
     let a = c.args in
-    trying-again a.bodies.now a.table.now a.trial.now copied.new.0 a.count a.updates a.most c.requires copied.ensures l.tried l.held l.trial
-    c.loop-tried-test.true l.invariant row.result row.new.0 row.ensures c.if-most-held.false
+    trying-again a.bodies.now a.table.now a.trial.now copied.new.bytes a.count a.updates a.most c.requires copied.ensures l.tried l.held l.trial
+    c.loop-tried-test.true l.invariant row.result row.new.table row.ensures c.if-most-held.false
 
 pub returns : goal.returns
 returns c =
     let l = c.loop-tried in
     let copied = c.copy_to in
     let a = c.args in
-    trying-end a.bodies.now a.table.now a.trial.now copied.new.0 a.count a.updates a.most c.requires copied.ensures l.tried l.held l.trial c.loop-tried-test.false l.invariant
+    trying-end a.bodies.now a.table.now a.trial.now copied.new.bytes a.count a.updates a.most c.requires copied.ensures l.tried l.held l.trial c.loop-tried-test.false l.invariant

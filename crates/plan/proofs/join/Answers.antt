@@ -14,7 +14,7 @@ returns-then-most-k c =
     let a = c.args in
     let l = c.loop-i in
     let j = c.join_one-k in
-    let t = plan-full a.passes.now a.validities.now a.times a.days a.most a.out.now c.requires.0 c.requires.1 l.out l.k l.i l.invariant.3 c.loop-i-test.true j.result j.new.1.1.1.1.0 j.ensures.0 j.ensures.1 c.if-most-k.true in record { count = t.0; bodies = t.1 }
+    let t = plan-full a.passes.now a.validities.now a.times a.days a.most a.out.now c.requires.0 c.requires.1 l.out l.k l.i l.invariant.3 c.loop-i-test.true j.result j.new.out j.ensures.count j.ensures.bodies c.if-most-k.true in record { count = t.0; bodies = t.1 }
 
 pub loop-i-preserved : goal.loop-i-preserved
 loop-i-preserved c =
@@ -22,7 +22,7 @@ loop-i-preserved c =
     let l = c.loop-i in
     let j = c.join_one-k in
     let g =
-    plan-turn a.passes.now a.validities.now a.times a.days a.most a.out.now c.requires.0 c.requires.1 l.out l.k l.i l.invariant.3 c.loop-i-test.true j.result j.new.1.1.1.1.0 j.ensures.0 j.ensures.1 c.if-most-k.false in
+    plan-turn a.passes.now a.validities.now a.times a.days a.most a.out.now c.requires.0 c.requires.1 l.out l.k l.i l.invariant.3 c.loop-i-test.true j.result j.new.out j.ensures.count j.ensures.bodies c.if-most-k.false in
     (j.auto.1.1.1.1.0 ∙ l.invariant.0, g.within, g.few, g)
 
 pub returns : goal.returns

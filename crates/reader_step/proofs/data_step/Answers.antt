@@ -11,4 +11,4 @@ pub returns-then-state-ne0 : goal.returns-then-state-ne0
 returns-then-state-ne0 c = let l = data-known c.args.table c.args.register.now c.args.sender c.args.state c.args.line.now c.args.staging.now (sym c.count_fields.ensures ∙ c.if-count_fields-shape.false) c.if-state-ne0.true in record { state = c.moved_to.ensures ∙ l.0; area = l.1 }
 
 pub returns : goal.returns
-returns c = let r = c.row_step in let e = c.read_row-read.ensures in let l = data-read c.args.table c.args.register.now c.args.sender c.args.state c.args.line.now c.args.staging.now (sym c.count_fields.ensures ∙ c.if-count_fields-shape.false) c.if-state-ne0.false in record { state = r.ensures.0 ∙ ap (row_step c.args.table c.args.register.now c.args.sender c.args.state) e ∙ l.0; area = r.ensures.1 ∙ ap (λ x. row_staged c.args.table c.args.register.now c.args.sender c.args.state x c.args.staging.now) e ∙ l.1 }
+returns c = let r = c.row_step in let e = c.read_row-read.ensures in let l = data-read c.args.table c.args.register.now c.args.sender c.args.state c.args.line.now c.args.staging.now (sym c.count_fields.ensures ∙ c.if-count_fields-shape.false) c.if-state-ne0.false in record { state = r.ensures.state ∙ ap (row_step c.args.table c.args.register.now c.args.sender c.args.state) e ∙ l.0; area = r.ensures.area ∙ ap (λ x. row_staged c.args.table c.args.register.now c.args.sender c.args.state x c.args.staging.now) e ∙ l.1 }

@@ -14,7 +14,7 @@ pub data_step-requires : goal.data_step-requires
 data_step-requires c = (c.requires.0, c.requires.1, c.requires.2 c.if-place-eq2.true)
 
 pub returns-then-place-eq2 : goal.returns-then-place-eq2
-returns-then-place-eq2 c = let l = line-data c.args.table c.args.register.now c.args.sender c.args.state c.args.line.now c.args.staging.now (sym c.mark_of.ensures ∙ c.in-Data.is) c.if-place-eq2.true in let r = c.data_step in record { state = r.ensures.0 ∙ l.0; area = r.ensures.1 ∙ l.1 }
+returns-then-place-eq2 c = let l = line-data c.args.table c.args.register.now c.args.sender c.args.state c.args.line.now c.args.staging.now (sym c.mark_of.ensures ∙ c.in-Data.is) c.if-place-eq2.true in let r = c.data_step in record { state = r.ensures.state ∙ l.0; area = r.ensures.area ∙ l.1 }
 
 pub returns-in-Group : goal.returns-in-Group
 returns-in-Group c = let l = line-group c.args.table c.args.register.now c.args.sender c.args.state c.args.line.now c.args.staging.now (sym c.mark_of.ensures ∙ c.in-Group.is) in record { state = c.moved_to.ensures ∙ l.0; area = l.1 }

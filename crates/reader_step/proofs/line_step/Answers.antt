@@ -11,4 +11,4 @@ pub returns : goal.returns
 returns c =
     let l = line-goes c.args.table c.args.register.now c.args.sender c.args.state c.args.line.now c.args.staging.now c.if-state-ne0.false in
     let n = c.line_by_mark in
-    record { state = n.ensures.0 ∙ l.0; area = n.ensures.1 ∙ l.1 }
+    record { state = n.ensures.state ∙ l.0; area = n.ensures.area ∙ l.1 }

@@ -12,13 +12,13 @@ unfolding fault
 loop-i-init c = (search rules, refl)
 
 pub loop-i-smaller : goal.loop-i-smaller
-loop-i-smaller c = let l = c.loop-i in let o = c.whole_line in omega (arith, next-line c.args.dossier.now l.i l.k o.result o.ensures.0 o.ensures.1 l.invariant.1 c.in-In.m c.in-In.n c.in-In.is)
+loop-i-smaller c = let l = c.loop-i in let o = c.whole_line in omega (arith, next-line c.args.dossier.now l.i l.k o.result o.ensures.ahead o.ensures.leads l.invariant.1 c.in-In.m c.in-In.n c.in-In.is)
 
 pub loop-i-preserved : goal.loop-i-preserved
-loop-i-preserved c = let l = c.loop-i in let o = c.whole_line in let r = next-line c.args.dossier.now l.i l.k o.result o.ensures.0 o.ensures.1 l.invariant.1 c.in-In.m c.in-In.n c.in-In.is in (r.1, r.2)
+loop-i-preserved c = let l = c.loop-i in let o = c.whole_line in let r = next-line c.args.dossier.now l.i l.k o.result o.ensures.ahead o.ensures.leads l.invariant.1 c.in-In.m c.in-In.n c.in-In.is in (r.1, r.2)
 
 pub returns-in-Never : goal.returns-in-Never
-returns-in-Never c = let l = c.loop-i in let o = c.whole_line in no_line c.args.dossier.now l.i l.k o.result o.ensures.0 o.ensures.1 l.invariant.1 c.in-Never.x c.in-Never.is
+returns-in-Never c = let l = c.loop-i in let o = c.whole_line in no_line c.args.dossier.now l.i l.k o.result o.ensures.ahead o.ensures.leads l.invariant.1 c.in-Never.x c.in-Never.is
 
 pub returns-then-ends_after : goal.returns-then-ends_after
 unfolding accepting

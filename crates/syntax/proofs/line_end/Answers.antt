@@ -25,10 +25,10 @@ pub escape_end-requires : goal.escape_end-requires
 escape_end-requires c = (c.if-dossier-j.false, c.if-dossier-j-ne92.false)
 
 pub loop-i-smaller : goal.loop-i-smaller
-loop-i-smaller c = let l = c.loop-i in let q = c.quiet_end-j in let o = c.escape_end in omega (arith, (turned c.args.dossier.now c.args.i l.p l.fresh l.invariant q.result q.ensures o.result c.begins-fresh.result c.begins-fresh.ensures o.ensures.0 o.ensures.1 c.in-On.n c.in-On.is).0)
+loop-i-smaller c = let l = c.loop-i in let q = c.quiet_end-j in let o = c.escape_end in omega (arith, (turned c.args.dossier.now c.args.i l.p l.fresh l.invariant q.result q.ensures o.result c.begins-fresh.result c.begins-fresh.ensures o.ensures.ahead o.ensures.leads c.in-On.n c.in-On.is).0)
 
 pub loop-i-preserved : goal.loop-i-preserved
-loop-i-preserved c = let l = c.loop-i in let q = c.quiet_end-j in let o = c.escape_end in (turned c.args.dossier.now c.args.i l.p l.fresh l.invariant q.result q.ensures o.result c.begins-fresh.result c.begins-fresh.ensures o.ensures.0 o.ensures.1 c.in-On.n c.in-On.is).1
+loop-i-preserved c = let l = c.loop-i in let q = c.quiet_end-j in let o = c.escape_end in (turned c.args.dossier.now c.args.i l.p l.fresh l.invariant q.result q.ensures o.result c.begins-fresh.result c.begins-fresh.ensures o.ensures.ahead o.ensures.leads c.in-On.n c.in-On.is).1
 
 pub returns-in-Stuck : goal.returns-in-Stuck
-returns-in-Stuck c = let l = c.loop-i in let q = c.quiet_end-j in let o = c.escape_end in let t = stopped c.args.dossier.now c.args.i l.p l.fresh l.invariant q.result q.ensures o.result c.begins-fresh.result c.begins-fresh.ensures o.ensures.0 o.ensures.1 c.in-Stuck.x c.in-Stuck.is in record { ahead = t.0; leads = t.1 }
+returns-in-Stuck c = let l = c.loop-i in let q = c.quiet_end-j in let o = c.escape_end in let t = stopped c.args.dossier.now c.args.i l.p l.fresh l.invariant q.result q.ensures o.result c.begins-fresh.result c.begins-fresh.ensures o.ensures.ahead o.ensures.leads c.in-Stuck.x c.in-Stuck.is in record { ahead = t.0; leads = t.1 }

@@ -22,8 +22,8 @@ loop-k-preserved c =
     let f = c.read_field-after.ensures in (
       omega (arith, length-set l.sizes l.k n),
       length-set l.sizes l.k n ∙ l.invariant.1,
-      f.0 ∙ ap (past 124) l.invariant.2 ∙ tail-past l.k labels ∙ ap (λ (i : ℕ). tail_at i labels) (sym (add-one l.k)),
-      measured-next labels l.sizes l.l.now l.k n (omega arith) l.invariant.2 f.1 l.invariant.3,
+      f.tail ∙ ap (past 124) l.invariant.2 ∙ tail-past l.k labels ∙ ap (λ (i : ℕ). tail_at i labels) (sym (add-one l.k)),
+      measured-next labels l.sizes l.l.now l.k n (omega arith) l.invariant.2 f.size l.invariant.3,
     )
 
 pub returns : goal.returns

@@ -50,7 +50,7 @@ returns-then-plan_row c =
     let k = part a.from key_wide a.message.now in
     let plan = c.plan_row in
     slot-planned a.at k a.slots.now _ _ (length_part a.from key_wide a.message.now c.requires.plan_wide_in_bounds.1) (rw (lent-part a.from key_wide a.message.now) at c.copy_to.ensures) c.clear.ensures
-    (get k (plan_rows (bodies a.plans a.book.now))) _ plan.ensures.1 (planned-whole (bodies a.plans a.book.now) (wide-bodies a.plans a.book.now c.requires.plan_wide_in_bounds.0) k) (sym plan.ensures.0 ∙ c.if-plan_row.true)
+    (get k (plan_rows (bodies a.plans a.book.now))) _ plan.ensures.out_after (planned-whole (bodies a.plans a.book.now) (wide-bodies a.plans a.book.now c.requires.plan_wide_in_bounds.0) k) (sym plan.ensures.value ∙ c.if-plan_row.true)
 
 pub shape_of-slots : goal.shape_of-slots
 shape_of-slots c =
@@ -65,4 +65,4 @@ returns c =
     let k = part a.from key_wide a.message.now in
     let plan = c.plan_row in
     slot-bare a.at k a.slots.now _ _ (length_part a.from key_wide a.message.now c.requires.plan_wide_in_bounds.1) (rw (lent-part a.from key_wide a.message.now) at c.copy_to.ensures) c.clear.ensures
-    (get k (plan_rows (bodies a.plans a.book.now))) _ plan.ensures.1 (sym plan.ensures.0 ∙ c.if-plan_row.false)
+    (get k (plan_rows (bodies a.plans a.book.now))) _ plan.ensures.out_after (sym plan.ensures.value ∙ c.if-plan_row.false)

@@ -37,7 +37,7 @@ loop-i-preserved c =
     let a = c.args in
     let loop = c.loop-i in
     let one = c.put_one-held in
-    (omega arith, put-turn a.count a.table.now a.slots.now loop.i loop.held loop.table loop.invariant.1 (there c.before.before.before.before.before) (space c.before.before.before.before.before) one.result _ one.ensures.0 one.ensures.1)
+    (omega arith, put-turn a.count a.table.now a.slots.now loop.i loop.held loop.table loop.invariant.1 (there c.before.before.before.before.before) (space c.before.before.before.before.before) one.result _ one.ensures.value one.ensures.table_after)
 
 pub shape_of-table : goal.shape_of-table
 shape_of-table c =

@@ -26,7 +26,7 @@ loop-i-preserved c =
     let a = c.args in
     let loop = c.loop-i in
     let one = c.remove_one-held in
-    (omega arith, removed-turn a.count a.table.now a.slots.now loop.i loop.held loop.table one.result _ loop.invariant.1 one.ensures.0 one.ensures.1)
+    (omega arith, removed-turn a.count a.table.now a.slots.now loop.i loop.held loop.table one.result _ loop.invariant.1 one.ensures.value one.ensures.table_after)
 
 pub shape_of-table : goal.shape_of-table
 shape_of-table c =

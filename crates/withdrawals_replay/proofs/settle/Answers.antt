@@ -7,11 +7,11 @@ put_all-requires c =
     let p = c.requires in
     let gone = c.remove_all-left.ensures in let t = (
       (
-        left-fits a.count a.table.now a.named a.slots.now p.0.0 p.0.1 p.1 _ _ gone.0 gone.1,
-        p.0.1,
-        puts-fit a.count a.table.now a.named a.slots.now p.0.0 p.0.1 p.1 _ _ gone.0 gone.1 p.0.2,
+        left-fits a.count a.table.now a.named a.slots.now p.row_wide_in_bounds.0 p.row_wide_in_bounds.1 p.table_value _ _ gone.value gone.table_after,
+        p.row_wide_in_bounds.1,
+        puts-fit a.count a.table.now a.named a.slots.now p.row_wide_in_bounds.0 p.row_wide_in_bounds.1 p.table_value _ _ gone.value gone.table_after p.row_wide_in_bounds.2,
       ),
-      left-sorted a.count a.table.now a.named a.slots.now p.0.0 p.0.1 p.1 _ _ gone.0 gone.1,
+      left-sorted a.count a.table.now a.named a.slots.now p.row_wide_in_bounds.0 p.row_wide_in_bounds.1 p.table_value _ _ gone.value gone.table_after,
     ) in record { row_wide_in_bounds = t.0; table_value = t.1 }
 
 pub returns : goal.returns
@@ -20,6 +20,6 @@ returns c =
     let p = c.requires in
     let gone = c.remove_all-left.ensures in
     let put = c.put_all in let t = (
-      puts-count a.count a.table.now a.named a.slots.now p.0.0 p.0.1 p.1 _ _ gone.0 gone.1 put.result put.ensures.0,
-      puts-stored a.count a.table.now a.named a.slots.now p.0.0 p.0.1 p.1 _ _ gone.0 gone.1 _ put.ensures.1,
+      puts-count a.count a.table.now a.named a.slots.now p.row_wide_in_bounds.0 p.row_wide_in_bounds.1 p.table_value _ _ gone.value gone.table_after put.result put.ensures.value,
+      puts-stored a.count a.table.now a.named a.slots.now p.row_wide_in_bounds.0 p.row_wide_in_bounds.1 p.table_value _ _ gone.value gone.table_after _ put.ensures.table_after,
     ) in record { value = t.0; table_after = t.1 }
