@@ -3,6 +3,7 @@
 
 use calls::{Counts, Four, Outcome};
 use columns::Table;
+use std::io::Stdout;
 
 // How much more there is now; nothing where there is less.
 fn growth(before: usize, now: usize) -> usize {
@@ -13,7 +14,7 @@ fn growth(before: usize, now: usize) -> usize {
 }
 
 // Refusals of which nothing is looked up in a dossier.
-fn plain(place: u32, line: &[u8], f: Four) {
+fn plain(out: Stdout, place: u32, line: &[u8], f: Four) {
     let all = b"|\
         book, table or register not sound|\
         more than 65,536 bytes in the dossier|||||\
@@ -27,6 +28,7 @@ fn plain(place: u32, line: &[u8], f: Four) {
         unknown form, which is 0 for the old one and 1 for turbo 8.5";
     let words = turbo::field_of(all, f.number as usize);
     boards_words::refuse(
+        out,
         line,
         words,
         f.dossier as usize,
@@ -38,38 +40,46 @@ fn plain(place: u32, line: &[u8], f: Four) {
 }
 
 // Which dossier an opening's refusal is of, and its table.
-fn refuse_opening(place: u32, line: &[u8], planning: &[u8], calendar: &[u8], f: Four) {
+fn refuse_opening(out: Stdout, place: u32, line: &[u8], planning: &[u8], calendar: &[u8], f: Four) {
     if f.number == 9 {
-        return boards_keys::tell(place, line, planning, calendar);
+        return boards_keys::tell(out, place, line, planning, calendar);
     }
     if f.dossier == 2 {
-        return refuse(place, line, Table::Calendar, calendar, f, 0);
+        return refuse(out, place, line, Table::Calendar, calendar, f, 0);
     }
-    refuse(place, line, Table::Planning, planning, f, 0);
+    refuse(out, place, line, Table::Planning, planning, f, 0);
 }
 
 // A refusal by its number.
-fn refuse(place: u32, line: &[u8], table: Table, dossier: &[u8], f: Four, sender: u8) {
+fn refuse(out: Stdout, place: u32, line: &[u8], table: Table, dossier: &[u8], f: Four, sender: u8) {
     let number = f.number;
     match number {
-        3 => boards_reasons::tell_syntax(place, line, dossier, f),
-        4 => boards_reasons::tell_form(place, line, table, dossier, f),
-        5 => boards_reasons::tell_field(place, line, dossier, f),
-        6 => boards_reasons::tell_owner(place, line, dossier, f, sender),
-        _ => plain(place, line, f),
+        3 => boards_reasons::tell_syntax(out, place, line, dossier, f),
+        4 => boards_reasons::tell_form(out, place, line, table, dossier, f),
+        5 => boards_reasons::tell_field(out, place, line, dossier, f),
+        6 => boards_reasons::tell_owner(out, place, line, dossier, f, sender),
+        _ => plain(out, place, line, f),
     }
 }
 
 // What an opening answered: a planning and a calendar that give no passages are most often the wrong files.
-pub fn opened(place: u32, line: &[u8], planning: &[u8], calendar: &[u8], outcome: Outcome) {
+pub fn opened(
+    out: Stdout,
+    place: u32,
+    line: &[u8],
+    planning: &[u8],
+    calendar: &[u8],
+    outcome: Outcome,
+) {
     let a = outcome.answer;
     let c = outcome.counts;
     let f = calls::numbers(a);
     if 0 < f.number {
-        return refuse_opening(place, line, planning, calendar, f);
+        return refuse_opening(out, place, line, planning, calendar, f);
     }
     if c.rows == 0 {
         return boards_words::tell(
+            out,
             b"%0%1%2: accepted, NO passages\n",
             line,
             b"",
@@ -79,6 +89,7 @@ pub fn opened(place: u32, line: &[u8], planning: &[u8], calendar: &[u8], outcome
         );
     }
     boards_words::tell(
+        out,
         b"%0%1%2: accepted; book %A bytes, table %B rows\n",
         line,
         b"",
@@ -89,9 +100,10 @@ pub fn opened(place: u32, line: &[u8], planning: &[u8], calendar: &[u8], outcome
 }
 
 // An acceptance: a message without rows gets no number.
-fn took(line: &[u8], number: usize, before: Counts, now: Counts) {
+fn took(out: Stdout, line: &[u8], number: usize, before: Counts, now: Counts) {
     if number == 0 {
         return boards_words::tell(
+            out,
             b"%0%1%2%3%4: accepted, NO rows\n",
             line,
             b"",
@@ -101,6 +113,7 @@ fn took(line: &[u8], number: usize, before: Counts, now: Counts) {
         );
     }
     boards_words::tell(
+        out,
         b"%0%1%2%3%4: accepted as message %A; rows %B, passages new to the table %C; book %D bytes, table %E rows\n",
         line,
         b"",
@@ -118,6 +131,7 @@ fn took(line: &[u8], number: usize, before: Counts, now: Counts) {
 
 // What a message in this form answered, whole or in parts: its number, how many rows it had, how many passages are new to the table.
 pub fn sent(
+    out: Stdout,
     place: u32,
     line: &[u8],
     dossier: &[u8],
@@ -131,20 +145,21 @@ pub fn sent(
     let f = calls::numbers(a);
     if 0 < f.number {
         let table = Table::Message(columns::form_of(form));
-        return refuse(place, line, table, dossier, f, sender);
+        return refuse(out, place, line, table, dossier, f, sender);
     }
-    took(line, f.value, before, c);
+    took(out, line, f.value, before, c);
 }
 
 // What a withdrawal answered: how many passages left the table.
-pub fn withdrawn(place: u32, line: &[u8], before: Counts, outcome: Outcome) {
+pub fn withdrawn(out: Stdout, place: u32, line: &[u8], before: Counts, outcome: Outcome) {
     let a = outcome.answer;
     let c = outcome.counts;
     let f = calls::numbers(a);
     if 0 < f.number {
-        return plain(place, line, f);
+        return plain(out, place, line, f);
     }
     boards_words::tell(
+        out,
         b"%0%1%2: accepted; passages that left the table %A; book %B bytes, table %C rows before, %D now\n",
         line,
         b"",
@@ -157,8 +172,9 @@ pub fn withdrawn(place: u32, line: &[u8], before: Counts, outcome: Outcome) {
 // ---- Lines that are no call.
 
 // A pair that is registered, by where the pairs ended before it.
-pub fn enrolled(line: &[u8], end: usize) {
+pub fn enrolled(out: Stdout, line: &[u8], end: usize) {
     boards_words::tell(
+        out,
         b"%0%1%2: pair %A of 64\n",
         line,
         b"",
@@ -169,8 +185,9 @@ pub fn enrolled(line: &[u8], end: usize) {
 }
 
 // A day that is kept in a file: how much of book, table and register is used.
-fn day(words: &[u8], line: &[u8], pairs: usize, used: usize, rows: usize) {
+fn day(out: Stdout, words: &[u8], line: &[u8], pairs: usize, used: usize, rows: usize) {
     boards_words::tell(
+        out,
         words,
         line,
         b"",
@@ -181,8 +198,9 @@ fn day(words: &[u8], line: &[u8], pairs: usize, used: usize, rows: usize) {
 }
 
 // A day that is saved.
-pub fn saved(line: &[u8], pairs: usize, used: usize, rows: usize) {
+pub fn saved(out: Stdout, line: &[u8], pairs: usize, used: usize, rows: usize) {
     day(
+        out,
         b"%0%1: saved; book %A bytes, table %B rows, pairs %C\n",
         line,
         pairs,
@@ -192,8 +210,9 @@ pub fn saved(line: &[u8], pairs: usize, used: usize, rows: usize) {
 }
 
 // A day that is loaded.
-pub fn loaded(line: &[u8], pairs: u32, used: u32, rows: u32) {
+pub fn loaded(out: Stdout, line: &[u8], pairs: u32, used: u32, rows: u32) {
     day(
+        out,
         b"%0%1: loaded; book %A bytes, table %B rows, pairs %C\n",
         line,
         pairs as usize,
@@ -203,8 +222,9 @@ pub fn loaded(line: &[u8], pairs: u32, used: u32, rows: u32) {
 }
 
 // A file that is no day.
-pub fn no_day(place: u32, line: &[u8]) {
+pub fn no_day(out: Stdout, place: u32, line: &[u8]) {
     boards_words::refuse(
+        out,
         line,
         b"no sound day in the file",
         0,

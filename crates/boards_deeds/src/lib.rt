@@ -7,6 +7,7 @@ ghost use Rattle.boards_deeds.specs.Deeds.{state, missed, declined, next_line, h
 
 use boards_saved::Saved;
 use calls::{Counts, Outcome};
+use std::io::Stdout;
 
 // What is kept between two lines: the counts, how much of the register is used, whether a day is open; and of the script the line's number, how many lines were not done and how many were refused.
 #[derive(Clone, Copy)]
@@ -20,20 +21,20 @@ pub struct Held {
 }
 
 // A line that is not done: the word that is wrong, and why.
-fn miss(word: &[u8], why: usize, held: Held) -> Held
+fn miss(out: Stdout, word: &[u8], why: usize, held: Held) -> Held
     ensures { result ≡ missed held }
 {
-    boards_words::miss(held.line, word, why);
+    boards_words::miss(out, held.line, word, why);
     let mut n = held;
     n.bad = std::num::wrapping_add_u32(held.bad, 1);
     n
 }
 
 // A line that is not done, by the place of the word that is wrong.
-pub fn bad(line: &[u8], k: usize, why: usize, held: Held) -> Held
+pub fn bad(out: Stdout, line: &[u8], k: usize, why: usize, held: Held) -> Held
     ensures { result ≡ missed held }
 {
-    miss(script_text::word(line, k), why, held)
+    miss(out, script_text::word(line, k), why, held)
 }
 
 // A line more.
@@ -46,17 +47,17 @@ pub fn next(held: Held) -> Held
 }
 
 // A line that is too long to be kept.
-pub fn long(held: Held) -> Held
+pub fn long(out: Stdout, held: Held) -> Held
     ensures { result ≡ missed (next_line held) }
 {
-    miss(b"..", boards_orders::LONG, next(held))
+    miss(out, b"..", boards_orders::LONG, next(held))
 }
 
 // A script that cannot be read, or not to its end.
-pub fn unread(held: Held) -> Held
+pub fn unread(out: Stdout, held: Held) -> Held
     ensures { result ≡ missed held }
 {
-    miss(b"script", boards_orders::UNREADABLE, held)
+    miss(out, b"script", boards_orders::UNREADABLE, held)
 }
 
 // A question, or a file, that is refused.
@@ -90,6 +91,7 @@ fn told(o: Outcome, held: Held) -> Held
 
 // An opening over the bytes that its files gave.
 pub fn open(
+    out: Stdout,
     line: &[u8],
     planning: &[u8],
     calendar: &[u8],
@@ -101,22 +103,22 @@ pub fn open(
 {
     let c = held.counts;
     let o = opening::open(planning, calendar, book, table, c);
-    boards_answers::opened(held.line, line, planning, calendar, o);
+    boards_answers::opened(out, held.line, line, planning, calendar, o);
     told(o, held)
 }
 
 // A pair behind those that the register has, where it is all zero still.
-pub fn enrol(line: &[u8], sender: u8, register: &mut [u8], held: Held) -> Held
+pub fn enrol(out: Stdout, line: &[u8], sender: u8, register: &mut [u8], held: Held) -> Held
     ensures state { result ≡ enrolled_held held }
     ensures pairs { register.new ≡ enrolled_register sender (word_at 2 line.now) held.register register.old }
 {
     let at = held.register;
     if 693 < at {
-        return bad(line, 2, boards_orders::FULL, held);
+        return bad(out, line, 2, boards_orders::FULL, held);
     }
     script_text::append(register, at, &[sender]);
     script_text::append(register, at + 1, script_text::word(line, 2));
-    boards_answers::enrolled(line, at);
+    boards_answers::enrolled(out, line, at);
     let mut n = held;
     n.register = at + register::PAIR_WIDE;
     n
@@ -124,6 +126,7 @@ pub fn enrol(line: &[u8], sender: u8, register: &mut [u8], held: Held) -> Held
 
 // A message over the bytes that its file gave, in the form that is stated: in parts of `size` bytes, or whole where that is 0.
 pub fn send(
+    out: Stdout,
     line: &[u8],
     dossier: &[u8],
     sender: u8,
@@ -139,12 +142,13 @@ pub fn send(
     let c = held.counts;
     let pairs = script_text::front(register, held.register);
     let o = boards_messages::take(dossier, size, sender, form, pairs, book, table, c);
-    boards_answers::sent(held.line, line, dossier, sender, form, c, o);
+    boards_answers::sent(out, held.line, line, dossier, sender, form, c, o);
     told(o, held)
 }
 
 // A message is withdrawn.
 pub fn withdraw(
+    out: Stdout,
     line: &[u8],
     number: u32,
     sender: u8,
@@ -156,7 +160,7 @@ pub fn withdraw(
 {
     let c = held.counts;
     let o = withdrawals::withdraw(number, sender, book, table, c);
-    boards_answers::withdrawn(held.line, line, c, o);
+    boards_answers::withdrawn(out, held.line, line, c, o);
     told(o, held)
 }
 
@@ -164,6 +168,7 @@ pub fn withdraw(
 
 // A board is asked for; one that is not shown is refused.
 pub fn ask(
+    out: Stdout,
     line: &[u8],
     date: u32,
     second: u32,
@@ -175,7 +180,9 @@ pub fn ask(
     ensures { (register book : List ℕ) → state result register book table.now ≡ asked_by line.now date second horizon (state held register book table.now) }
 {
     let c = held.counts;
-    if boards_departures::ask(held.line, line, date, second, horizon, most, table, c.rows) {
+    if boards_departures::ask(
+        out, held.line, line, date, second, horizon, most, table, c.rows,
+    ) {
         return held;
     }
     decline(held)
@@ -184,12 +191,12 @@ pub fn ask(
 // ---- A day kept in a file.
 
 // What a file holds: a day, which is then the one that is open, or none.
-fn hold_day(line: &[u8], saved: Saved, held: Held) -> Held
+fn hold_day(out: Stdout, line: &[u8], saved: Saved, held: Held) -> Held
     ensures { result ≡ loaded_held saved held }
 {
     match saved {
         Saved::Day(pairs, used, rows) => {
-            boards_answers::loaded(line, pairs, used, rows);
+            boards_answers::loaded(out, line, pairs, used, rows);
             let counts = Counts {
                 used: used as usize,
                 rows: rows as usize,
@@ -201,7 +208,7 @@ fn hold_day(line: &[u8], saved: Saved, held: Held) -> Held
             n
         }
         Saved::Other => {
-            boards_answers::no_day(held.line, line);
+            boards_answers::no_day(out, held.line, line);
             decline(held)
         }
     }
@@ -209,6 +216,7 @@ fn hold_day(line: &[u8], saved: Saved, held: Held) -> Held
 
 // The bytes that a file gave take the place of what is lent, if they are a day.
 pub fn load(
+    out: Stdout,
     line: &[u8],
     file: &[u8],
     register: &mut [u8],
@@ -219,5 +227,5 @@ pub fn load(
     ensures { state result register.new book.new table.new ≡ loaded_from file.now (state held register.old book.old table.old) }
 {
     let saved = boards_saved::load(file, register, book, table);
-    hold_day(line, saved, held)
+    hold_day(out, line, saved, held)
 }

@@ -6,6 +6,7 @@ ghost use Rattle.boards_departures.specs.Shown.{is_listed, is_shown};
 
 use board::Listing;
 use clock::{ClockSeconds, OperatingSeconds};
+use std::io::Stdout;
 
 // ---- What is printed.
 
@@ -15,12 +16,13 @@ fn kept<'a>(padded: &'a [u8]) -> &'a [u8] {
 }
 
 // A departure: the moment as the clock shows it, line, destination and status.
-fn departure(moment: ClockSeconds, line: &[u8], destination: &[u8], status: &[u8])
+fn departure(out: Stdout, moment: ClockSeconds, line: &[u8], destination: &[u8], status: &[u8])
     requires { moment.0 < 36526 * 86400 }
 {
     let date = clock::date_at(moment);
     let second = clock::second_at(moment);
     boards_words::tell(
+        out,
         b"%A-%b-%c %d:%e:%f %x %y %z\n",
         status,
         line,
@@ -38,10 +40,11 @@ fn departure(moment: ClockSeconds, line: &[u8], destination: &[u8], status: &[u8
 }
 
 // At a time of an operating day: from 24:00:00 on it is the next day. Every row of a board has one.
-fn at_time(date: u32, time: u32, line: &[u8], destination: &[u8], status: &[u8]) {
+fn at_time(out: Stdout, date: u32, time: u32, line: &[u8], destination: &[u8], status: &[u8]) {
     if clock::is_date(date) {
         if time < 115200 {
             departure(
+                out,
                 clock::moment(date, OperatingSeconds(time)),
                 line,
                 destination,
@@ -52,12 +55,13 @@ fn at_time(date: u32, time: u32, line: &[u8], destination: &[u8], status: &[u8])
 }
 
 // A row of the table.
-fn row(r: &[u8]) {
+fn row(out: Stdout, r: &[u8]) {
     if r.len() != passage::ROW_WIDE {
         return;
     }
     let all = b"PLANNED|CANCEL|UNKNOWN|DRIVING|ARRIVED|PASSED";
     at_time(
+        out,
         lists::get_number(r, passage::DATE_AT, passage::DATE_WIDE),
         lists::get_number(r, passage::DEPARTURE_AT, passage::TIME_WIDE),
         kept(&r[passage::LINE_AT..passage::LINE_AT + passage::TEXT_WIDE]),
@@ -66,31 +70,31 @@ fn row(r: &[u8]) {
     );
 }
 
-fn place(table: &[u8], p: u32) {
+fn place(out: Stdout, table: &[u8], p: u32) {
     let at = p as usize * passage::ROW_WIDE;
     if table.len() < at + passage::ROW_WIDE {
         return;
     }
-    row(&table[at..at + passage::ROW_WIDE]);
+    row(out, &table[at..at + passage::ROW_WIDE]);
 }
 
 // The rows of the first n places.
-fn rows(table: &[u8], places: &[u32], n: usize) {
+fn rows(out: Stdout, table: &[u8], places: &[u32], n: usize) {
     let mut i = 0;
     while i < places.len() {
         if n <= i {
             return;
         }
-        place(table, places[i]);
+        place(out, table, places[i]);
         i += 1;
     }
 }
 
 // What is listed: the rows at the places written, and how many passages are shown.
-fn listed(line: &[u8], table: &[u8], places: &[u32], written: usize, shown: usize) {
-    boards_words::tell(b"%0%1%2%3%4%5\n", line, b"", b"", b"", &[0]);
-    rows(table, places, written);
-    boards_words::tell(b"END %A %B\n", line, b"", b"", b"", &[written, shown]);
+fn listed(out: Stdout, line: &[u8], table: &[u8], places: &[u32], written: usize, shown: usize) {
+    boards_words::tell(out, b"%0%1%2%3%4%5\n", line, b"", b"", b"", &[0]);
+    rows(out, table, places, written);
+    boards_words::tell(out, b"END %A %B\n", line, b"", b"", b"", &[written, shown]);
 }
 
 // ---- Why nothing is printed.
@@ -123,7 +127,7 @@ fn why(number: usize, line: &[u8], second: u32, horizon: u32) -> usize {
 }
 
 // A board that is refused.
-fn unshown(place: u32, line: &[u8], number: usize, second: u32, horizon: u32) {
+fn unshown(out: Stdout, place: u32, line: &[u8], number: usize, second: u32, horizon: u32) {
     let all = b"\
         table not sound|\
         owner%1 is not 1 to 10 bytes from 32 to 126|\
@@ -131,6 +135,7 @@ fn unshown(place: u32, line: &[u8], number: usize, second: u32, horizon: u32) {
         time%4 is not by the clock, which goes to 23:59:59|\
         horizon%5 is over 86400 seconds";
     boards_words::refuse(
+        out,
         line,
         turbo::field_of(all, why(number, line, second, horizon)),
         0,
@@ -145,6 +150,7 @@ fn unshown(place: u32, line: &[u8], number: usize, second: u32, horizon: u32) {
 
 // A listing is printed, or why there is none; whether there is one.
 fn told(
+    out: Stdout,
     place: u32,
     line: &[u8],
     second: u32,
@@ -157,15 +163,15 @@ fn told(
 {
     match listing {
         Listing::Listed(written, shown) => {
-            listed(line, table, places, written, shown);
+            listed(out, line, table, places, written, shown);
             true
         }
         Listing::Unsound => {
-            unshown(place, line, 1, second, horizon);
+            unshown(out, place, line, 1, second, horizon);
             false
         }
         Listing::OutOfRange => {
-            unshown(place, line, 13, second, horizon);
+            unshown(out, place, line, 13, second, horizon);
             false
         }
     }
@@ -173,6 +179,7 @@ fn told(
 
 // In the places lent.
 fn ask_in(
+    out: Stdout,
     place: u32,
     line: &[u8],
     date: u32,
@@ -198,11 +205,12 @@ fn ask_in(
         rows,
         &mut places[0..n],
     );
-    told(place, line, second, horizon, table, places, listing)
+    told(out, place, line, second, horizon, table, places, listing)
 }
 
 // The board that a line asks for, at most so many departures of it; whether it is shown. Owner and stop are words of the line, the first rows of the table are looked at.
 pub fn ask(
+    out: Stdout,
     place: u32,
     line: &[u8],
     date: u32,
@@ -216,6 +224,7 @@ pub fn ask(
 {
     let mut places = [0u32; table::MOST_ROWS];
     ask_in(
+        out,
         place,
         line,
         date,

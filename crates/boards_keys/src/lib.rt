@@ -2,6 +2,7 @@
 #![tactic(auto)]
 
 use reader::Reading;
+use std::io::Stdout;
 
 // Room for the pass times of any planning, the validities of any calendar, and as many passages as a book takes.
 const MOST_PASSES: usize = 6553;
@@ -71,12 +72,13 @@ fn text<'a>(body: &'a [u8], from: usize, end: usize) -> &'a [u8] {
 }
 
 // The key that a body begins with.
-fn tell_twice(place: u32, line: &[u8], body: &[u8]) {
+fn tell_twice(out: Stdout, place: u32, line: &[u8], body: &[u8]) {
     if body.len() < passage::BODY_WIDE {
         return;
     }
     let date = lists::get_number(body, passage::DATE_AT, passage::DATE_WIDE) as usize;
     boards_words::refuse(
+        out,
         line,
         b"one key arises twice: owner %x, date %C-%d-%e, line %y, journey %F, fortify %G, stop %z, order %H",
         0,
@@ -97,9 +99,10 @@ fn tell_twice(place: u32, line: &[u8], body: &[u8]) {
 }
 
 // The first body's key; a refusal is told in any case.
-fn tell_first(place: u32, line: &[u8], bodies: &[u8]) {
+fn tell_first(out: Stdout, place: u32, line: &[u8], bodies: &[u8]) {
     if bodies.len() < passage::BODY_WIDE {
         boards_words::refuse(
+            out,
             line,
             b"one key arises twice",
             0,
@@ -110,11 +113,12 @@ fn tell_first(place: u32, line: &[u8], bodies: &[u8]) {
         );
         return;
     }
-    tell_twice(place, line, bodies);
+    tell_twice(out, place, line, bodies);
 }
 
 // The areas are lent as arrays of known size.
 fn tell_in(
+    out: Stdout,
     place: u32,
     line: &[u8],
     planning: &[u8],
@@ -126,6 +130,7 @@ fn tell_in(
     let pairs = join(planning, calendar, passes, validities, bodies);
     let n = script_text::at_most(pairs, MOST_PLANS);
     tell_first(
+        out,
         place,
         line,
         from_twice(script_text::front(bodies, n * passage::BODY_WIDE)),
@@ -133,11 +138,12 @@ fn tell_in(
 }
 
 // The first key that arises twice in the two dossiers.
-pub fn tell(place: u32, line: &[u8], planning: &[u8], calendar: &[u8]) {
+pub fn tell(out: Stdout, place: u32, line: &[u8], planning: &[u8], calendar: &[u8]) {
     let mut passes = [0u8; PASSES];
     let mut validities = [0u8; VALIDITIES];
     let mut bodies = [0u8; BODIES];
     tell_in(
+        out,
         place,
         line,
         planning,

@@ -2,6 +2,8 @@
 // ---- The day's messages.
 #![tactic(auto)]
 
+use std::io::Stdout;
+
 // What stands behind the plan entries: the updates.
 fn behind_plans<'a>(used: &'a [u8]) -> &'a [u8] {
     let mut rest = used;
@@ -24,10 +26,11 @@ fn number_of(entries: &[u8]) -> u32 {
 }
 
 // A message of so many rows, by its last entry.
-fn message(entries: &[u8], rows: usize) {
+fn message(out: Stdout, entries: &[u8], rows: usize) {
     let all = b"||%A sender %B, rows %C, standing\n|%A sender %B, rows %C, withdrawn\n";
     let kind = script_text::at(entries, 0);
     boards_words::tell(
+        out,
         turbo::field_of(all, kind as usize),
         b"",
         b"",
@@ -42,7 +45,7 @@ fn message(entries: &[u8], rows: usize) {
 }
 
 // The messages of these updates, and the last one's number: a message ends where the next entry has another number.
-fn updates(entries: &[u8]) -> u32 {
+fn updates(out: Stdout, entries: &[u8]) -> u32 {
     let mut last = 0;
     let mut rows = 0;
     let mut rest = entries;
@@ -51,7 +54,7 @@ fn updates(entries: &[u8]) -> u32 {
         let next = &rest[book::ENTRY_WIDE..];
         let number = number_of(rest);
         if number_of(next) != number {
-            message(rest, rows);
+            message(out, rest, rows);
             rows = 0;
             last = number;
         }
@@ -61,27 +64,27 @@ fn updates(entries: &[u8]) -> u32 {
 }
 
 // The messages of the book's used bytes: number, sender, rows, standing or withdrawn.
-pub fn messages(line: &[u8], used: &[u8]) {
-    boards_words::tell(b"%0\n", line, b"", b"", b"", &[0]);
-    let last = updates(behind_plans(used));
-    boards_words::tell(b"END %A\n", line, b"", b"", b"", &[last as usize]);
+pub fn messages(out: Stdout, line: &[u8], used: &[u8]) {
+    boards_words::tell(out, b"%0\n", line, b"", b"", b"", &[0]);
+    let last = updates(out, behind_plans(used));
+    boards_words::tell(out, b"END %A\n", line, b"", b"", b"", &[last as usize]);
 }
 
 // ---- The registered pairs.
 
 // The first of these pairs.
-fn pair(pairs: &[u8]) {
+fn pair(out: Stdout, pairs: &[u8]) {
     let sender = script_text::at(pairs, 0) as usize;
     let owner = script_text::before(script_text::part(pairs, 1, register::PAIR_WIDE), 0);
-    boards_words::tell(b"%A %x\n", b"", owner, b"", b"", &[sender]);
+    boards_words::tell(out, b"%A %x\n", b"", owner, b"", b"", &[sender]);
 }
 
 // Each pair, and how many there are.
-fn list_pairs(pairs: &[u8]) -> usize {
+fn list_pairs(out: Stdout, pairs: &[u8]) -> usize {
     let mut n = 0;
     let mut rest = pairs;
     while register::PAIR_WIDE <= rest.len() {
-        pair(rest);
+        pair(out, rest);
         let next = &rest[register::PAIR_WIDE..];
         rest = next;
         n += 1;
@@ -90,8 +93,8 @@ fn list_pairs(pairs: &[u8]) -> usize {
 }
 
 // The pairs of the register's used bytes, in the order in which they were registered: sender and owner.
-pub fn pairs(line: &[u8], used: &[u8]) {
-    boards_words::tell(b"%0\n", line, b"", b"", b"", &[0]);
-    let n = list_pairs(used);
-    boards_words::tell(b"END %A\n", line, b"", b"", b"", &[n]);
+pub fn pairs(out: Stdout, line: &[u8], used: &[u8]) {
+    boards_words::tell(out, b"%0\n", line, b"", b"", b"", &[0]);
+    let n = list_pairs(out, used);
+    boards_words::tell(out, b"END %A\n", line, b"", b"", b"", &[n]);
 }

@@ -7,6 +7,7 @@ ghost use Rattle.columns.specs.Tables.{names};
 
 use calls::Four;
 use columns::{Form, Table};
+use std::io::Stdout;
 use turbo_lines::Mark;
 
 // So much of a field is printed.
@@ -41,7 +42,7 @@ fn line_of(dossier: &[u8], place: usize) -> usize {
 }
 
 // 3: at which byte of which line, or that the dossier ends too early.
-pub fn tell_syntax(place: u32, line: &[u8], dossier: &[u8], f: Four) {
+pub fn tell_syntax(out: Stdout, place: u32, line: &[u8], dossier: &[u8], f: Four) {
     let at = f.value;
     let all = b"syntax fault at byte %C, in line %D|cut short, ends early at byte %C, in line %D";
     let mut which = 0;
@@ -49,6 +50,7 @@ pub fn tell_syntax(place: u32, line: &[u8], dossier: &[u8], f: Four) {
         which = 1;
     }
     boards_words::refuse(
+        out,
         line,
         turbo::field_of(all, which),
         f.dossier as usize,
@@ -139,7 +141,7 @@ fn first_missing(labels: &[u8], names: &[u8]) -> usize {
 }
 
 // A label line in which one of the names stands twice, or is missing. Optional names stand last, and come to be missing last.
-fn tell_labels(place: u32, line: &[u8], labels: &[u8], names: &[u8], f: Four) {
+fn tell_labels(out: Stdout, place: u32, line: &[u8], labels: &[u8], names: &[u8], f: Four) {
     let all = b"column %x stands twice in label line %C|column %x is missing in label line %C";
     let mut which = 0;
     let mut k = first_twice(labels, names);
@@ -148,6 +150,7 @@ fn tell_labels(place: u32, line: &[u8], labels: &[u8], names: &[u8], f: Four) {
         k = first_missing(labels, names);
     }
     boards_words::refuse(
+        out,
         line,
         turbo::field_of(all, which),
         f.dossier as usize,
@@ -159,10 +162,11 @@ fn tell_labels(place: u32, line: &[u8], labels: &[u8], names: &[u8], f: Four) {
 }
 
 // A data line with other fields than its label line.
-fn tell_fields(place: u32, line: &[u8], dossier: &[u8], f: Four) {
+fn tell_fields(out: Stdout, place: u32, line: &[u8], dossier: &[u8], f: Four) {
     let have = turbo::count_fields(line_at(dossier, f.value));
     let want = turbo::count_fields(labels_of(dossier, f.value));
     boards_words::refuse(
+        out,
         line,
         b"line %C has %D fields, and its label line %E",
         f.dossier as usize,
@@ -174,21 +178,30 @@ fn tell_fields(place: u32, line: &[u8], dossier: &[u8], f: Four) {
 }
 
 // Among the names that are looked for, which are those of the table.
-fn tell_among(place: u32, line: &[u8], table: Table, dossier: &[u8], wanted: &[u8], f: Four)
+fn tell_among(
+    out: Stdout,
+    place: u32,
+    line: &[u8],
+    table: Table,
+    dossier: &[u8],
+    wanted: &[u8],
+    f: Four,
+)
     requires { fields wanted.now ≡ names table }
 {
     let l = line_at(dossier, f.value);
     if is_labels(l) {
-        tell_labels(place, line, turbo_lines::after_mark(l), wanted, f);
+        tell_labels(out, place, line, turbo_lines::after_mark(l), wanted, f);
         return;
     }
-    tell_fields(place, line, dossier, f);
+    tell_fields(out, place, line, dossier, f);
 }
 
 // In a message of this form.
-fn tell_message(place: u32, line: &[u8], form: Form, dossier: &[u8], f: Four) {
+fn tell_message(out: Stdout, place: u32, line: &[u8], form: Form, dossier: &[u8], f: Four) {
     match form {
         Form::Old => tell_among(
+            out,
             place,
             line,
             Table::Message(form),
@@ -197,6 +210,7 @@ fn tell_message(place: u32, line: &[u8], form: Form, dossier: &[u8], f: Four) {
             f,
         ),
         Form::New => tell_among(
+            out,
             place,
             line,
             Table::Message(form),
@@ -208,10 +222,11 @@ fn tell_message(place: u32, line: &[u8], form: Form, dossier: &[u8], f: Four) {
 }
 
 // 4: which of its three faults, and which column.
-pub fn tell_form(place: u32, line: &[u8], table: Table, dossier: &[u8], f: Four) {
+pub fn tell_form(out: Stdout, place: u32, line: &[u8], table: Table, dossier: &[u8], f: Four) {
     match table {
-        Table::Message(form) => tell_message(place, line, form, dossier, f),
+        Table::Message(form) => tell_message(out, place, line, form, dossier, f),
         Table::Planning => tell_among(
+            out,
             place,
             line,
             table,
@@ -220,6 +235,7 @@ pub fn tell_form(place: u32, line: &[u8], table: Table, dossier: &[u8], f: Four)
             f,
         ),
         Table::Calendar => tell_among(
+            out,
             place,
             line,
             table,
@@ -241,9 +257,10 @@ fn before(column: usize) -> usize {
 }
 
 // 5: the column's name, and what stands there.
-pub fn tell_field(place: u32, line: &[u8], dossier: &[u8], f: Four) {
+pub fn tell_field(out: Stdout, place: u32, line: &[u8], dossier: &[u8], f: Four) {
     let column = before(f.second);
     boards_words::refuse(
+        out,
         line,
         b"field outside its type, in line %C, column %D: %x is '%y'",
         f.dossier as usize,
@@ -258,9 +275,10 @@ pub fn tell_field(place: u32, line: &[u8], dossier: &[u8], f: Four) {
 }
 
 // 6: the owner.
-pub fn tell_owner(place: u32, line: &[u8], dossier: &[u8], f: Four, sender: u8) {
+pub fn tell_owner(out: Stdout, place: u32, line: &[u8], dossier: &[u8], f: Four, sender: u8) {
     let column = turbo_labels::column_of(labels_of(dossier, f.value), b"DataOwnerCode");
     boards_words::refuse(
+        out,
         line,
         b"owner %x in line %C is not registered for sender %D",
         0,

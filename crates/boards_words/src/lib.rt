@@ -1,14 +1,25 @@
 // Lines as the desk reads them. A line is put together in a page and written by one write; nothing comes back and nothing lent is changed.
 #![tactic(auto)]
 
-use libc::STDOUT_FILENO;
+use std::io::{Print, Stdout};
 
 // ---- A page, and what a mark in it stands for.
 
+const PAGE: usize = 4096;
+
 fn put_number(page: &mut [u8], at: usize, number: usize) -> usize {
     let mut digits = [0u8; 20];
-    let n = io::decimal(number as u64, &mut digits);
-    script_text::append(page, at, &digits[..n])
+    let mut first = 20;
+    let mut rest = number;
+    while 0 < first {
+        first -= 1;
+        digits[first] = b'0' + (rest % 10) as u8;
+        rest /= 10;
+        if rest == 0 {
+            break;
+        }
+    }
+    script_text::append(page, at, &digits[first..])
 }
 
 // A number of two digits.
@@ -102,22 +113,31 @@ fn put(
     at
 }
 
-// So much of the page, by one write.
-fn write(page: &[u8], end: usize) {
-    io::write_all(STDOUT_FILENO, script_text::front(page, end));
+// So much of the page, by one write. Where that fails, the program goes on.
+fn write(out: Stdout, page: &[u8], end: usize) {
+    let _ = out.write_all(script_text::front(page, end));
 }
 
 // ---- What is printed.
 
 // Words with what their marks stand for. A mark is % with a letter behind it: of a digit the word of the script's line there, of A to J a number, of a to j a number of two digits, of x, y and z a text.
-pub fn tell(words: &[u8], line: &[u8], x: &[u8], y: &[u8], z: &[u8], numbers: &[usize]) {
-    let mut page = io::buffer();
+pub fn tell(
+    out: Stdout,
+    words: &[u8],
+    line: &[u8],
+    x: &[u8],
+    y: &[u8],
+    z: &[u8],
+    numbers: &[usize],
+) {
+    let mut page = [0u8; PAGE];
     let n = put(&mut page, 0, words, line, x, y, z, numbers);
-    write(&page, n);
+    write(out, &page, n);
 }
 
 // A refusal: the place of the script's line and the refusal's number, then the numbers at C to J, and of which dossier of an opening it is, or 0.
 pub fn refuse(
+    out: Stdout,
     line: &[u8],
     words: &[u8],
     dossier: usize,
@@ -126,18 +146,18 @@ pub fn refuse(
     z: &[u8],
     numbers: &[usize],
 ) {
-    let mut page = io::buffer();
+    let mut page = [0u8; PAGE];
     let head = b"line %A: %0%1%2%3%4%5%6: refused, %B: ";
     let a = put(&mut page, 0, head, line, x, y, z, numbers);
     let b = put(&mut page, a, words, line, x, y, z, numbers);
     let which = turbo::field_of(b"| of the planning| of the calendar", dossier);
     let c = script_text::append(&mut page, b, which);
     let d = script_text::append(&mut page, c, b"; nothing changed\n");
-    write(&page, d);
+    write(out, &page, d);
 }
 
 // A line that is not done: the word that is wrong and why, by the numbers of `boards_orders`.
-pub fn miss(place: u32, word: &[u8], why: usize) {
+pub fn miss(out: Stdout, place: u32, word: &[u8], why: usize) {
     let all = b"\
         cannot be read|\
         cannot be written|\
@@ -167,6 +187,7 @@ pub fn miss(place: u32, word: &[u8], why: usize) {
         no command";
     let reason = turbo::field_of(all, why);
     tell(
+        out,
         b"line %A: %x: %y; nothing changed\n",
         word,
         word,
@@ -177,8 +198,9 @@ pub fn miss(place: u32, word: &[u8], why: usize) {
 }
 
 // How the program is called, and its commands.
-pub fn usage() {
+pub fn usage(out: Stdout) {
     tell(
+        out,
         b"\
         usage: boards [SCRIPT..]\n\
         Does what each script says, a command a line; - or no script is standard input, done line by line as it comes.\n\
