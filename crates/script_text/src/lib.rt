@@ -6,6 +6,8 @@ ghost use Rattle.lists.specs.Part.{over};
 ghost use Rattle.turbo.specs.Split.{until, past};
 ghost use Rattle.script_text.specs.Rules.{is_blank, is_kind, run_in, from_word, word_at, leading_from, hex_digit, place_behind, appended};
 
+use std::io::Read;
+
 // ---- Numbers.
 
 // The number, or `most` where it is more.
@@ -220,6 +222,25 @@ pub fn word<'a>(line: &'a [u8], place: usize) -> &'a [u8]
     }
     let n = run_of(t, false);
     &t[0..n]
+}
+
+// ---- Reads.
+
+// What is read to an area, from its start on, until the area is full, nothing more comes or a read fails; how many bytes.
+pub fn read_full<R: Read>(from: &mut R, area: &mut [u8]) -> usize
+    ensures { result ≤ length area.new }
+{
+    let mut end = 0;
+    while end < area.len() {
+        let Ok(more) = from.read(&mut area[end..]) else {
+            return end;
+        };
+        if more == 0 {
+            return end;
+        }
+        end += more;
+    }
+    end
 }
 
 // ---- Writes.

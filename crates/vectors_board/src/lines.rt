@@ -1,5 +1,6 @@
 // The lines of the input, each with a letter. Fields stand between bars, bytes of the table in hexadecimal digits.
 use crate::say;
+use std::io::Stdout;
 
 // How many bytes of the table are lent, and the number of rows that is passed.
 #[derive(Clone, Copy)]
@@ -14,7 +15,15 @@ fn number(t: &[u8]) -> u32 {
 }
 
 // A board of owner and stop; behind them in t date, second and horizon.
-fn call(owner: &[u8], stop: &[u8], text: &[u8], table: &[u8], rows: usize, places: &mut [u32]) {
+fn call(
+    out: Stdout,
+    owner: &[u8],
+    stop: &[u8],
+    text: &[u8],
+    table: &[u8],
+    rows: usize,
+    places: &mut [u32],
+) {
     let second = turbo::rest_after_bar(text);
     let horizon = turbo::rest_after_bar(second);
     let a = board::board(
@@ -27,15 +36,16 @@ fn call(owner: &[u8], stop: &[u8], text: &[u8], table: &[u8], rows: usize, place
         rows,
         places,
     );
-    say::answer(a, places);
+    say::answer(out, a, places);
 }
 
 // L asks as `LCXX|S1|20160301|85800|1800|4`: owner, stop, date, second, horizon, and how many places are lent.
-fn ask(t: &[u8], table: &[u8], rows: usize) {
+fn ask(out: Stdout, t: &[u8], table: &[u8], rows: usize) {
     let mut places = [7777u32; 64];
     let many = script_text::leading_number(turbo::rest_after_bars(t, 5));
     let lent = script_text::at_most(many, 64);
     call(
+        out,
         turbo::first_field(t),
         turbo::field_of(t, 1),
         turbo::rest_after_bars(t, 2),
@@ -59,7 +69,7 @@ fn append(s: &mut [u8], n: usize, digits: &[u8]) -> usize {
 }
 
 // t puts bytes behind the table's, 0 empties it, n is the number of rows, # a heading.
-fn one(line: &[u8], table: &mut [u8], h: Held) -> Held {
+fn one(out: Stdout, line: &[u8], table: &mut [u8], h: Held) -> Held {
     let mut n = h;
     let letter = script_text::at(line, 0);
     let t = script_text::after(line, 0);
@@ -67,18 +77,18 @@ fn one(line: &[u8], table: &mut [u8], h: Held) -> Held {
         b't' => n.size = append(table, h.size, t),
         b'0' => n.size = 0,
         b'n' => n.rows = script_text::leading_number(t),
-        b'L' => ask(t, script_text::front(table, h.size), h.rows),
-        b'#' => say::heading(line),
+        b'L' => ask(out, t, script_text::front(table, h.size), h.rows),
+        b'#' => say::heading(out, line),
         _ => {}
     }
     n
 }
 
-pub fn run(input: &[u8], table: &mut [u8]) {
+pub fn run(out: Stdout, input: &[u8], table: &mut [u8]) {
     let mut h = Held { size: 0, rows: 0 };
     let mut rest = input;
     while 0 < rest.len() {
-        h = one(script_text::first_line(rest), table, h);
+        h = one(out, script_text::first_line(rest), table, h);
         let next = script_text::rest_after_line(rest);
         rest = next;
     }

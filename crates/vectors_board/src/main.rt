@@ -4,14 +4,16 @@
 mod lines;
 mod say;
 
+use std::io::{Stdin, Stdout};
+
 // The buffers come as arrays of known size: so no proof has to count one through.
-fn run(input: &mut [u8; 120000], table: &mut [u8; 20000]) {
-    let n = io::read_full(libc::STDIN_FILENO, input);
-    lines::run(script_text::front(input, n), table);
+fn run(mut from: Stdin, out: Stdout, input: &mut [u8; 120000], table: &mut [u8; 20000]) {
+    let n = script_text::read_full(&mut from, input);
+    lines::run(out, script_text::front(input, n), table);
 }
 
-fn main() {
+fn main(rt: HostRuntime) {
     let mut input = [0u8; 120000];
     let mut table = [0u8; 20000];
-    run(&mut input, &mut table);
+    run(rt.stdin(), rt.stdout(), &mut input, &mut table);
 }

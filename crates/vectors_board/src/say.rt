@@ -1,56 +1,57 @@
 // What is printed.
 use board::Listing;
-use libc::STDOUT_FILENO;
+use std::io::{Print, Stdout};
 
-fn words(w: &[u8]) {
-    io::write_all(STDOUT_FILENO, w);
+// A write that fails is passed over.
+fn words(out: Stdout, w: &[u8]) {
+    let _ = out.write_all(w);
 }
 
-fn end() {
-    words(b"\n");
+fn end(out: Stdout) {
+    words(out, b"\n");
 }
 
-pub fn heading(title: &[u8]) {
-    words(title);
-    end();
+pub fn heading(out: Stdout, title: &[u8]) {
+    words(out, title);
+    end(out);
 }
 
-fn number(n: usize) {
-    words(b" ");
-    io::print_decimal(STDOUT_FILENO, n as u64);
+fn number(out: Stdout, n: usize) {
+    words(out, b" ");
+    let _ = out.print(n);
 }
 
-fn three(a: usize, b: usize, c: usize) {
-    number(a);
-    number(b);
-    number(c);
+fn three(out: Stdout, a: usize, b: usize, c: usize) {
+    number(out, a);
+    number(out, b);
+    number(out, c);
 }
 
 // Document 01's number, how many places are written, and how many passages are shown.
-fn told(a: Listing) {
+fn told(out: Stdout, a: Listing) {
     match a {
-        Listing::Listed(written, shown) => three(0, written, shown),
-        Listing::Unsound => three(1, 0, 0),
-        Listing::OutOfRange => three(13, 0, 0),
+        Listing::Listed(written, shown) => three(out, 0, written, shown),
+        Listing::Unsound => three(out, 1, 0, 0),
+        Listing::OutOfRange => three(out, 13, 0, 0),
     }
 }
 
-fn place(p: u32) {
-    number(p as usize);
+fn place(out: Stdout, p: u32) {
+    number(out, p as usize);
 }
 
-fn each(places: &[u32]) {
+fn each(out: Stdout, places: &[u32]) {
     let mut i = 0;
     while i < places.len() {
-        place(places[i]);
+        place(out, places[i]);
         i += 1;
     }
 }
 
 // An answer, and all that was lent.
-pub fn answer(listing: Listing, places: &[u32]) {
-    told(listing);
-    words(b":");
-    each(places);
-    end();
+pub fn answer(out: Stdout, listing: Listing, places: &[u32]) {
+    told(out, listing);
+    words(out, b":");
+    each(out, places);
+    end(out);
 }

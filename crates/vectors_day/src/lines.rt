@@ -2,6 +2,7 @@
 use crate::held::Held;
 use crate::{held, say};
 use calls::{Counts, Outcome};
+use std::io::Stdout;
 
 // At one letter the lent bytes get another value, at another one byte is changed: b and p for the book, t and q for the table.
 fn lend(area: &mut [u8], fill: u8, value: u8, poke: u8, held: Held) {
@@ -139,11 +140,11 @@ fn ask(
 }
 
 // What is answered is printed, and the counts are held.
-fn told(r: Outcome, book: &[u8], table: &[u8], h: Held) -> Held {
+fn told(out: Stdout, r: Outcome, book: &[u8], table: &[u8], h: Held) -> Held {
     let a = r.answer;
-    say::answer(a);
+    say::answer(out, a);
     let c = r.counts;
-    say::sums(c.used, c.rows, book, table);
+    say::sums(out, c.used, c.rows, book, table);
     let mut n = h;
     n.used = c.used;
     n.rows = c.rows;
@@ -151,6 +152,7 @@ fn told(r: Outcome, book: &[u8], table: &[u8], h: Held) -> Held {
 }
 
 fn asked(
+    out: Stdout,
     plan: &[u8],
     dossier: &[u8],
     register: &[u8],
@@ -173,7 +175,7 @@ fn asked(
         table,
         c,
     );
-    told(r, book, table, held)
+    told(out, r, book, table, held)
 }
 
 fn asks(letter: u8) -> bool {
@@ -183,7 +185,14 @@ fn asks(letter: u8) -> bool {
     }
 }
 
-fn call(desk: &[u8], kept: &[u8], book: &mut [u8], table: &mut [u8], held: Held) -> Held {
+fn call(
+    out: Stdout,
+    desk: &[u8],
+    kept: &[u8],
+    book: &mut [u8],
+    table: &mut [u8],
+    held: Held,
+) -> Held {
     if asks(held.letter) {
         let b = script_text::at_most(held.book, book.len());
         let t = script_text::at_most(held.table, table.len());
@@ -191,6 +200,7 @@ fn call(desk: &[u8], kept: &[u8], book: &mut [u8], table: &mut [u8], held: Held)
         let dossier = script_text::part(desk, held::DOSSIER, held.dossier);
         let register = script_text::part(desk, held::REGISTER, held.register);
         return asked(
+            out,
             plan,
             dossier,
             register,
@@ -203,26 +213,29 @@ fn call(desk: &[u8], kept: &[u8], book: &mut [u8], table: &mut [u8], held: Held)
 }
 
 // H prints all used bytes of what is lent, # is a heading.
-fn show(line: &[u8], book: &[u8], table: &[u8], h: Held) {
+fn show(out: Stdout, line: &[u8], book: &[u8], table: &[u8], h: Held) {
     let letter = h.letter;
     match letter {
         b'H' => {
             say::bytes(
+                out,
                 script_text::front(script_text::front(book, h.book), h.used),
                 h.a,
             );
             let t = script_text::front(table, h.table);
             say::bytes(
+                out,
                 script_text::front(t, h.rows % 65536 * passage::ROW_WIDE),
                 passage::ROW_WIDE,
             );
         }
-        b'#' => say::heading(line),
+        b'#' => say::heading(out, line),
         _ => {}
     }
 }
 
 fn one(
+    out: Stdout,
     line: &[u8],
     desk: &mut [u8],
     kept: &mut [u8],
@@ -233,15 +246,30 @@ fn one(
     let n = papers(line, desk, kept, held::read(line, held));
     lend(book, b'b', 170, b'p', n);
     lend(table, b't', 187, b'q', n);
-    show(line, book, table, n);
-    call(desk, kept, book, table, n)
+    show(out, line, book, table, n);
+    call(out, desk, kept, book, table, n)
 }
 
-pub fn run(input: &[u8], desk: &mut [u8], kept: &mut [u8], book: &mut [u8], table: &mut [u8]) {
+pub fn run(
+    out: Stdout,
+    input: &[u8],
+    desk: &mut [u8],
+    kept: &mut [u8],
+    book: &mut [u8],
+    table: &mut [u8],
+) {
     let mut h = held::nothing();
     let mut rest = input;
     while 0 < rest.len() {
-        h = one(script_text::first_line(rest), desk, kept, book, table, h);
+        h = one(
+            out,
+            script_text::first_line(rest),
+            desk,
+            kept,
+            book,
+            table,
+            h,
+        );
         let next = script_text::rest_after_line(rest);
         rest = next;
     }

@@ -2,38 +2,39 @@
 ghost use Rattle.std.specs.Prelude.{◌<◌};
 
 use calls::Answer;
-use libc::STDOUT_FILENO;
+use std::io::{Print, Stdout};
 
-fn words(w: &[u8]) {
-    io::write_all(STDOUT_FILENO, w);
+// A write that fails is passed over.
+fn words(out: Stdout, w: &[u8]) {
+    let _ = out.write_all(w);
 }
 
-fn end() {
-    words(b"\n");
+fn end(out: Stdout) {
+    words(out, b"\n");
 }
 
-pub fn heading(title: &[u8]) {
-    words(title);
-    end();
+pub fn heading(out: Stdout, title: &[u8]) {
+    words(out, title);
+    end(out);
 }
 
-fn number(n: usize) {
-    words(b" ");
-    io::print_decimal(STDOUT_FILENO, n as u64);
+fn number(out: Stdout, n: usize) {
+    words(out, b" ");
+    let _ = out.print(n);
 }
 
-fn count(what: &[u8], n: usize) {
-    words(what);
-    number(n);
+fn count(out: Stdout, what: &[u8], n: usize) {
+    words(out, what);
+    number(out, n);
 }
 
 // Document 01's number, its values, and which dossier.
-pub fn answer(given: Answer) {
+pub fn answer(out: Stdout, given: Answer) {
     let f = calls::numbers(given);
-    number(f.number as usize);
-    number(f.value);
-    number(f.second);
-    number(f.dossier as usize);
+    number(out, f.number as usize);
+    number(out, f.value);
+    number(out, f.second);
+    number(out, f.dossier as usize);
 }
 
 // The sum with a byte more.
@@ -56,38 +57,38 @@ fn sum(s: &[u8]) -> usize {
 }
 
 // The counts, and sums over all lent bytes of book and table.
-pub fn sums(used: usize, rows: usize, book: &[u8], table: &[u8]) {
-    count(b", used", used);
-    count(b", rows", rows);
-    count(b", sums", sum(book));
-    number(sum(table));
-    end();
+pub fn sums(out: Stdout, used: usize, rows: usize, book: &[u8], table: &[u8]) {
+    count(out, b", used", used);
+    count(out, b", rows", rows);
+    count(out, b", sums", sum(book));
+    number(out, sum(table));
+    end(out);
 }
 
-fn hex(b: u8) {
-    io::print_hex(STDOUT_FILENO, b as u64, 2);
+fn hex(out: Stdout, b: u8) {
+    let _ = print!(out; "{b:02x}");
 }
 
 // Behind i of n bytes: a line end behind each w, and behind the last.
-fn between(i: usize, n: usize, w: usize) {
+fn between(out: Stdout, i: usize, n: usize, w: usize) {
     if i == n {
-        end();
+        end(out);
         return;
     }
     if w == 0 {
         return;
     }
     if i % w == 0 {
-        end();
+        end(out);
     }
 }
 
 // All of s in hexadecimal digits, a line for each w bytes.
-pub fn bytes(text: &[u8], width: usize) {
+pub fn bytes(out: Stdout, text: &[u8], width: usize) {
     let mut i = 0;
     while i < text.len() {
-        hex(text[i]);
+        hex(out, text[i]);
         i += 1;
-        between(i, text.len(), width);
+        between(out, i, text.len(), width);
     }
 }

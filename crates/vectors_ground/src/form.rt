@@ -1,5 +1,6 @@
 // The verdict on a dossier's form, reached in two ways. It is a number here: a fault's offset, or FINE.
 use crate::{parts, say};
+use std::io::Stdout;
 use syntax::{Kind, Next, State, Verdict};
 
 const FINE: usize = 18446744073709551615;
@@ -33,51 +34,51 @@ fn straight(d: &[u8]) -> usize {
 }
 
 // The verdict; a word is printed only where the two ways differ.
-pub fn judged(dossier: &[u8]) -> usize {
+pub fn judged(out: Stdout, dossier: &[u8]) -> usize {
     let v = straight(dossier);
     if v != stepwise(dossier) {
-        say::phrase(say::DIFFER);
+        say::phrase(out, say::DIFFER);
     }
     v
 }
 
-pub fn verdict(value: usize) {
+pub fn verdict(out: Stdout, value: usize) {
     if value == FINE {
-        say::phrase(say::FINE);
+        say::phrase(out, say::FINE);
     } else {
-        say::phrase(say::FAULT_AT);
-        say::size(value);
+        say::phrase(out, say::FAULT_AT);
+        say::size(out, value);
     }
 }
 
 // The same in a list: a fault's offset, or a dash.
-fn short(v: usize) {
+fn short(out: Stdout, v: usize) {
     if v == FINE {
-        say::phrase(say::DASH);
+        say::phrase(out, say::DASH);
     } else {
-        say::size(v);
+        say::size(out, v);
     }
 }
 
 // The verdict, and whether the two ways agree.
-pub fn told(dossier: &[u8]) {
+pub fn told(out: Stdout, dossier: &[u8]) {
     let v = straight(dossier);
-    verdict(v);
-    say::either(v == stepwise(dossier), say::AGREE, say::NOT_AGREE);
+    verdict(out, v);
+    say::either(out, v == stepwise(dossier), say::AGREE, say::NOT_AGREE);
 }
 
-fn judgement(d: &[u8], whole: bool) {
+fn judgement(out: Stdout, d: &[u8], whole: bool) {
     if whole {
-        told(d);
+        told(out, d);
     } else {
-        short(judged(d));
+        short(out, judged(out, d));
     }
 }
 
 // BEFORE^DOSSIER^AFTER: the verdict between two texts, whole or as in a list.
-pub fn between(vector: &[u8], whole: bool) {
+pub fn between(out: Stdout, vector: &[u8], whole: bool) {
     let rest = parts::tail(vector);
-    say::words(parts::head(vector));
-    judgement(parts::head(rest), whole);
-    say::words(parts::tail(rest));
+    say::words(out, parts::head(vector));
+    judgement(out, parts::head(rest), whole);
+    say::words(out, parts::tail(rest));
 }

@@ -10,17 +10,20 @@ mod parts;
 mod run;
 mod say;
 mod text;
+
+use std::io::{Stdin, Stdout};
+
 mod types;
 mod walk;
 
 // The buffers come as arrays of known size: so no proof has to count one through.
-fn start(input: &mut [u8; 60000], room: &mut [u8; 66000]) {
-    let n = io::read_full(libc::STDIN_FILENO, input);
-    run::each(script_text::front(input, n), room);
+fn start(mut from: Stdin, out: Stdout, input: &mut [u8; 60000], room: &mut [u8; 66000]) {
+    let n = script_text::read_full(&mut from, input);
+    run::each(out, script_text::front(input, n), room);
 }
 
-fn main() {
+fn main(rt: HostRuntime) {
     let mut input = [0u8; 60000];
     let mut room = [0u8; 66000];
-    start(&mut input, &mut room);
+    start(rt.stdin(), rt.stdout(), &mut input, &mut room);
 }

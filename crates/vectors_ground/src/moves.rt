@@ -1,5 +1,6 @@
 // Bytes that are compared, moved and read as numbers. The moves start from `abcdefgh`.
 use crate::{parts, say};
+use std::io::Stdout;
 
 // The numbers of a vector of two or three parts.
 #[derive(Clone, Copy)]
@@ -19,8 +20,9 @@ fn three(v: &[u8]) -> Numbers {
 }
 
 // A^B
-pub fn same(vector: &[u8]) {
+pub fn same(out: Stdout, vector: &[u8]) {
     say::either(
+        out,
         lists::same_bytes(parts::head(vector), parts::tail(vector)),
         say::SAME,
         say::OTHER,
@@ -66,27 +68,28 @@ fn shift(r: u8, s: &mut [u8; 8], t: Numbers, b: &[u8]) {
     }
 }
 
-fn shifted(r: u8, s: &mut [u8; 8], t: Numbers, b: &[u8]) {
+fn shifted(out: Stdout, r: u8, s: &mut [u8; 8], t: Numbers, b: &[u8]) {
     shift(r, s, t, b);
-    say::text(s);
+    say::text(out, s);
 }
 
-pub fn moved(letter: u8, vector: &[u8]) {
+pub fn moved(out: Stdout, letter: u8, vector: &[u8]) {
     let mut s = [97u8, 98, 99, 100, 101, 102, 103, 104];
-    shifted(letter, &mut s, three(vector), parts::tail(vector));
+    shifted(out, letter, &mut s, three(vector), parts::tail(vector));
 }
 
-fn round(s: &mut [u8; 6], w: usize, n: u32) {
+fn round(out: Stdout, s: &mut [u8; 6], w: usize, n: u32) {
     let k = script_text::at_most(w, 4);
     lists::put_number(s, 1, k, n);
-    say::text(s);
-    say::small(lists::get_number(s, 1, k));
+    say::text(out, s);
+    say::small(out, lists::get_number(s, 1, k));
 }
 
 // BYTES^NUMBER
-pub fn number(vector: &[u8]) {
+pub fn number(out: Stdout, vector: &[u8]) {
     let mut s = [97u8, 98, 99, 100, 101, 102];
     round(
+        out,
         &mut s,
         parts::count(parts::head(vector)),
         parts::large(parts::tail(vector)),

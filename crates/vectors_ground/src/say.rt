@@ -1,6 +1,6 @@
 // How answers are printed. Bytes outside 32 to 126 are written \x_hH.
 use field_types::Number;
-use libc::STDOUT_FILENO;
+use std::io::{Print, Stdout};
 
 // Phrases, by their places in the one literal below: a number costs less to prove than bytes where it is printed.
 pub const FINE: usize = 0;
@@ -63,76 +63,77 @@ pub const HEAD: usize = 28;
 
 pub const EQUALS: usize = 29;
 
-pub fn words(text: &[u8]) {
-    io::write_all(STDOUT_FILENO, text);
+// A write that fails is passed over.
+pub fn words(out: Stdout, text: &[u8]) {
+    let _ = out.write_all(text);
 }
 
-pub fn phrase(place: usize) {
+pub fn phrase(out: Stdout, place: usize) {
     let all =
         b" Fine| FaultAt|, agree|, DIFFER| DIFFER| -| Is| Wrong| Group| Table| Labels| Data| same| other| in range| out of range| twice,| more than 20 names| day| no date| no time| to|;|\n|\"| |\\x| ->|== |=";
-    words(turbo::field_of(all, place));
+    words(out, turbo::field_of(all, place));
 }
 
-pub fn either(test: bool, yes: usize, no: usize) {
+pub fn either(out: Stdout, test: bool, yes: usize, no: usize) {
     if test {
-        phrase(yes);
+        phrase(out, yes);
     } else {
-        phrase(no);
+        phrase(out, no);
     }
 }
 
-fn shown(b: u8) {
+fn shown(out: Stdout, b: u8) {
     let one = [b];
-    words(&one);
+    words(out, &one);
 }
 
-fn hidden(b: u8) {
-    phrase(HIDDEN);
-    io::print_hex(STDOUT_FILENO, b as u64, 2);
+fn hidden(out: Stdout, b: u8) {
+    phrase(out, HIDDEN);
+    let _ = print!(out; "{b:02x}");
 }
 
-pub fn byte(byte: u8) {
+pub fn byte(out: Stdout, byte: u8) {
     match byte {
-        32..=126 => shown(byte),
-        _ => hidden(byte),
+        32..=126 => shown(out, byte),
+        _ => hidden(out, byte),
     }
 }
 
-fn bytes(s: &[u8]) {
+fn bytes(out: Stdout, s: &[u8]) {
     let mut i = 0;
     while i < s.len() {
-        byte(s[i]);
+        byte(out, s[i]);
         i += 1;
     }
 }
 
-pub fn quoted(text: &[u8]) {
-    phrase(QUOTE);
-    bytes(text);
-    phrase(QUOTE);
+pub fn quoted(out: Stdout, text: &[u8]) {
+    phrase(out, QUOTE);
+    bytes(out, text);
+    phrase(out, QUOTE);
 }
 
 // What follows is printed after a blank.
-pub fn text(text: &[u8]) {
-    phrase(BLANK);
-    quoted(text);
+pub fn text(out: Stdout, text: &[u8]) {
+    phrase(out, BLANK);
+    quoted(out, text);
 }
 
-pub fn size(number: usize) {
-    phrase(BLANK);
-    io::print_decimal(STDOUT_FILENO, number as u64);
+pub fn size(out: Stdout, number: usize) {
+    phrase(out, BLANK);
+    let _ = out.print(number);
 }
 
-pub fn small(number: u32) {
-    size(number as usize);
+pub fn small(out: Stdout, number: u32) {
+    size(out, number as usize);
 }
 
-pub fn read(res: Number) {
+pub fn read(out: Stdout, res: Number) {
     match res {
         Number::Is(n) => {
-            phrase(IS);
-            small(n);
+            phrase(out, IS);
+            small(out, n);
         }
-        Number::Wrong => phrase(WRONG),
+        Number::Wrong => phrase(out, WRONG),
     }
 }

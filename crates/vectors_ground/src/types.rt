@@ -1,6 +1,7 @@
 // Fields by their types.
 use crate::{parts, say};
 use field_types::{Number, Time};
+use std::io::Stdout;
 
 fn seconds(t: Time) -> Number {
     match t {
@@ -23,22 +24,23 @@ fn number(r: u8, v: &[u8]) -> Number {
     }
 }
 
-pub fn numbered(letter: u8, vector: &[u8]) {
-    say::read(number(letter, vector));
+pub fn numbered(out: Stdout, letter: u8, vector: &[u8]) {
+    say::read(out, number(letter, vector));
 }
 
 // The ten bytes that are kept. A refused text is all zero.
-pub fn text(vector: &[u8]) {
+pub fn text(out: Stdout, vector: &[u8]) {
     let t = texts::read_text(vector);
     if !t.ok {
-        say::phrase(say::WRONG);
+        say::phrase(out, say::WRONG);
     }
     let b = t.bytes;
-    say::text(&b);
+    say::text(out, &b);
 }
 
-pub fn range(vector: &[u8]) {
+pub fn range(out: Stdout, vector: &[u8]) {
     say::either(
+        out,
         field_types::in_stamp_range(parts::large(vector)),
         say::IN_RANGE,
         say::OUT_OF_RANGE,

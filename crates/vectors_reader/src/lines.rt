@@ -3,6 +3,7 @@ use crate::{say, spell, staged};
 use columns::Form;
 use field_types::Number;
 use reader::Reading;
+use std::io::Stdout;
 
 // The letter of the group's reader, and where on the desk ends what is held.
 #[derive(Clone, Copy)]
@@ -86,56 +87,56 @@ fn read(desk: &[u8], area: &mut [u8], j: Job) -> Reading {
 }
 
 // Of the room so much is lent as is asked for, and all is looked at.
-fn told(desk: &[u8], room: &mut [u8], j: Job) {
+fn told(out: Stdout, desk: &[u8], room: &mut [u8], j: Job) {
     let n = script_text::at_most(j.size, room.len());
-    say::answer(read(desk, &mut room[0..n], j));
-    staged::left(j.letter, room);
+    say::answer(out, read(desk, &mut room[0..n], j));
+    staged::left(out, j.letter, room);
 }
 
-fn lend(desk: &[u8], room: &mut [u8; 41778], j: Job) {
-    told(desk, room, j);
+fn lend(out: Stdout, desk: &[u8], room: &mut [u8; 41778], j: Job) {
+    told(out, desk, room, j);
 }
 
-fn ask(desk: &[u8], j: Job) {
+fn ask(out: Stdout, desk: &[u8], j: Job) {
     let mut room = [238u8; 41778];
-    lend(desk, &mut room, j);
+    lend(out, desk, &mut room, j);
 }
 
-fn vector(line: &[u8], desk: &mut [u8], h: Held) {
-    say::words(line);
+fn vector(out: Stdout, line: &[u8], desk: &mut [u8], h: Held) {
+    say::words(out, line);
     let j = laid(line, desk, h);
-    ask(desk, j);
+    ask(out, desk, j);
 }
 
 // `=M name` begins a group.
-fn group(line: &[u8]) -> u8 {
-    say::words(b"==");
-    say::line(script_text::after(line, 1));
+fn group(out: Stdout, line: &[u8]) -> u8 {
+    say::words(out, b"==");
+    say::line(out, script_text::after(line, 1));
     script_text::at(line, 1)
 }
 
 // A vector's dossier stands behind what is held: `+` puts more there, `-` empties it. `#` is a heading.
-fn one(line: &[u8], desk: &mut [u8], h: Held) -> Held {
+fn one(out: Stdout, line: &[u8], desk: &mut [u8], h: Held) -> Held {
     let mut n = h;
     let mark = script_text::at(line, 0);
     match mark {
-        b'=' => n.letter = group(line),
-        b'#' => say::line(line),
+        b'=' => n.letter = group(out, line),
+        b'#' => say::line(out, line),
         b'+' => n.end = spell::out(desk, h.end, script_text::after(line, 0)),
         b'-' => n.end = DOSSIER,
-        _ => vector(line, desk, h),
+        _ => vector(out, line, desk, h),
     }
     n
 }
 
-pub fn run(input: &[u8], desk: &mut [u8]) {
+pub fn run(out: Stdout, input: &[u8], desk: &mut [u8]) {
     let mut h = Held {
         letter: 0,
         end: DOSSIER,
     };
     let mut rest = input;
     while 0 < rest.len() {
-        h = one(script_text::first_line(rest), desk, h);
+        h = one(out, script_text::first_line(rest), desk, h);
         let next = script_text::rest_after_line(rest);
         rest = next;
     }

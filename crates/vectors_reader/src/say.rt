@@ -1,23 +1,24 @@
 // What is printed.
-use libc::STDOUT_FILENO;
 use reader::Reading;
+use std::io::{Print, Stdout};
 
-pub fn words(text: &[u8]) {
-    io::write_all(STDOUT_FILENO, text);
+// A write that fails is passed over.
+pub fn words(out: Stdout, text: &[u8]) {
+    let _ = out.write_all(text);
 }
 
-pub fn line(text: &[u8]) {
-    words(text);
-    words(b"\n");
+pub fn line(out: Stdout, text: &[u8]) {
+    words(out, text);
+    words(out, b"\n");
 }
 
-pub fn hex(byte: u8) {
-    io::print_hex(STDOUT_FILENO, byte as u64, 2);
+pub fn hex(out: Stdout, byte: u8) {
+    let _ = print!(out; "{byte:02x}");
 }
 
-pub fn count(what: &[u8], number: usize) {
-    words(what);
-    io::print_decimal(STDOUT_FILENO, number as u64);
+pub fn count(out: Stdout, what: &[u8], number: usize) {
+    words(out, what);
+    let _ = out.print(number);
 }
 
 #[derive(Clone, Copy)]
@@ -68,14 +69,14 @@ fn told(a: Reading) -> Three {
     }
 }
 
-pub fn answer(reading: Reading) {
+pub fn answer(out: Stdout, reading: Reading) {
     let t = told(reading);
     let word = turbo::field_of(
         b" -> | -> 3 at | -> 4 line | -> 5 line | -> 6 line | -> rows | -> 15 line ",
         t.word,
     );
-    count(word, t.a);
+    count(out, word, t.a);
     if 0 < t.column {
-        count(b" column ", t.column);
+        count(out, b" column ", t.column);
     }
 }

@@ -2,6 +2,7 @@
 ghost use Rattle.std.specs.Prelude.{◌≤◌, ◌<◌, length};
 
 use crate::say;
+use std::io::Stdout;
 
 // How wide the rows are.
 fn width(r: u8) -> usize
@@ -30,22 +31,22 @@ fn begins(k: usize) -> bool {
     turbo::find(all, (k % 256) as u8) < 28
 }
 
-fn at_byte(r: u8, k: usize) {
+fn at_byte(out: Stdout, r: u8, k: usize) {
     if k == 0 {
-        say::words(b"\n    ");
+        say::words(out, b"\n    ");
     }
     if begins(counted(r, k)) {
-        say::words(b" ");
+        say::words(out, b" ");
     }
 }
 
 // Rows in hexadecimal, one to a line, with blanks between the fields.
-fn rows(r: u8, s: &[u8]) {
+fn rows(out: Stdout, r: u8, s: &[u8]) {
     let w = width(r);
     let mut i: usize = 0;
     while i < s.len() {
-        at_byte(r, i % w);
-        say::hex(s[i]);
+        at_byte(out, r, i % w);
+        say::hex(out, s[i]);
         i += 1;
     }
 }
@@ -76,9 +77,9 @@ fn from(r: u8, n: usize) -> usize {
 }
 
 // What a call left: how many bytes are written, and rows.
-pub fn left(letter: u8, area: &[u8]) {
+pub fn left(out: Stdout, letter: u8, area: &[u8]) {
     let n = written(area);
-    say::count(b", staged ", n);
-    rows(letter, script_text::part(area, from(letter, n), n));
-    say::words(b"\n");
+    say::count(out, b", staged ", n);
+    rows(out, letter, script_text::part(area, from(letter, n), n));
+    say::words(out, b"\n");
 }
