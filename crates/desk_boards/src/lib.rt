@@ -1,4 +1,4 @@
-// The C face of boards. A board's answer is three numbers; include/desk.h says which.
+// The board of a stop over plain numbers and lent memory, as `desk` exports it for C. A board's answer is three numbers; include/desk.h says which.
 #![tactic(auto)]
 
 ghost use Rattle.std.specs.Prelude.{◌≡◌, [], ◌∷◌};
@@ -7,8 +7,7 @@ ghost use Rattle.board.specs.Rules.{board_leaves};
 ghost use Rattle.desk_boards.specs.Answered.{board_number, board_answered};
 
 // The board of a stop from a second of a date on: places of rows by departure moment, then key, as many as fit.
-#[unsafe(no_mangle)]
-pub extern "C" fn desk_board(
+pub fn desk_board(
     owner: &[u8],
     stop: &[u8],
     date: u32,

@@ -1,4 +1,4 @@
-// The C face of a day: open, message and withdraw over plain numbers and lent memory. An answer is six numbers; include/desk.h says which.
+// The calls of a day, open, message and withdraw, over plain numbers and lent memory, as `desk` exports them for C. An answer is six numbers; include/desk.h says which.
 #![tactic(auto)]
 
 ghost use Rattle.std.specs.Prelude.{◌≡◌, take};
@@ -12,8 +12,7 @@ ghost use Rattle.desk_answers.specs.Answered.{four, told, told_of};
 use calls::Counts;
 
 // A planning and a calendar become the plan. The counts are only given back on a refusal.
-#[unsafe(no_mangle)]
-pub extern "C" fn desk_open(
+pub fn desk_open(
     planning: &[u8],
     calendar: &[u8],
     book: &mut [u8],
@@ -36,8 +35,7 @@ pub extern "C" fn desk_open(
 }
 
 // A message from a sender, in the form that is stated, is taken whole or refused whole.
-#[unsafe(no_mangle)]
-pub extern "C" fn desk_message(
+pub fn desk_message(
     dossier: &[u8],
     sender: u8,
     form: u32,
@@ -62,8 +60,7 @@ pub extern "C" fn desk_message(
 }
 
 // A message is withdrawn: as if it had never been.
-#[unsafe(no_mangle)]
-pub extern "C" fn desk_withdraw(
+pub fn desk_withdraw(
     number: u32,
     sender: u8,
     book: &mut [u8],

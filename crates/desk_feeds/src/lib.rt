@@ -1,4 +1,4 @@
-// The C face of messages that come in parts: begin, feed and end over plain numbers and lent memory. include/desk.h says what the numbers are.
+// The calls of a message that comes in parts, begin, feed and end, over plain numbers and lent memory, as `desk` exports them for C. include/desk.h says what the numbers are.
 #![tactic(auto)]
 
 ghost use Rattle.std.specs.Prelude.{◌≡◌, take};
@@ -12,8 +12,7 @@ ghost use Rattle.desk_answers.specs.Answered.{four, end_told, end_told_of};
 use calls::Counts;
 
 // A message that comes in parts begins. Its sender and its form are kept with the feed's numbers.
-#[unsafe(no_mangle)]
-pub extern "C" fn desk_feed_begin(sender: u8, form: u32, feed: &mut [u64; 48]) -> u32
+pub fn desk_feed_begin(sender: u8, form: u32, feed: &mut [u64; 48]) -> u32
     ensures number { result ≡ 0 }
     ensures feed { feed.new ≡ begun_by sender form }
 {
@@ -22,8 +21,7 @@ pub extern "C" fn desk_feed_begin(sender: u8, form: u32, feed: &mut [u64; 48]) -
 }
 
 // The next part of it, of any length.
-#[unsafe(no_mangle)]
-pub extern "C" fn desk_feed(
+pub fn desk_feed(
     part: &[u8],
     register: &[u8],
     staging: &mut [u8],
@@ -37,8 +35,7 @@ pub extern "C" fn desk_feed(
 }
 
 // Its end: what was staged is taken whole or refused whole.
-#[unsafe(no_mangle)]
-pub extern "C" fn desk_feed_end(
+pub fn desk_feed_end(
     register: &[u8],
     staging: &[u8],
     book: &mut [u8],
