@@ -19,22 +19,27 @@ moment-moment-requires c =
       rw c.get_number-time.ensures (time-lent a.owner.now a.stop.now a.table.now a.at a.from a.till c.requires.1 c.if-table-at-eq2.false),
     )
 
--- the last test decides
-decided : (c : goal.After-may_be-may) → let a = c.args in shown_at a.owner.now a.stop.now a.from a.till (part a.at row_wide a.table.now) ≡ on c.may_be-may.result (At c.moment-moment.result) Hidden
-decided c =
-    let a = c.args in
+pub returns-then-may : goal.returns-then-may
+returns-then-may c =
+    let decided : let a = c.args in shown_at a.owner.now a.stop.now a.from a.till (part a.at row_wide a.table.now) ≡ on c.may_be-may.result (At c.moment-moment.result) Hidden = let a = c.args in
     shown-may a.owner.now a.stop.now a.table.now a.at a.from a.till
     (sym (is-of-lent a.owner.now a.stop.now a.table.now a.at c.requires.3) ∙ sym c.same_text-here.ensures ∙ c.if-here.true)
     c.if-table-at-eq2.false
     c.moment-moment.result
     (departs-lent a.owner.now a.stop.now a.table.now a.at a.from a.till _ _ _ c.get_number-date.ensures c.get_number-time.ensures c.moment-moment.ensures)
-    ∙ rw (← c.may_be-may.ensures)
-
-pub returns-then-may : goal.returns-then-may
-returns-then-may c = sym (decided c.before ∙ rw c.if-may.true)
+    ∙ rw (← c.may_be-may.ensures) in
+    sym (decided ∙ rw c.if-may.true)
 
 pub returns-else-may : goal.returns-else-may
-returns-else-may c = sym (decided c.before ∙ rw c.if-may.false)
+returns-else-may c =
+    let decided : let a = c.args in shown_at a.owner.now a.stop.now a.from a.till (part a.at row_wide a.table.now) ≡ on c.may_be-may.result (At c.moment-moment.result) Hidden = let a = c.args in
+    shown-may a.owner.now a.stop.now a.table.now a.at a.from a.till
+    (sym (is-of-lent a.owner.now a.stop.now a.table.now a.at c.requires.3) ∙ sym c.same_text-here.ensures ∙ c.if-here.true)
+    c.if-table-at-eq2.false
+    c.moment-moment.result
+    (departs-lent a.owner.now a.stop.now a.table.now a.at a.from a.till _ _ _ c.get_number-date.ensures c.get_number-time.ensures c.moment-moment.ensures)
+    ∙ rw (← c.may_be-may.ensures) in
+    sym (decided ∙ rw c.if-may.false)
 
 pub returns-else-here : goal.returns-else-here
 returns-else-here c =

@@ -13,7 +13,6 @@ returns-then-book_room-used c =
 pub count_plans-n-requires : goal.count_plans-n-requires
 count_plans-n-requires c =
     let r = room_within c.args.book.now in
-    let q = c.book_room.ensures in
     omega (arith, r.0)
 
 pub overflow_mul-rest : goal.overflow_mul-rest
@@ -21,7 +20,6 @@ overflow_mul-rest c =
     let a = c.args in
     let r = room_within a.book.now in
     let k = count-within a.used a.book.now c.count_plans-n.result c.count_plans-n.ensures in
-    let q = c.book_room.ensures in
     omega arith
 
 pub overflow_sub-rest : goal.overflow_sub-rest
@@ -40,7 +38,6 @@ plans_are_sound-requires c =
     let a = c.args in
     let r = room_within a.book.now in
     let k = count-within a.used a.book.now c.count_plans-n.result c.count_plans-n.ensures in
-    let q = c.book_room.ensures in
     omega arith
 
 pub overflow_mul-n : goal.overflow_mul-n
@@ -48,7 +45,6 @@ overflow_mul-n c =
     let a = c.args in
     let r = room_within a.book.now in
     let k = count-within a.used a.book.now c.count_plans-n.result c.count_plans-n.ensures in
-    let q = c.book_room.ensures in
     omega arith
 
 pub updates_are_sound-requires : goal.updates_are_sound-requires
@@ -56,7 +52,6 @@ updates_are_sound-requires c =
     let a = c.args in
     let r = room_within a.book.now in
     let k = count-within a.used a.book.now c.count_plans-n.result c.count_plans-n.ensures in
-    let q = c.book_room.ensures in
     omega arith
 
 pub returns-then-plans_are_sound : goal.returns-then-plans_are_sound

@@ -20,30 +20,29 @@ loop-i-init c =
     let a = c.args in
     (search rules, plans-start a.book.now a.plans, sym (common-start plan_wide 1 a.plans 0 a.book.now) ∙ c.requires.book_value)
 
--- what is common is in range in the entry, and in those behind it
-common : (c : goal.In-loop-i) → let a = c.args in let i = c.loop-i.i in (common_in_range (part (0 + i * plan_wide + 1) body_wide a.book.now) ≡ true) × (all_common (left plan_wide 1 a.plans 0 a.book.now (i + 1)) ≡ true)
-common c =
-    let a = c.args in
-    common-now plan_wide 1 a.plans 0 a.book.now c.loop-i.i c.loop-i-test.true (omega arith) c.loop-i.invariant.2
-
 pub plan_in_range-good-requires : goal.plan_in_range-good-requires
 plan_in_range-good-requires c =
+    let common : let a = c.args in let i = c.loop-i.i in (common_in_range (part (0 + i * plan_wide + 1) body_wide a.book.now) ≡ true) × (all_common (left plan_wide 1 a.plans 0 a.book.now (i + 1)) ≡ true) = let a = c.args in
+    common-now plan_wide 1 a.plans 0 a.book.now c.loop-i.i c.loop-i-test.true (omega arith) c.loop-i.invariant.2 in
     let i = c.loop-i.i in
     let e : 0 + i * plan_wide + 1 ≡ i * plan_wide + 1 = omega arith in
-    (search rules, rw e at (common c).0)
-
--- in a turn: the entry decides, or else the rest
-step : (c : goal.After-plan_in_range-good) → let a = c.args in all_plans (map plan_body_of (rows_of plan_wide a.plans a.book.now)) ≡ (c.plan_in_range-good.result && all_plans (bodies_from a.book.now a.plans (c.loop-i.i + 1)))
-step c =
-    let a = c.args in
-    let l = c.loop-i in
-    l.invariant.1 ∙ plans-step a.book.now a.plans l.i c.loop-i-test.true ∙ rw (← c.plan_in_range-good.ensures)
+    (search rules, rw e at common.0)
 
 pub loop-i-preserved : goal.loop-i-preserved
-loop-i-preserved c = (omega arith, step c.before ∙ rw c.if-good.true, (common c.before.before).1)
+loop-i-preserved c =
+    let common : let a = c.args in let i = c.loop-i.i in (common_in_range (part (0 + i * plan_wide + 1) body_wide a.book.now) ≡ true) × (all_common (left plan_wide 1 a.plans 0 a.book.now (i + 1)) ≡ true) = let a = c.args in
+    common-now plan_wide 1 a.plans 0 a.book.now c.loop-i.i c.loop-i-test.true (omega arith) c.loop-i.invariant.2 in
+    let step : let a = c.args in all_plans (map plan_body_of (rows_of plan_wide a.plans a.book.now)) ≡ (c.plan_in_range-good.result && all_plans (bodies_from a.book.now a.plans (c.loop-i.i + 1))) = let a = c.args in
+    let l = c.loop-i in
+    l.invariant.1 ∙ plans-step a.book.now a.plans l.i c.loop-i-test.true ∙ rw (← c.plan_in_range-good.ensures) in
+    (omega arith, step ∙ rw c.if-good.true, common.1)
 
 pub returns-else-good : goal.returns-else-good
-returns-else-good c = sym (step c.before ∙ rw c.if-good.false)
+returns-else-good c =
+    let step : let a = c.args in all_plans (map plan_body_of (rows_of plan_wide a.plans a.book.now)) ≡ (c.plan_in_range-good.result && all_plans (bodies_from a.book.now a.plans (c.loop-i.i + 1))) = let a = c.args in
+    let l = c.loop-i in
+    l.invariant.1 ∙ plans-step a.book.now a.plans l.i c.loop-i-test.true ∙ rw (← c.plan_in_range-good.ensures) in
+    sym (step ∙ rw c.if-good.false)
 
 pub returns : goal.returns
 returns c =

@@ -33,30 +33,43 @@ returns-then-i-m c =
     c.count_leading-i.result c.count_leading-i.ensures c.if-i-m.true
     ∙ ap (held_as c.args.number) (sym (updates-are c.args.used c.args.book.now c.count_plans-from.result c.count_plans-from.ensures))
 
--- the place found is within the updates, and they are within the used bytes
-places : (c : goal.Else-i-m) → let s = c.args in (c.count_leading-i.result ≤ (s.used - c.count_plans-from.result * plan_wide) / entry_wide) × (c.count_plans-from.result * plan_wide ≤ s.used) × (s.used ≤ length s.book.now)
-places c = (
-  place-within (c.count_plans-from.result * plan_wide) _ _ c.args.book.now _ c.count_leading-i.ensures,
-  count-within c.args.used c.args.book.now c.count_plans-from.result c.count_plans-from.ensures,
-  (used-within _ _ (sound-facts _ _ c.requires)).0,
-)
-
 pub overflow_mul-i : goal.overflow_mul-i
 overflow_mul-i c =
-    let h = places c in
+    let places : let s = c.args in (c.count_leading-i.result ≤ (s.used - c.count_plans-from.result * plan_wide) / entry_wide) × (c.count_plans-from.result * plan_wide ≤ s.used) × (s.used ≤ length s.book.now) = (
+      place-within (c.count_plans-from.result * plan_wide) _ _ c.args.book.now _ c.count_leading-i.ensures,
+      count-within c.args.used c.args.book.now c.count_plans-from.result c.count_plans-from.ensures,
+      (used-within _ _ (sound-facts _ _ c.requires)).0,
+    ) in
+    let h = places in
     search rules
 
 pub overflow_add-from : goal.overflow_add-from
 overflow_add-from c =
-    let h = places c in
+    let places : let s = c.args in (c.count_leading-i.result ≤ (s.used - c.count_plans-from.result * plan_wide) / entry_wide) × (c.count_plans-from.result * plan_wide ≤ s.used) × (s.used ≤ length s.book.now) = (
+      place-within (c.count_plans-from.result * plan_wide) _ _ c.args.book.now _ c.count_leading-i.ensures,
+      count-within c.args.used c.args.book.now c.count_plans-from.result c.count_plans-from.ensures,
+      (used-within _ _ (sound-facts _ _ c.requires)).0,
+    ) in
+    let h = places in
     search rules
 
 pub overflow_sub-m-2 : goal.overflow_sub-m-2
-overflow_sub-m-2 c = (places c).0
+overflow_sub-m-2 c =
+    let places : let s = c.args in (c.count_leading-i.result ≤ (s.used - c.count_plans-from.result * plan_wide) / entry_wide) × (c.count_plans-from.result * plan_wide ≤ s.used) × (s.used ≤ length s.book.now) = (
+      place-within (c.count_plans-from.result * plan_wide) _ _ c.args.book.now _ c.count_leading-i.ensures,
+      count-within c.args.used c.args.book.now c.count_plans-from.result c.count_plans-from.ensures,
+      (used-within _ _ (sound-facts _ _ c.requires)).0,
+    ) in
+    places.0
 
 pub count_leading-k-requires : goal.count_leading-k-requires
 count_leading-k-requires c =
-    let h = places c in
+    let places : let s = c.args in (c.count_leading-i.result ≤ (s.used - c.count_plans-from.result * plan_wide) / entry_wide) × (c.count_plans-from.result * plan_wide ≤ s.used) × (s.used ≤ length s.book.now) = (
+      place-within (c.count_plans-from.result * plan_wide) _ _ c.args.book.now _ c.count_leading-i.ensures,
+      count-within c.args.used c.args.book.now c.count_plans-from.result c.count_plans-from.ensures,
+      (used-within _ _ (sound-facts _ _ c.requires)).0,
+    ) in
+    let h = places in
     omega arith
 
 pub returns : goal.returns

@@ -16,26 +16,35 @@ use Rattle.book_find.proofs.FindLaws.{found_below, row-found, row-missing, some-
 use borrow.Author.Rules.{rules}
 use Rattle.book_find.proofs.plan_row.Goals as goal
 
-found : (c : goal.In-At) → At c.in-At.i ≡ lookup (part c.args.from key_wide c.args.key.now) (bodies c.args.plans c.args.book.now)
-found c = sym c.in-At.is ∙ c.find_plan-f.ensures
-
-below : (c : goal.In-At) → c.in-At.i < c.args.plans
-below c = found_below c.args.plans c.args.book.now _ c.requires.plan_wide_in_bounds.0 _ (found c)
-
 pub overflow_mul-p : goal.overflow_mul-p
-overflow_mul-p c = let h = below c in search rules
+overflow_mul-p c =
+    let found : At c.in-At.i ≡ lookup (part c.args.from key_wide c.args.key.now) (bodies c.args.plans c.args.book.now) = sym c.in-At.is ∙ c.find_plan-f.ensures in
+    let below : c.in-At.i < c.args.plans = found_below c.args.plans c.args.book.now _ c.requires.plan_wide_in_bounds.0 _ found in
+    let h = below in search rules
 
 pub overflow_add-p : goal.overflow_add-p
-overflow_add-p c = let h = below c in search rules
+overflow_add-p c =
+    let found : At c.in-At.i ≡ lookup (part c.args.from key_wide c.args.key.now) (bodies c.args.plans c.args.book.now) = sym c.in-At.is ∙ c.find_plan-f.ensures in
+    let below : c.in-At.i < c.args.plans = found_below c.args.plans c.args.book.now _ c.requires.plan_wide_in_bounds.0 _ found in
+    let h = below in search rules
 
 pub overflow_add-p-in-At : goal.overflow_add-p-in-At
-overflow_add-p-in-At c = let h = below c.before in search rules
+overflow_add-p-in-At c =
+    let found : At c.in-At.i ≡ lookup (part c.args.from key_wide c.args.key.now) (bodies c.args.plans c.args.book.now) = sym c.in-At.is ∙ c.find_plan-f.ensures in
+    let below : c.in-At.i < c.args.plans = found_below c.args.plans c.args.book.now _ c.requires.plan_wide_in_bounds.0 _ found in
+    let h = below in search rules
 
 pub slice_bounds-copy_to-end : goal.slice_bounds-copy_to-end
-slice_bounds-copy_to-end c = let h = below c.before in search rules
+slice_bounds-copy_to-end c =
+    let found : At c.in-At.i ≡ lookup (part c.args.from key_wide c.args.key.now) (bodies c.args.plans c.args.book.now) = sym c.in-At.is ∙ c.find_plan-f.ensures in
+    let below : c.in-At.i < c.args.plans = found_below c.args.plans c.args.book.now _ c.requires.plan_wide_in_bounds.0 _ found in
+    let h = below in search rules
 
 pub copy_to-requires : goal.copy_to-requires
-copy_to-requires c = let h = below c.before.before in simp (length-take, length-drop) (omega arith)
+copy_to-requires c =
+    let found : At c.in-At.i ≡ lookup (part c.args.from key_wide c.args.key.now) (bodies c.args.plans c.args.book.now) = sym c.in-At.is ∙ c.find_plan-f.ensures in
+    let below : c.in-At.i < c.args.plans = found_below c.args.plans c.args.book.now _ c.requires.plan_wide_in_bounds.0 _ found in
+    let h = below in simp (length-take, length-drop) (omega arith)
 
 pub bounds-out-at : goal.bounds-out-at
 bounds-out-at c =
@@ -48,9 +57,11 @@ shape_of-out-in-At c =
 
 pub returns-in-At : goal.returns-in-At
 returns-in-At c =
+    let found : At c.in-At.i ≡ lookup (part c.args.from key_wide c.args.key.now) (bodies c.args.plans c.args.book.now) = sym c.in-At.is ∙ c.find_plan-f.ensures in
+    let below : c.in-At.i < c.args.plans = found_below c.args.plans c.args.book.now _ c.requires.plan_wide_in_bounds.0 _ found in
     let i = c.in-At.i in
-    let g = row-found c.args.plans c.args.book.now (part c.args.from key_wide c.args.key.now) c.requires.plan_wide_in_bounds.0 i (found c.before.before.before.before.before) in
-    let h = below c.before.before.before.before.before in
+    let g = row-found c.args.plans c.args.book.now (part c.args.from key_wide c.args.key.now) c.requires.plan_wide_in_bounds.0 i found in
+    let h = below in
     let e = c.copy_to.ensures ∙ ap (λ (r : List ℕ). over c.args.at r c.args.out.now) (lent-part (i * plan_wide + 1) body_wide c.args.book.now) in
     record { value = rw g (some-row (plan_body_at i c.args.book.now)); out_after = rw g (row_written c.args.at (i * plan_wide + 1) c.args.book.now c.args.out.now c.copy_to.new.bytes (omega arith) e) }
 

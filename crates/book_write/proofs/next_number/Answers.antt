@@ -39,7 +39,6 @@ pub overflow_add-result : goal.overflow_add-result
 overflow_add-result c =
     let l = last-most c.args.used c.args.book.now c.requires in
     let n = next-after c.args.used c.args.book.now c.requires c.count_plans-from.result c.count_plans-from.ensures c.if-used-from.false in
-    let g = c.get_number-last.ensures in
     search rules
 
 pub returns : goal.returns

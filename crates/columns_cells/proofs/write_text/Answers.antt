@@ -20,4 +20,4 @@ returns-then-is_plain c =
     let t = kept-long c.args.at c.args.row.now (ap text_cell (sym (plain-text f told))) (omega arith) c.write_plain.ensures in record { some = t.0; written = t.1 }
 
 pub returns : goal.returns
-returns c = let t = c.write_decoded.ensures in record { some = t.0; written = t.1 }
+returns c = c.write_decoded.ensures

@@ -4,7 +4,7 @@ use Rattle.desk_boards.proofs.AnswerLaws.{board-written}
 use Rattle.desk_boards.proofs.set_board.Goals as goal
 
 pub returns-in-Listed : goal.returns-in-Listed
-returns-in-Listed c = let g = c.listing-1.given in let t = board-written _ (Listed g.0.0 g.0.1.0) _ _ g.1 c.write_three.ensures in record { value = t.0; answer_after = t.1 }
+returns-in-Listed c = let t = board-written _ (Listed c.in-Listed.w c.in-Listed.s) _ _ c.in-Listed.is c.write_three.ensures in record { value = t.0; answer_after = t.1 }
 
 pub returns-in-Unsound : goal.returns-in-Unsound
 returns-in-Unsound c = let t = board-written _ Unsound _ _ c.in-Unsound.is c.write_three-in-Unsound.ensures in record { value = t.0; answer_after = t.1 }

@@ -15,20 +15,23 @@ loop-i-init c =
     let s = c.args in
     (search rules, ap (any_denied s.register.now s.sender) (rest-start s.count s.staging.now))
 
--- in a turn: the row decides, or else the rest
-step : (c : goal.After-registered) → let s = c.args in any_denied s.register.now s.sender (rows_of body_wide s.count s.staging.now) ≡ (not c.registered.result || any_denied s.register.now s.sender (rest s.count s.staging.now (c.loop-i.i + 1)))
-step c =
-    let s = c.args in
+pub loop-i-preserved : goal.loop-i-preserved
+loop-i-preserved c =
+    let step : let s = c.args in any_denied s.register.now s.sender (rows_of body_wide s.count s.staging.now) ≡ (not c.registered.result || any_denied s.register.now s.sender (rest s.count s.staging.now (c.loop-i.i + 1))) = let s = c.args in
     let i = c.loop-i.i in
     c.loop-i.invariant.1
     ∙ denied-step s.count s.staging.now s.register.now s.sender i c.loop-i-test.true
-    ∙ rw (← c.registered.ensures)
-
-pub loop-i-preserved : goal.loop-i-preserved
-loop-i-preserved c = (omega arith, step c.before ∙ rw c.if-registered.true)
+    ∙ rw (← c.registered.ensures) in
+    (omega arith, step ∙ rw c.if-registered.true)
 
 pub returns-else-registered : goal.returns-else-registered
-returns-else-registered c = rw (step c.before, c.if-registered.false)
+returns-else-registered c =
+    let step : let s = c.args in any_denied s.register.now s.sender (rows_of body_wide s.count s.staging.now) ≡ (not c.registered.result || any_denied s.register.now s.sender (rest s.count s.staging.now (c.loop-i.i + 1))) = let s = c.args in
+    let i = c.loop-i.i in
+    c.loop-i.invariant.1
+    ∙ denied-step s.count s.staging.now s.register.now s.sender i c.loop-i-test.true
+    ∙ rw (← c.registered.ensures) in
+    rw (step, c.if-registered.false)
 
 pub returns : goal.returns
 returns c =

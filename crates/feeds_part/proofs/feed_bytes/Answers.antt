@@ -31,26 +31,26 @@ pub slice_bounds-feed_lines-end-in-Stuck : goal.slice_bounds-feed_lines-end-in-S
 slice_bounds-feed_lines-end-in-Stuck c = let a = c.args in let o = c.open_for-open in let part = a.part.now in let q = opened (length part) a.feed o.result o.ensures in sym (length-take-le _ part (omega (arith, q.most, stuck-within part a.feed o.result q c.in-Stuck.j (sym c.scan.ensures ∙ c.in-Stuck.is))))
 
 pub feed_lines-f-requires-in-Stuck : goal.feed_lines-f-requires-in-Stuck
-feed_lines-f-requires-in-Stuck c = let a = c.args in let o = c.open_for-open in let part = a.part.now in let q = opened (length part) a.feed o.result o.ensures in let j = c.j-1.given in ((c.requires.0, c.requires.1), (c.state_behind-m.ensures, front-room part a.feed o.result q j.0.0 (omega (arith, stuck-within part a.feed o.result q j.0.0 (sym c.scan.ensures ∙ j.1)))))
+feed_lines-f-requires-in-Stuck c = let a = c.args in let o = c.open_for-open in let part = a.part.now in let q = opened (length part) a.feed o.result o.ensures in ((c.requires.0, c.requires.1), (c.state_behind-m.ensures, front-room part a.feed o.result q c.in-Stuck.j (omega (arith, stuck-within part a.feed o.result q c.in-Stuck.j (sym c.scan.ensures ∙ c.in-Stuck.is)))))
 
 pub at_fault-requires : goal.at_fault-requires
-at_fault-requires c = let a = c.args in let o = c.open_for-open in let part = a.part.now in let q = opened (length part) a.feed o.result o.ensures in let j = c.j-1.given in let f = c.feed_lines-f-in-Stuck in let m = c.state_behind-m in stuck_at part a.feed o.result q j.0.0 (sym c.scan.ensures ∙ j.1) a.register.now (lent a.feed a.line.now a.staging.now) m.result m.ensures f.result f.new.line f.new.staging f.ensures.is f.ensures.counted.0 f.ensures.counted.1 f.ensures.counted.2
+at_fault-requires c = let a = c.args in let o = c.open_for-open in let part = a.part.now in let q = opened (length part) a.feed o.result o.ensures in let f = c.feed_lines-f-in-Stuck in let m = c.state_behind-m in stuck_at part a.feed o.result q c.in-Stuck.j (sym c.scan.ensures ∙ c.in-Stuck.is) a.register.now (lent a.feed a.line.now a.staging.now) m.result m.ensures f.result f.new.line f.new.staging f.ensures.is f.ensures.counted.0 f.ensures.counted.1 f.ensures.counted.2
 
 pub overflow_add-j : goal.overflow_add-j
-overflow_add-j c = let a = c.args in let o = c.open_for-open in let part = a.part.now in let q = opened (length part) a.feed o.result o.ensures in let j = c.j-1.given in omega (arith, stuck-within part a.feed o.result q j.0.0 (sym c.scan.ensures ∙ j.1), q.most)
+overflow_add-j c = let a = c.args in let o = c.open_for-open in let part = a.part.now in let q = opened (length part) a.feed o.result o.ensures in omega (arith, stuck-within part a.feed o.result q c.in-Stuck.j (sym c.scan.ensures ∙ c.in-Stuck.is), q.most)
 
 pub overflow_sub-part-in-Stuck : goal.overflow_sub-part-in-Stuck
-overflow_sub-part-in-Stuck c = let a = c.args in let o = c.open_for-open in let part = a.part.now in let q = opened (length part) a.feed o.result o.ensures in let j = c.j-1.given in omega (arith, stuck-within part a.feed o.result q j.0.0 (sym c.scan.ensures ∙ j.1), q.most)
+overflow_sub-part-in-Stuck c = let a = c.args in let o = c.open_for-open in let part = a.part.now in let q = opened (length part) a.feed o.result o.ensures in omega (arith, stuck-within part a.feed o.result q c.in-Stuck.j (sym c.scan.ensures ∙ c.in-Stuck.is), q.most)
 
 pub count-requires-in-Stuck : goal.count-requires-in-Stuck
-count-requires-in-Stuck c = let a = c.args in let o = c.open_for-open in let part = a.part.now in let q = opened (length part) a.feed o.result o.ensures in let j = c.j-1.given in let f = c.feed_lines-f-in-Stuck in let m = c.state_behind-m in
-    let h = stuck_at part a.feed o.result q j.0.0 (sym c.scan.ensures ∙ j.1) a.register.now (lent a.feed a.line.now a.staging.now) m.result m.ensures f.result f.new.line f.new.staging f.ensures.is f.ensures.counted.0 f.ensures.counted.1 f.ensures.counted.2 in
+count-requires-in-Stuck c = let a = c.args in let o = c.open_for-open in let part = a.part.now in let q = opened (length part) a.feed o.result o.ensures in let f = c.feed_lines-f-in-Stuck in let m = c.state_behind-m in
+    let h = stuck_at part a.feed o.result q c.in-Stuck.j (sym c.scan.ensures ∙ c.in-Stuck.is) a.register.now (lent a.feed a.line.now a.staging.now) m.result m.ensures f.result f.new.line f.new.staging f.ensures.is f.ensures.counted.0 f.ensures.counted.1 f.ensures.counted.2 in
     fault-most f.result c.at_fault.result c.at_fault.ensures h
 
 pub returns-in-To : goal.returns-in-To
 returns-in-To c = let a = c.args in let o = c.open_for-open in let part = a.part.now in let q = opened (length part) a.feed o.result o.ensures in let f = c.feed_lines-f in front-fed part a.feed o.result q a.register.now (lent a.feed a.line.now a.staging.now) f.result f.new.line f.new.staging f.ensures.is f.ensures.counted.0 f.ensures.counted.1 c.requires.1 c.count.result c.count.ensures
 
 pub returns-in-Stuck : goal.returns-in-Stuck
-returns-in-Stuck c = let a = c.args in let o = c.open_for-open in let part = a.part.now in let q = opened (length part) a.feed o.result o.ensures in let j = c.j-1.given in let f = c.feed_lines-f-in-Stuck in let m = c.state_behind-m in
-    stuck-fed part a.feed o.result q j.0.0 (sym c.scan.ensures ∙ j.1) a.register.now (lent a.feed a.line.now a.staging.now) m.result m.ensures f.result f.new.line f.new.staging f.ensures.is f.ensures.counted.0 f.ensures.counted.1 f.ensures.counted.2
+returns-in-Stuck c = let a = c.args in let o = c.open_for-open in let part = a.part.now in let q = opened (length part) a.feed o.result o.ensures in let f = c.feed_lines-f-in-Stuck in let m = c.state_behind-m in
+    stuck-fed part a.feed o.result q c.in-Stuck.j (sym c.scan.ensures ∙ c.in-Stuck.is) a.register.now (lent a.feed a.line.now a.staging.now) m.result m.ensures f.result f.new.line f.new.staging f.ensures.is f.ensures.counted.0 f.ensures.counted.1 f.ensures.counted.2
     c.at_fault.result c.at_fault.ensures c.count-in-Stuck.result c.count-in-Stuck.ensures

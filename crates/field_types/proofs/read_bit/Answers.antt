@@ -3,21 +3,19 @@ use Rattle.field_types.specs.Names.{bits, bit}
 use Rattle.field_types.proofs.NameLaws.{Tried, untried, this-word, other_word, no_word}
 use Rattle.field_types.proofs.read_bit.Goals as goal
 
--- the words tried so far
-abbrev past1 : goal.Else-same_bytes → Tried 0 bits 1
-past1 c = other_word (untried 0 bits c.args.field.now) (omega arith) c.if-same_bytes.false c.same_bytes.ensures
-
-abbrev past2 : goal.Else-same_bytes-2 → Tried 0 bits 2
-past2 c = other_word (past1 c.before.before.before.before) (omega arith) c.if-same_bytes-2.false c.same_bytes-2.ensures
-
 pub returns-then-same_bytes : goal.returns-then-same_bytes
 unfolding bit
 returns-then-same_bytes c = this-word (untried 0 bits c.args.field.now) (omega arith) c.if-same_bytes.true c.same_bytes.ensures
 
 pub returns-then-same_bytes-2 : goal.returns-then-same_bytes-2
 unfolding bit
-returns-then-same_bytes-2 c = this-word (past1 c.before.before.before.before) (omega arith) c.if-same_bytes-2.true c.same_bytes-2.ensures
+returns-then-same_bytes-2 c =
+    let past1 : Tried 0 bits 1 = other_word (untried 0 bits c.args.field.now) (omega arith) c.if-same_bytes.false c.same_bytes.ensures in
+    this-word past1 (omega arith) c.if-same_bytes-2.true c.same_bytes-2.ensures
 
 pub returns : goal.returns
 unfolding bit
-returns c = no_word (past2 c)
+returns c =
+    let past1 : Tried 0 bits 1 = other_word (untried 0 bits c.args.field.now) (omega arith) c.if-same_bytes.false c.same_bytes.ensures in
+    let past2 : Tried 0 bits 2 = other_word past1 (omega arith) c.if-same_bytes-2.false c.same_bytes-2.ensures in
+    no_word past2

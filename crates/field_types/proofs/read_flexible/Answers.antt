@@ -3,28 +3,27 @@ use Rattle.field_types.specs.Names.{flexibles, flexible}
 use Rattle.field_types.proofs.NameLaws.{Tried, untried, this-word, other_word, no_word}
 use Rattle.field_types.proofs.read_flexible.Goals as goal
 
--- the words tried so far
-abbrev past1 : goal.Else-same_bytes → Tried 1 flexibles 1
-past1 c = other_word (untried 1 flexibles c.args.field.now) (omega arith) c.if-same_bytes.false c.same_bytes.ensures
-
-abbrev past2 : goal.Else-same_bytes-2 → Tried 1 flexibles 2
-past2 c = other_word (past1 c.before.before.before.before) (omega arith) c.if-same_bytes-2.false c.same_bytes-2.ensures
-
-abbrev past3 : goal.Else-same_bytes-3 → Tried 1 flexibles 3
-past3 c = other_word (past2 c.before.before.before.before) (omega arith) c.if-same_bytes-3.false c.same_bytes-3.ensures
-
 pub returns-then-same_bytes : goal.returns-then-same_bytes
 unfolding flexible
 returns-then-same_bytes c = this-word (untried 1 flexibles c.args.field.now) (omega arith) c.if-same_bytes.true c.same_bytes.ensures
 
 pub returns-then-same_bytes-2 : goal.returns-then-same_bytes-2
 unfolding flexible
-returns-then-same_bytes-2 c = this-word (past1 c.before.before.before.before) (omega arith) c.if-same_bytes-2.true c.same_bytes-2.ensures
+returns-then-same_bytes-2 c =
+    let past1 : Tried 1 flexibles 1 = other_word (untried 1 flexibles c.args.field.now) (omega arith) c.if-same_bytes.false c.same_bytes.ensures in
+    this-word past1 (omega arith) c.if-same_bytes-2.true c.same_bytes-2.ensures
 
 pub returns-then-same_bytes-3 : goal.returns-then-same_bytes-3
 unfolding flexible
-returns-then-same_bytes-3 c = this-word (past2 c.before.before.before.before) (omega arith) c.if-same_bytes-3.true c.same_bytes-3.ensures
+returns-then-same_bytes-3 c =
+    let past1 : Tried 1 flexibles 1 = other_word (untried 1 flexibles c.args.field.now) (omega arith) c.if-same_bytes.false c.same_bytes.ensures in
+    let past2 : Tried 1 flexibles 2 = other_word past1 (omega arith) c.if-same_bytes-2.false c.same_bytes-2.ensures in
+    this-word past2 (omega arith) c.if-same_bytes-3.true c.same_bytes-3.ensures
 
 pub returns : goal.returns
 unfolding flexible
-returns c = no_word (past3 c)
+returns c =
+    let past1 : Tried 1 flexibles 1 = other_word (untried 1 flexibles c.args.field.now) (omega arith) c.if-same_bytes.false c.same_bytes.ensures in
+    let past2 : Tried 1 flexibles 2 = other_word past1 (omega arith) c.if-same_bytes-2.false c.same_bytes-2.ensures in
+    let past3 : Tried 1 flexibles 3 = other_word past2 (omega arith) c.if-same_bytes-3.false c.same_bytes-3.ensures in
+    no_word past3

@@ -28,24 +28,26 @@ returns-then-b-gt57 c = let k = c.loop-i in
     let f = c.args.field.now in
     number-other _ f (k.invariant.2 ∙ digits-stop f k.i (search rules) (above-range 48 57 _ c.if-b-gt57.true))
 
--- the next number has one digit more
-below_next : (c : goal.Else-b-gt57) → let k = c.loop-i in let b = get_or c.args.field.now k.i 0 in k.n * 10 + (b - 48) < 10 ^ (k.i + 1)
-below_next c = more-digits _ _ _ c.loop-i.invariant.1 (omega arith)
-
 pub overflow_mul-n : goal.overflow_mul-n
-overflow_mul-n c = omega (arith, nine-digits _ _ (below_next c) (omega arith))
+overflow_mul-n c =
+    let below_next : let k = c.loop-i in let b = get_or c.args.field.now k.i 0 in k.n * 10 + (b - 48) < 10 ^ (k.i + 1) = more-digits _ _ _ c.loop-i.invariant.1 (omega arith) in
+    omega (arith, nine-digits _ _ below_next (omega arith))
 
 pub overflow_cast-n : goal.overflow_cast-n
 overflow_cast-n c = omega arith
 
 pub overflow_add-n : goal.overflow_add-n
-overflow_add-n c = omega (arith, nine-digits _ _ (below_next c) (omega arith))
+overflow_add-n c =
+    let below_next : let k = c.loop-i in let b = get_or c.args.field.now k.i 0 in k.n * 10 + (b - 48) < 10 ^ (k.i + 1) = more-digits _ _ _ c.loop-i.invariant.1 (omega arith) in
+    omega (arith, nine-digits _ _ below_next (omega arith))
 
 pub loop-i-preserved : goal.loop-i-preserved
-loop-i-preserved c = let k = c.loop-i in
+loop-i-preserved c =
+    let below_next : let k = c.loop-i in let b = get_or c.args.field.now k.i 0 in k.n * 10 + (b - 48) < 10 ^ (k.i + 1) = more-digits _ _ _ c.loop-i.invariant.1 (omega arith) in
+    let k = c.loop-i in
     let f = c.args.field.now in (
       search rules,
-      below_next c,
+      below_next,
       k.invariant.2 ∙ digits_step f k.i (search rules) (in-range 48 57 _ c.if-b-lt48.false c.if-b-gt57.false),
       k.invariant.3 ∙ value-step f k.i (search rules) k.n,
     )

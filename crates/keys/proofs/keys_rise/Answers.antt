@@ -20,38 +20,43 @@ overflow_add-row c =
     let f = count_fits a.width a.count (omega arith) in
     omega (arith, c.requires.0)
 
--- the next row lies within the list
-fit : (c : goal.In-loop-row) → let a = c.args in c.loop-row.row * a.width + a.width + a.width ≤ length a.bytes.now
-fit c =
-    let a = c.args in
-    rise-fits a.width a.offset a.count a.bytes.now c.loop-row.row c.loop-row-test.true c.requires.0
-
 pub overflow_add-p : goal.overflow_add-p
-overflow_add-p c = omega (arith, fit c, c.loop-row.invariant.1)
+overflow_add-p c =
+    let fit : let a = c.args in c.loop-row.row * a.width + a.width + a.width ≤ length a.bytes.now = let a = c.args in
+    rise-fits a.width a.offset a.count a.bytes.now c.loop-row.row c.loop-row-test.true c.requires.0 in
+    omega (arith, fit, c.loop-row.invariant.1)
 
 pub is_below-requires : goal.is_below-requires
-is_below-requires c = (omega (arith, fit c, c.loop-row.invariant.1), omega (arith, fit c, c.loop-row.invariant.1))
+is_below-requires c =
+    let fit : let a = c.args in c.loop-row.row * a.width + a.width + a.width ≤ length a.bytes.now = let a = c.args in
+    rise-fits a.width a.offset a.count a.bytes.now c.loop-row.row c.loop-row-test.true c.requires.0 in
+    (omega (arith, fit, c.loop-row.invariant.1), omega (arith, fit, c.loop-row.invariant.1))
 
 pub overflow_add-p-then-is_below : goal.overflow_add-p-then-is_below
-overflow_add-p-then-is_below c = omega (arith, fit c.before.before, c.loop-row.invariant.1)
-
--- in a turn: the two keys decide, or else the rest
-step : (c : goal.After-is_below) → let a = c.args in sorted_rows (map (part a.offset (a.width - a.offset)) (rows_of a.width a.count a.bytes.now)) ≡ (c.is_below.result && sorted_rows (left a.width a.offset a.count a.bytes.now (c.loop-row.row + 1)))
-step c =
-    let a = c.args in
-    let l = c.loop-row in
-    l.invariant.2
-    ∙ rise-step a.width a.offset a.count a.bytes.now l.row c.loop-row-test.true c.requires.1
-    ∙ rw (c.is_below.ensures, l.invariant.1)
+overflow_add-p-then-is_below c =
+    let fit : let a = c.args in c.loop-row.row * a.width + a.width + a.width ≤ length a.bytes.now = let a = c.args in
+    rise-fits a.width a.offset a.count a.bytes.now c.loop-row.row c.loop-row-test.true c.requires.0 in
+    omega (arith, fit, c.loop-row.invariant.1)
 
 pub loop-row-preserved : goal.loop-row-preserved
 loop-row-preserved c =
+    let step : let a = c.args in sorted_rows (map (part a.offset (a.width - a.offset)) (rows_of a.width a.count a.bytes.now)) ≡ (c.is_below.result && sorted_rows (left a.width a.offset a.count a.bytes.now (c.loop-row.row + 1))) = let a = c.args in
+    let l = c.loop-row in
+    l.invariant.2
+    ∙ rise-step a.width a.offset a.count a.bytes.now l.row c.loop-row-test.true c.requires.1
+    ∙ rw (c.is_below.ensures, l.invariant.1) in
     let l = c.loop-row in
     let a = c.args in
-    (omega arith, rw (next_row a.width l.row) (omega (arith, l.invariant.1)), step c.before ∙ rw c.if-is_below.true)
+    (omega arith, rw (next_row a.width l.row) (omega (arith, l.invariant.1)), step ∙ rw c.if-is_below.true)
 
 pub returns-else-is_below : goal.returns-else-is_below
-returns-else-is_below c = sym (step c.before ∙ rw c.if-is_below.false)
+returns-else-is_below c =
+    let step : let a = c.args in sorted_rows (map (part a.offset (a.width - a.offset)) (rows_of a.width a.count a.bytes.now)) ≡ (c.is_below.result && sorted_rows (left a.width a.offset a.count a.bytes.now (c.loop-row.row + 1))) = let a = c.args in
+    let l = c.loop-row in
+    l.invariant.2
+    ∙ rise-step a.width a.offset a.count a.bytes.now l.row c.loop-row-test.true c.requires.1
+    ∙ rw (c.is_below.ensures, l.invariant.1) in
+    sym (step ∙ rw c.if-is_below.false)
 
 pub returns : goal.returns
 returns c =

@@ -18,21 +18,15 @@ use Rattle.calls.proofs.LeavesLaws.{passed_on}
 use Rattle.messages.proofs.ReadLaws.{staged-bodies, dossier-refused, rows_taken}
 use Rattle.messages.proofs.read_and_take.Goals as goal
 
--- the form that is stated
-form : (p : goal.After-passed) → Message p.form_of.result ≡ message_table p.args.form
-form p = ap Message p.form_of.ensures
-
 -- what comes of the dossier
 goes : (p : goal.After-passed) (x : Next) → p.passed.result ≡ x → passed_of 0 (reading_of (message_table p.args.form) p.args.register.now p.args.sender p.args.dossier.now) ≡ x
 goes p x e = sym (p.passed.ensures ∙ ap (passed_of 0) (p.read_message-reading.ensures.answer ∙ ap (λ (t : Table). reading_of t p.args.register.now p.args.sender p.args.dossier.now) (form p))) ∙ e
 
-rows : (n : goal.In-On-2) → reading_of (message_table n.args.form) n.args.register.now n.args.sender n.args.dossier.now ≡ Rows n.in-On.count
-rows n = passed_on 0 _ _ (goes n.before.before _ n.in-On.is)
-
 pub take_rows-requires : goal.take_rows-requires
 take_rows-requires c =
+    let rows : reading_of (message_table c.args.form) c.args.register.now c.args.sender c.args.dossier.now ≡ Rows c.in-On.count = passed_on 0 _ _ (goes c.before.before _ c.in-On.is) in
     let a = c.args in
-    let few = rows_few (form_of a.form) a.register.now a.sender a.dossier.now _ (rows c.before.before.before) in
+    let few = rows_few (form_of a.form) a.register.now a.sender a.dossier.now _ rows in
     let parts = sound-parts a.dossier.now a.register.now a.book.now a.table.now a.sender a.form a.counts c.requires.counts_value.0 in
     let holds = c.requires.holds_rows _ few.1 few.0 in
     let l = c.read_message-reading.auto.1.1.1.1.0 in
@@ -40,12 +34,14 @@ take_rows-requires c =
 
 pub returns-in-On : goal.returns-in-On
 returns-in-On c =
+    let form : Message c.form_of.result ≡ message_table c.args.form = ap Message c.form_of.ensures in
+    let rows : reading_of (message_table c.args.form) c.args.register.now c.args.sender c.args.dossier.now ≡ Rows c.in-On.count = passed_on 0 _ _ (goes c.before.before _ c.in-On.is) in
     let a = c.args in
     let k = c.in-On.count in
-    let few = rows_few (form_of a.form) a.register.now a.sender a.dossier.now k (rows c.before.before.before.before.before.before.before.before) in
+    let few = rows_few (form_of a.form) a.register.now a.sender a.dossier.now k rows in
     let same : rows_of body_wide k c.read_message-reading.new.staging ≡ message_rows a.form a.dossier.now =
-    ap (rows_of body_wide k) (c.read_message-reading.ensures.area ∙ ap (λ (t : Table). staged_by t a.register.now a.sender a.dossier.now a.staging.now) (form c.before.before.before.before.before.before.before.before.before.before)) ∙ staged-bodies a.form a.register.now a.sender a.dossier.now _ k (rows c.before.before.before.before.before.before.before.before) (c.requires.holds_rows k few.1 few.0) in
-    rows_taken a.dossier.now a.sender a.form a.register.now a.book.now a.table.now a.counts c.requires.counts_value.0 c.requires.counts_value.1 k (rows c.before.before.before.before.before.before.before.before) _ same c.take_rows.result _ _ c.take_rows.ensures
+    ap (rows_of body_wide k) (c.read_message-reading.ensures.area ∙ ap (λ (t : Table). staged_by t a.register.now a.sender a.dossier.now a.staging.now) form) ∙ staged-bodies a.form a.register.now a.sender a.dossier.now _ k rows (c.requires.holds_rows k few.1 few.0) in
+    rows_taken a.dossier.now a.sender a.form a.register.now a.book.now a.table.now a.counts c.requires.counts_value.0 c.requires.counts_value.1 k rows _ same c.take_rows.result _ _ c.take_rows.ensures
 
 pub returns-in-Off : goal.returns-in-Off
 returns-in-Off c =

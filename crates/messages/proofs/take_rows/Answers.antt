@@ -15,18 +15,13 @@ use Rattle.messages.proofs.SoundLaws.{used-fits}
 use Rattle.messages.proofs.TakeLaws.{rowless, book-short, table-short, fits}
 use Rattle.messages.proofs.take_rows.Goals as goal
 
--- the staged bodies
-abbrev bodies : goal.Start → List (List ℕ)
-bodies s = rows_of body_wide s.args.count s.args.staging.now
-
-no-bodies : (s : goal.Start) → s.args.count ≡ 0 → bodies s ≡ []
-unfolding rows_of
-no-bodies s e = rw e
-
 pub returns-then-count-eq0 : goal.returns-then-count-eq0
+unfolding rows_of
 returns-then-count-eq0 c =
+    let bodies : List (List ℕ) = rows_of body_wide c.args.count c.args.staging.now in
+    let no-bodies : c.args.count ≡ 0 → bodies ≡ [] = λ e. rw e in
     let a = c.args in
-    rowless a.sender a.book.now a.table.now a.counts c.requires.book_value (bodies c.before.before.before.before.before) (no-bodies c.before.before.before.before.before c.if-count-eq0.true) c.unchanged.result c.unchanged.ensures
+    rowless a.sender a.book.now a.table.now a.counts c.requires.book_value bodies (no-bodies c.if-count-eq0.true) c.unchanged.result c.unchanged.ensures
 
 pub overflow_add-used : goal.overflow_add-used
 overflow_add-used c =
@@ -35,10 +30,11 @@ overflow_add-used c =
 
 pub returns-then-book_room-used : goal.returns-then-book_room-used
 returns-then-book_room-used c =
+    let bodies : List (List ℕ) = rows_of body_wide c.args.count c.args.staging.now in
     let a = c.args in
     let room = c.book_room.ensures in
-    let h : book_room a.book.now < a.counts.used + length (bodies c.before.before.before.before.before.before.before) * entry_wide = rw (← room, length-rows_of body_wide a.count a.staging.now) c.if-book_room-used.true in
-    book-short (bodies c.before.before.before.before.before.before.before) a.sender a.book.now a.table.now a.counts h c.unchanged-then-book_room-used.result c.unchanged-then-book_room-used.ensures
+    let h : book_room a.book.now < a.counts.used + length bodies * entry_wide = rw (← room, length-rows_of body_wide a.count a.staging.now) c.if-book_room-used.true in
+    book-short bodies a.sender a.book.now a.table.now a.counts h c.unchanged-then-book_room-used.result c.unchanged-then-book_room-used.ensures
 
 pub take_fitting-requires : goal.take_fitting-requires
 take_fitting-requires c =
@@ -49,7 +45,6 @@ take_fitting-requires c =
     let held : a.counts.rows ≤ c.rows_room-most.result = rw m (sound-within a.counts.rows a.table.now t) in
     let within : c.rows_room-most.result * row_wide ≤ length a.table.now = rw m (room_fits a.table.now) in
     let room = c.requires.count_le_most_updates in
-    let some = c.if-count-eq0.false in
     record { row_wide_in_bounds = (sound-fits a.counts.rows a.table.now t, omega arith, held, most, omega arith); table_value = sound-sorted a.counts.rows a.table.now t; row_wide_in_bounds_2 = within }
 
 pub write_rows-requires : goal.write_rows-requires
@@ -61,18 +56,20 @@ write_rows-requires c =
 
 pub returns-in-Count : goal.returns-in-Count
 returns-in-Count c =
+    let bodies : List (List ℕ) = rows_of body_wide c.args.count c.args.staging.now in
     let a = c.args in
     let all = length-rows_of body_wide a.count a.staging.now in
     let room = c.book_room.ensures in
-    let fit : a.counts.used + length (bodies c.before.before.before.before.before.before.before.before.before.before.before.before.before.before.before.before.before.before) * entry_wide ≤ book_room a.book.now = rw (← room, all) c.if-book_room-used.false in
-    let some : length (bodies c.before.before.before.before.before.before.before.before.before.before.before.before.before.before.before.before.before.before) ≡ 0 → ⊥ = λ e. c.if-count-eq0.false (sym all ∙ e) in
+    let fit : a.counts.used + length bodies * entry_wide ≤ book_room a.book.now = rw (← room, all) c.if-book_room-used.false in
+    let some : length bodies ≡ 0 → ⊥ = λ e. c.if-count-eq0.false (sym all ∙ e) in
     let wrote = c.write_rows in
     let e = wrote.ensures in
-    fits (bodies c.before.before.before.before.before.before.before.before.before.before.before.before.before.before.before.before.before.before) a.sender a.book.now a.table.now a.counts _ c.rows_room-most.ensures c.take_fitting.result _ c.take_fitting.ensures some fit _ c.in-Count.is wrote.result _ a.count (sym all) e.0 e.1
+    fits bodies a.sender a.book.now a.table.now a.counts _ c.rows_room-most.ensures c.take_fitting.result _ c.take_fitting.ensures some fit _ c.in-Count.is wrote.result _ a.count (sym all) e.0 e.1
 
 pub returns-in-TooMany : goal.returns-in-TooMany
 returns-in-TooMany c =
+    let bodies : List (List ℕ) = rows_of body_wide c.args.count c.args.staging.now in
     let a = c.args in
     let room = c.book_room.ensures in
-    let fit : a.counts.used + length (bodies c.before.before.before.before.before.before.before.before.before.before.before.before.before.before) * entry_wide ≤ book_room a.book.now = rw (← room, length-rows_of body_wide a.count a.staging.now) c.if-book_room-used.false in
-    table-short (bodies c.before.before.before.before.before.before.before.before.before.before.before.before.before.before) a.sender a.book.now a.table.now a.counts _ c.rows_room-most.ensures c.take_fitting.result _ c.take_fitting.ensures fit c.in-TooMany.is c.unchanged-in-TooMany.result c.unchanged-in-TooMany.ensures
+    let fit : a.counts.used + length bodies * entry_wide ≤ book_room a.book.now = rw (← room, length-rows_of body_wide a.count a.staging.now) c.if-book_room-used.false in
+    table-short bodies a.sender a.book.now a.table.now a.counts _ c.rows_room-most.ensures c.take_fitting.result _ c.take_fitting.ensures fit c.in-TooMany.is c.unchanged-in-TooMany.result c.unchanged-in-TooMany.ensures

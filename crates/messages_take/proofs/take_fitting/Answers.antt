@@ -22,4 +22,4 @@ returns-then-count-updates c =
     let t = fits-yes a.count a.most (after a.bodies.now (rows_of row_wide a.count a.table.now) a.updates) a.table.now true fit refl took.result _ took.ensures in record { value = t.0; table_after = t.1 }
 
 pub returns : goal.returns
-returns c = let t = c.take_tight.ensures in record { value = t.0; table_after = t.1 }
+returns c = c.take_tight.ensures

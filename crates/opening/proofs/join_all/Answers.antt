@@ -22,53 +22,53 @@ book_room-room-requires c = tt
 pub fewer-most-requires : goal.fewer-most-requires
 fewer-most-requires c = tt
 
--- what the book has room for, and how long the area is
-abbrev room : goal.After-fewer-most → ℕ
-room f = book_room f.args.book.now / plan_wide
-
-abbrev long : goal.After-fewer-most → ℕ
-long f = length f.args.bodies.now
-
-most-is : (f : goal.After-fewer-most) → f.fewer-most.result ≡ fewer (room f) (long f / body_wide)
-most-is f = f.fewer-most.ensures ∙ ap (λ (n : ℕ). fewer (n / plan_wide) (long f / body_wide)) f.book_room-room.ensures
-
-few : (f : goal.After-fewer-most) → (f.fewer-most.result ≤ room f) × (f.fewer-most.result * body_wide ≤ long f)
-few f = subst (λ (m : ℕ). (m ≤ room f) × (m * body_wide ≤ long f)) (sym (most-is f)) (most-within (room f) (long f))
-
 pub join-pairs-requires : goal.join-pairs-requires
 join-pairs-requires c =
-    let w = few c.before in
+    let room : ℕ = book_room c.args.book.now / plan_wide in
+    let long : ℕ = length c.args.bodies.now in
+    let most-is : c.fewer-most.result ≡ fewer room (long / body_wide) = c.fewer-most.ensures ∙ ap (λ (n : ℕ). fewer (n / plan_wide) (long / body_wide)) c.book_room-room.ensures in
+    let few : (c.fewer-most.result ≤ room) × (c.fewer-most.result * body_wide ≤ long) = subst (λ (m : ℕ). (m ≤ room) × (m * body_wide ≤ long)) (sym most-is) (most-within room long) in
+    let w = few in
     let l = w.0 in
     let m = (room_within c.args.book.now).1 in
     (c.requires.0, c.requires.1, w.1, omega arith)
-
--- ---- what joined
-abbrev joins : goal.Start → List (List ℕ)
-joins s = staged_pairs s.args.times s.args.passes.now s.args.days s.args.validities.now
 
 pub unchanged-requires : goal.unchanged-requires
 unchanged-requires c = tt
 
 pub returns-then-most-pairs : goal.returns-then-most-pairs
 returns-then-most-pairs c =
+    let room : ℕ = book_room c.args.book.now / plan_wide in
+    let long : ℕ = length c.args.bodies.now in
+    let most-is : c.fewer-most.result ≡ fewer room (long / body_wide) = c.fewer-most.ensures ∙ ap (λ (n : ℕ). fewer (n / plan_wide) (long / body_wide)) c.book_room-room.ensures in
+    let joins : List (List ℕ) = staged_pairs c.args.times c.args.passes.now c.args.days c.args.validities.now in
     let a = c.args in
-    refused-with (joins c.before.before.before.before.before.before.before.before.before.before.before.before.before) a.book.now a.table.now a.counts BookShort _ refl
-    (book-short (joins c.before.before.before.before.before.before.before.before.before.before.before.before.before) a.book.now a.table.now a.counts
-    (pairs-short (joins c.before.before.before.before.before.before.before.before.before.before.before.before.before) c.fewer-most.result c.join-pairs.result c.join-pairs.ensures.count a.book.now (a.times * a.days) (long c.before.before.before.before.before.before) (pairs-few a.times a.passes.now a.days a.validities.now) c.requires.2 (most-is c.before.before.before.before.before.before)
+    refused-with joins a.book.now a.table.now a.counts BookShort _ refl
+    (book-short joins a.book.now a.table.now a.counts
+    (pairs-short joins c.fewer-most.result c.join-pairs.result c.join-pairs.ensures.count a.book.now (a.times * a.days) long (pairs-few a.times a.passes.now a.days a.validities.now) c.requires.2 most-is
     c.if-most-pairs.true)) c.unchanged.result c.unchanged.ensures
 
 pub sort_and_write-requires : goal.sort_and_write-requires
 sort_and_write-requires c =
-    let w = few c.before.before.before.before.before.before.before in
-    let k = few-joined c.join-pairs.result c.fewer-most.result (book_room c.args.book.now) (long c.before.before.before.before.before.before.before) c.if-most-pairs.false w.1 w.0 in
-    (room_for _ (long c.before.before.before.before.before.before.before) c.join-pairs.new.out c.join-pairs.auto.1.1.1.1.0 k.0, k.1)
+    let room : ℕ = book_room c.args.book.now / plan_wide in
+    let long : ℕ = length c.args.bodies.now in
+    let most-is : c.fewer-most.result ≡ fewer room (long / body_wide) = c.fewer-most.ensures ∙ ap (λ (n : ℕ). fewer (n / plan_wide) (long / body_wide)) c.book_room-room.ensures in
+    let few : (c.fewer-most.result ≤ room) × (c.fewer-most.result * body_wide ≤ long) = subst (λ (m : ℕ). (m ≤ room) × (m * body_wide ≤ long)) (sym most-is) (most-within room long) in
+    let w = few in
+    let k = few-joined c.join-pairs.result c.fewer-most.result (book_room c.args.book.now) long c.if-most-pairs.false w.1 w.0 in
+    (room_for _ long c.join-pairs.new.out c.join-pairs.auto.1.1.1.1.0 k.0, k.1)
 
 pub returns : goal.returns
 returns c =
+    let room : ℕ = book_room c.args.book.now / plan_wide in
+    let long : ℕ = length c.args.bodies.now in
+    let most-is : c.fewer-most.result ≡ fewer room (long / body_wide) = c.fewer-most.ensures ∙ ap (λ (n : ℕ). fewer (n / plan_wide) (long / body_wide)) c.book_room-room.ensures in
+    let few : (c.fewer-most.result ≤ room) × (c.fewer-most.result * body_wide ≤ long) = subst (λ (m : ℕ). (m ≤ room) × (m * body_wide ≤ long)) (sym most-is) (most-within room long) in
+    let joins : List (List ℕ) = staged_pairs c.args.times c.args.passes.now c.args.days c.args.validities.now in
     let a = c.args in
     let r =
-    pairs-read (joins c.before.before.before.before.before.before.before.before.before.before.before.before.before.before.before.before.before.before.before) c.fewer-most.result c.join-pairs.result c.join-pairs.ensures.count _ c.join-pairs.new.out c.join-pairs.ensures.bodies
-    (wide-pairs a.times a.passes.now a.days a.validities.now c.requires.0 c.requires.1) c.if-most-pairs.false (few c.before.before.before.before.before.before.before.before.before.before.before.before).1 in
+    pairs-read joins c.fewer-most.result c.join-pairs.result c.join-pairs.ensures.count _ c.join-pairs.new.out c.join-pairs.ensures.bodies
+    (wide-pairs a.times a.passes.now a.days a.validities.now c.requires.0 c.requires.1) c.if-most-pairs.false few.1 in
     subst
     (λ (k : List (List ℕ)). Opened (room_to_open k a.book.now a.table.now) k a.book.now a.table.now a.counts c.sort_and_write.result c.sort_and_write.new.book c.sort_and_write.new.table)
     r c.sort_and_write.ensures

@@ -11,13 +11,6 @@ use Rattle.lists.proofs.AreaLaws.{made-room}
 use Rattle.opening.proofs.AreaLaws.{both-within}
 use Rattle.opening.proofs.open.Goals as goal
 
--- small dossiers: their lengths tell how many rows they can have
-small-passes : (t : goal.Then-planning-calendar) → HoldsPasses t.args.planning.now (few_passes * pass_wide)
-small-passes t n e = let h = (both-within (length t.args.planning.now) _ (length t.args.calendar.now) _ t.if-planning-calendar.true).0 in let f = (planning-few t.args.planning.now n e).0 in omega arith
-
-small-validities : (t : goal.Then-planning-calendar) → HoldsValidities t.args.calendar.now (few_validities * validity_wide)
-small-validities t n e = let h = (both-within (length t.args.planning.now) _ (length t.args.calendar.now) _ t.if-planning-calendar.true).1 in let f = (calendar-few t.args.calendar.now n e).0 in omega arith
-
 -- any dossiers
 all-passes : (planning : List ℕ) → HoldsPasses planning (most_passes * pass_wide)
 all-passes planning n e = let f = (planning-few planning n e).1 in omega arith
@@ -34,7 +27,9 @@ slice_bounds-open_by-end-then-planning-calendar c = sym (length-replicate {A = �
 
 pub open_by-requires : goal.open_by-requires
 open_by-requires c =
-    record { holds_passes = (λ n e. made-room (n * pass_wide) (few_passes * pass_wide) (small-passes c.before.before.before.before n e)); holds_validities = (λ n e. made-room (n * validity_wide) (few_validities * validity_wide) (small-validities c.before.before.before.before n e)) }
+    let small-passes : HoldsPasses c.args.planning.now (few_passes * pass_wide) = λ n e. let h = (both-within (length c.args.planning.now) _ (length c.args.calendar.now) _ c.if-planning-calendar.true).0 in let f = (planning-few c.args.planning.now n e).0 in omega arith in
+    let small-validities : HoldsValidities c.args.calendar.now (few_validities * validity_wide) = λ n e. let h = (both-within (length c.args.planning.now) _ (length c.args.calendar.now) _ c.if-planning-calendar.true).1 in let f = (calendar-few c.args.calendar.now n e).0 in omega arith in
+    record { holds_passes = (λ n e. made-room (n * pass_wide) (few_passes * pass_wide) (small-passes n e)); holds_validities = (λ n e. made-room (n * validity_wide) (few_validities * validity_wide) (small-validities n e)) }
 
 pub shape_of-book-then-planning-calendar : goal.shape_of-book-then-planning-calendar
 shape_of-book-then-planning-calendar c = c.open_by.auto.1.1.1.1.0

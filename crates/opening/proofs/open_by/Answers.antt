@@ -19,22 +19,20 @@ use Rattle.opening.proofs.open_by.Goals as goal
 goes : (p : goal.After-passed) (x : Next) → p.passed.result ≡ x → passed_of 1 (reading_of Tables.Planning [] 0 p.args.planning.now) ≡ x
 goes p x e = sym (p.passed.ensures ∙ ap (passed_of 1) p.read_planning-reading.ensures.answer) ∙ e
 
-rows : (n : goal.In-On-2) → reading_of Tables.Planning [] 0 n.args.planning.now ≡ Rows n.in-On.times
-rows n = passed_on 1 _ _ (goes n.before.before _ n.in-On.is)
-
-fits : (n : goal.In-On-2) → n.in-On.times * pass_wide ≤ length n.args.passes.now
-fits n = n.requires.holds_passes _ (rows n)
-
 pub read_and_join-requires : goal.read_and_join-requires
 read_and_join-requires c =
+    let rows : reading_of Tables.Planning [] 0 c.args.planning.now ≡ Rows c.in-On.times = passed_on 1 _ _ (goes c.before.before _ c.in-On.is) in
+    let fits : c.in-On.times * pass_wide ≤ length c.args.passes.now = c.requires.holds_passes _ rows in
     let r = c.read_planning-reading in
-    record { pass_wide_in_bounds = (room_for _ (length c.args.passes.now) r.last.1.0 r.kept.1.0 (fits c.before.before.before.before), (planning-few c.args.planning.now _ (rows c.before.before.before.before)).1); holds_validities = c.requires.holds_validities }
+    record { pass_wide_in_bounds = (room_for _ (length c.args.passes.now) r.last.1.0 r.kept.1.0 fits, (planning-few c.args.planning.now _ rows).1); holds_validities = c.requires.holds_validities }
 
 pub returns-in-On : goal.returns-in-On
 returns-in-On c =
+    let rows : reading_of Tables.Planning [] 0 c.args.planning.now ≡ Rows c.in-On.times = passed_on 1 _ _ (goes c.before.before _ c.in-On.is) in
+    let fits : c.in-On.times * pass_wide ≤ length c.args.passes.now = c.requires.holds_passes _ rows in
     let r = c.read_planning-reading in
     let a = c.args in
-    planning-taken a.planning.now a.calendar.now a.book.now a.table.now a.counts c.read_and_join.result c.read_and_join.new.book c.read_and_join.new.table a.passes.now r.last.1.0 c.in-On.times (rows c.before.before.before.before.before.before.before.before.before.before.before) r.ensures.1.0 (fits c.before.before.before.before.before.before.before.before.before.before.before) c.read_and_join.ensures
+    planning-taken a.planning.now a.calendar.now a.book.now a.table.now a.counts c.read_and_join.result c.read_and_join.new.book c.read_and_join.new.table a.passes.now r.last.1.0 c.in-On.times rows r.ensures.1.0 fits c.read_and_join.ensures
 
 pub returns-in-Off : goal.returns-in-Off
 returns-in-Off c =

@@ -17,69 +17,65 @@ use Rattle.opening_write.proofs.SortLaws.{js, distinct-count, places-each, plan-
 use Rattle.opening_write.proofs.StageLaws.{refused-with, accepted-with, key_twice, table-short, accepted}
 use Rattle.opening_write.proofs.sort_and_write.Goals as goal
 
--- the book has room for at most so many
-few : (s : goal.Start) → s.args.count ≤ most_plans
-few s = let m = (room_within s.args.book.now).1 in omega arith
-
 pub sort_keys-distinct-requires : goal.sort_keys-distinct-requires
-sort_keys-distinct-requires c = let f = few c.before.before.before.before in (omega arith, c.requires.0, f, omega arith)
-
-abbrev bodies : goal.Start → List (List ℕ)
-bodies s = rows_of body_wide s.args.count s.args.bodies.now
-
-counted : (s : goal.Start) → length (bodies s) ≡ s.args.count
-counted s = length-rows_of body_wide s.args.count s.args.bodies.now
-
-fits : (s : goal.Start) → length (bodies s) * plan_wide ≤ book_room s.args.book.now
-fits s = rw (counted s) s.requires.1
-
--- how many keys there are
-distinct : (o : goal.After-order-2-1) → o.sort_keys-distinct.result ≡ length (put_all (bodies o.before.before.before.before.before.before) [])
-distinct o = o.sort_keys-distinct.ensures.value ∙ distinct-count o.args.bodies.now o.args.count
-
-all : (e : goal.Else-distinct-count) → length (put_all (bodies e.before.before.before.before.before.before.before.before) []) ≡ length (bodies e.before.before.before.before.before.before.before.before)
-all e = sym (distinct e.before.before) ∙ e.if-distinct-count.false ∙ sym (counted e.before.before.before.before.before.before.before.before)
-
-all-places : (e : goal.Else-distinct-count) → length (js e.args.bodies.now e.args.count) ≡ e.args.count
-all-places e = sym e.sort_keys-distinct.ensures.value ∙ e.if-distinct-count.false
+sort_keys-distinct-requires c =
+    let few : c.args.count ≤ most_plans = let m = (room_within c.args.book.now).1 in omega arith in
+    let f = few in (omega arith, c.requires.0, f, omega arith)
 
 pub returns-then-distinct-count : goal.returns-then-distinct-count
 returns-then-distinct-count c =
+    let bodies : List (List ℕ) = rows_of body_wide c.args.count c.args.bodies.now in
+    let counted : length bodies ≡ c.args.count = length-rows_of body_wide c.args.count c.args.bodies.now in
+    let fits : length bodies * plan_wide ≤ book_room c.args.book.now = rw counted c.requires.1 in
+    let distinct : c.sort_keys-distinct.result ≡ length (put_all bodies []) = c.sort_keys-distinct.ensures.value ∙ distinct-count c.args.bodies.now c.args.count in
     let a = c.args in
     let d : c.sort_keys-distinct.result ≡ a.count → ⊥ = c.if-distinct-count.true in
-    refused-with (bodies c.before.before.before.before.before.before.before.before.before) a.book.now a.table.now a.counts KeyTwice _ refl
-    (key_twice (bodies c.before.before.before.before.before.before.before.before.before) a.book.now a.table.now a.counts (fits c.before.before.before.before.before.before.before.before.before) (λ e. d (distinct c.before.before.before ∙ e ∙ counted c.before.before.before.before.before.before.before.before.before))) c.unchanged.result c.unchanged.ensures
+    refused-with bodies a.book.now a.table.now a.counts KeyTwice _ refl
+    (key_twice bodies a.book.now a.table.now a.counts fits (λ e. d (distinct ∙ e ∙ counted))) c.unchanged.result c.unchanged.ensures
 
 pub returns-then-room-count : goal.returns-then-room-count
 returns-then-room-count c =
+    let bodies : List (List ℕ) = rows_of body_wide c.args.count c.args.bodies.now in
+    let counted : length bodies ≡ c.args.count = length-rows_of body_wide c.args.count c.args.bodies.now in
+    let fits : length bodies * plan_wide ≤ book_room c.args.book.now = rw counted c.requires.1 in
+    let distinct : c.sort_keys-distinct.result ≡ length (put_all bodies []) = c.sort_keys-distinct.ensures.value ∙ distinct-count c.args.bodies.now c.args.count in
+    let all : length (put_all bodies []) ≡ length bodies = sym distinct ∙ c.if-distinct-count.false ∙ sym counted in
     let a = c.args in
-    let k = counted c.before.before.before.before.before.before.before.before.before.before in
-    let m = c.rows_room-room.ensures in
-    refused-with (bodies c.before.before.before.before.before.before.before.before.before.before) a.book.now a.table.now a.counts TableShort _ refl
-    (table-short (bodies c.before.before.before.before.before.before.before.before.before.before) a.book.now a.table.now a.counts (fits c.before.before.before.before.before.before.before.before.before.before) (all c.before.before) (omega arith)) c.unchanged-then-room-count.result c.unchanged-then-room-count.ensures
+    let k = counted in
+    refused-with bodies a.book.now a.table.now a.counts TableShort _ refl
+    (table-short bodies a.book.now a.table.now a.counts fits all (omega arith)) c.unchanged-then-room-count.result c.unchanged-then-room-count.ensures
 
 pub write_plan-requires : goal.write_plan-requires
 write_plan-requires c =
+    let few : c.args.count ≤ most_plans = let m = (room_within c.args.book.now).1 in omega arith in
+    let all-places : length (js c.args.bodies.now c.args.count) ≡ c.args.count = sym c.sort_keys-distinct.ensures.value ∙ c.if-distinct-count.false in
     let k = c.sort_keys-distinct in
     let l = k.kept.1.1.1.1.0 in
-    let f = few c.before.before.before.before.before.before.before.before.before.before.before in
+    let f = few in
     let m = (room_within c.args.book.now).0 in
-    record { plan_wide_in_bounds = (omega arith, c.requires.0, omega arith); each = places-each c.args.bodies.now c.args.count (all-places c.before.before.before) _ _ k.ensures.1 f }
+    record { plan_wide_in_bounds = (omega arith, c.requires.0, omega arith); each = places-each c.args.bodies.now c.args.count all-places _ _ k.ensures.1 f }
 
 pub write_rows-requires : goal.write_rows-requires
 write_rows-requires c =
+    let few : c.args.count ≤ most_plans = let m = (room_within c.args.book.now).1 in omega arith in
+    let all-places : length (js c.args.bodies.now c.args.count) ≡ c.args.count = sym c.sort_keys-distinct.ensures.value ∙ c.if-distinct-count.false in
     let k = c.sort_keys-distinct in
     let l = k.kept.1.1.1.1.0 in
-    let f = few c.before.before.before.before.before.before.before.before.before.before.before.before.before.before.before.before in
+    let f = few in
     let m = room_fits c.args.table.now in
-    let r = c.rows_room-room.ensures in
-    record { row_wide_in_bounds = (omega arith, c.requires.0, omega arith); each = places-each c.args.bodies.now c.args.count (all-places c.before.before.before.before.before.before.before.before) _ _ k.ensures.1 f }
+    record { row_wide_in_bounds = (omega arith, c.requires.0, omega arith); each = places-each c.args.bodies.now c.args.count all-places _ _ k.ensures.1 f }
 
 pub returns : goal.returns
 returns c =
+    let few : c.args.count ≤ most_plans = let m = (room_within c.args.book.now).1 in omega arith in
+    let bodies : List (List ℕ) = rows_of body_wide c.args.count c.args.bodies.now in
+    let counted : length bodies ≡ c.args.count = length-rows_of body_wide c.args.count c.args.bodies.now in
+    let fits : length bodies * plan_wide ≤ book_room c.args.book.now = rw counted c.requires.1 in
+    let distinct : c.sort_keys-distinct.result ≡ length (put_all bodies []) = c.sort_keys-distinct.ensures.value ∙ distinct-count c.args.bodies.now c.args.count in
+    let all : length (put_all bodies []) ≡ length bodies = sym distinct ∙ c.if-distinct-count.false ∙ sym counted in
+    let all-places : length (js c.args.bodies.now c.args.count) ≡ c.args.count = sym c.sort_keys-distinct.ensures.value ∙ c.if-distinct-count.false in
     let a = c.args in
-    let k = counted c.before.before.before.before.before.before.before.before.before.before.before.before.before.before.before.before.before.before.before.before in
-    let r = c.rows_room-room.ensures in
-    accepted-with (bodies c.before.before.before.before.before.before.before.before.before.before.before.before.before.before.before.before.before.before.before.before) a.book.now a.table.now a.counts _ a.count _ c.accepted.result c.write_plan.new.tail c.write_rows.new.table
-    (accepted (bodies c.before.before.before.before.before.before.before.before.before.before.before.before.before.before.before.before.before.before.before.before) a.book.now a.table.now a.counts (fits c.before.before.before.before.before.before.before.before.before.before.before.before.before.before.before.before.before.before.before.before) (all c.before.before.before.before.before.before.before.before.before.before.before.before) (omega arith)) (all c.before.before.before.before.before.before.before.before.before.before.before.before ∙ k)
-    (plan-read a.bodies.now a.count (all-places c.before.before.before.before.before.before.before.before.before.before.before.before) _ _ c.sort_keys-distinct.ensures.order_after (few c.before.before.before.before.before.before.before.before.before.before.before.before.before.before.before.before.before.before.before.before)) c.accepted.ensures c.write_plan.ensures c.write_rows.ensures
+    let k = counted in
+    accepted-with bodies a.book.now a.table.now a.counts _ a.count _ c.accepted.result c.write_plan.new.tail c.write_rows.new.table
+    (accepted bodies a.book.now a.table.now a.counts fits all (omega arith)) (all ∙ k)
+    (plan-read a.bodies.now a.count all-places _ _ c.sort_keys-distinct.ensures.order_after few) c.accepted.ensures c.write_plan.ensures c.write_rows.ensures

@@ -10,4 +10,4 @@ pub returns-in-Open : goal.returns-in-Open
 returns-in-Open c = record { ahead = c.pass_start.ensures.ahead; leads = rw c.in-Open.is c.pass_start.ensures.leads }
 
 pub returns-in_default : goal.returns-in_default
-returns-in_default c = let t = c.pass_byte.ensures in record { ahead = t.0; leads = t.1 }
+returns-in_default c = c.pass_byte.ensures

@@ -9,4 +9,4 @@ pub returns-else-bytes-i-eq92 : goal.returns-else-bytes-i-eq92
 returns-else-bytes-i-eq92 c = record { ahead = c.pass_text.ensures.ahead; leads = rw c.in-Rows.is (start-alike c.args.bytes.now c.args.i c.requires c.if-bytes-i-eq92.false ∙ c.pass_text.ensures.leads) }
 
 pub returns-in_default : goal.returns-in_default
-returns-in_default c = let t = c.pass_byte-in_default.ensures in record { ahead = t.0; leads = t.1 }
+returns-in_default c = c.pass_byte-in_default.ensures

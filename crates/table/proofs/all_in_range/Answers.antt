@@ -17,30 +17,29 @@ loop-i-init c =
     let s = c.args in
     (search rules, ap all_in_range (rest-start s.count s.table.now), sym (common-start row_wide 0 s.count 0 s.table.now) ∙ c.requires.table_value)
 
--- what is common is in range in the row, and in those behind it
-common : (c : goal.In-loop-i) → let s = c.args in let i = c.loop-i.i in (common_in_range (part (0 + i * row_wide + 0) body_wide s.table.now) ≡ true) × (all_common (left row_wide 0 s.count 0 s.table.now (i + 1)) ≡ true)
-common c =
-    let s = c.args in
-    common-now row_wide 0 s.count 0 s.table.now c.loop-i.i c.loop-i-test.true (omega arith) c.loop-i.invariant.2
-
 pub row_in_range-good-requires : goal.row_in_range-good-requires
 row_in_range-good-requires c =
+    let common : let s = c.args in let i = c.loop-i.i in (common_in_range (part (0 + i * row_wide + 0) body_wide s.table.now) ≡ true) × (all_common (left row_wide 0 s.count 0 s.table.now (i + 1)) ≡ true) = let s = c.args in
+    common-now row_wide 0 s.count 0 s.table.now c.loop-i.i c.loop-i-test.true (omega arith) c.loop-i.invariant.2 in
     let i = c.loop-i.i in
     let e : 0 + i * row_wide + 0 ≡ i * row_wide = omega arith in
-    (search rules, rw e at (common c).0)
-
--- in a turn: the row decides, or else the rest
-step : (c : goal.After-row_in_range-good) → let s = c.args in all_in_range (rows s.count s.table.now) ≡ (c.row_in_range-good.result && all_in_range (rest s.count s.table.now (c.loop-i.i + 1)))
-step c =
-    let s = c.args in
-    let i = c.loop-i.i in
-    c.loop-i.invariant.1 ∙ range-step s.count s.table.now i c.loop-i-test.true ∙ rw (← c.row_in_range-good.ensures)
+    (search rules, rw e at common.0)
 
 pub loop-i-preserved : goal.loop-i-preserved
-loop-i-preserved c = (omega arith, step c.before ∙ rw c.if-good.true, (common c.before.before).1)
+loop-i-preserved c =
+    let common : let s = c.args in let i = c.loop-i.i in (common_in_range (part (0 + i * row_wide + 0) body_wide s.table.now) ≡ true) × (all_common (left row_wide 0 s.count 0 s.table.now (i + 1)) ≡ true) = let s = c.args in
+    common-now row_wide 0 s.count 0 s.table.now c.loop-i.i c.loop-i-test.true (omega arith) c.loop-i.invariant.2 in
+    let step : let s = c.args in all_in_range (rows s.count s.table.now) ≡ (c.row_in_range-good.result && all_in_range (rest s.count s.table.now (c.loop-i.i + 1))) = let s = c.args in
+    let i = c.loop-i.i in
+    c.loop-i.invariant.1 ∙ range-step s.count s.table.now i c.loop-i-test.true ∙ rw (← c.row_in_range-good.ensures) in
+    (omega arith, step ∙ rw c.if-good.true, common.1)
 
 pub returns-else-good : goal.returns-else-good
-returns-else-good c = rw (step c.before, c.if-good.false)
+returns-else-good c =
+    let step : let s = c.args in all_in_range (rows s.count s.table.now) ≡ (c.row_in_range-good.result && all_in_range (rest s.count s.table.now (c.loop-i.i + 1))) = let s = c.args in
+    let i = c.loop-i.i in
+    c.loop-i.invariant.1 ∙ range-step s.count s.table.now i c.loop-i-test.true ∙ rw (← c.row_in_range-good.ensures) in
+    rw (step, c.if-good.false)
 
 pub returns : goal.returns
 returns c =

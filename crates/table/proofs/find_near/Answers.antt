@@ -15,45 +15,43 @@ pub loop-low-init : goal.loop-low-init
 loop-low-init c =
     (omega arith, omega arith, omega arith, seek-rows c.args.count c.args.table.now (part c.args.from key_wide c.args.key.now) c.requires.table_value)
 
-abbrev low : goal.After-compare_key-o → ℕ
-low c = c.loop-low.low
-
-abbrev high : goal.After-compare_key-o → ℕ
-high c = c.loop-low.high
-
-abbrev look : goal.After-compare_key-o → ℕ
-look c = c.probe-look.result
-
-abbrev key : goal.After-compare_key-o → List ℕ
-key c = part c.args.from key_wide c.args.key.now
-
--- the comparison was with the key of the row looked at
-compared : (c : goal.After-compare_key-o) → cmp (key_of (get_or (rows c.args.count c.args.table.now) (look c) [])) (key c) ≡ c.compare_key-o.result
-compared c =
-    let s = c.args in
-    let h = c.loop-low.invariant.0 in
-    let e = c.probe-look.ensures in
-    rw (key-at s.count (look c) s.table.now (omega arith)) (sym c.compare_key-o.ensures)
-
 pub loop-low-preserved-in-Less : goal.loop-low-preserved-in-Less
 loop-low-preserved-in-Less c =
+    let low : ℕ = c.loop-low.low in
+    let high : ℕ = c.loop-low.high in
+    let look : ℕ = c.probe-look.result in
+    let key : List ℕ = part c.args.from key_wide c.args.key.now in
+    let compared : cmp (key_of (get_or (rows c.args.count c.args.table.now) look [])) key ≡ c.compare_key-o.result = let s = c.args in
+    rw (key-at s.count look s.table.now (omega arith)) (sym c.compare_key-o.ensures) in
     let s = c.args in
     let i = c.loop-low.invariant in
     let e = c.probe-look.ensures in
-    (i.0, i.2, omega arith, seek-up (rows s.count s.table.now) (key c.before.before) (low c.before.before) (look c.before.before) (high c.before.before) i.3 e.0 e.1 (compared c.before.before ∙ c.in-Less.is))
+    (i.0, i.2, omega arith, seek-up (rows s.count s.table.now) key low look high i.3 e.0 e.1 (compared ∙ c.in-Less.is))
 
 pub returns-in-Same : goal.returns-in-Same
 returns-in-Same c =
+    let low : ℕ = c.loop-low.low in
+    let high : ℕ = c.loop-low.high in
+    let look : ℕ = c.probe-look.result in
+    let key : List ℕ = part c.args.from key_wide c.args.key.now in
+    let compared : cmp (key_of (get_or (rows c.args.count c.args.table.now) look [])) key ≡ c.compare_key-o.result = let s = c.args in
+    rw (key-at s.count look s.table.now (omega arith)) (sym c.compare_key-o.ensures) in
     let s = c.args in
     let e = c.probe-look.ensures in
-    seek-here (rows s.count s.table.now) (key c.before.before) (low c.before.before) (look c.before.before) (high c.before.before) c.loop-low.invariant.3 e.0 e.1 (compared c.before.before ∙ c.in-Same.is)
+    seek-here (rows s.count s.table.now) key low look high c.loop-low.invariant.3 e.0 e.1 (compared ∙ c.in-Same.is)
 
 pub loop-low-preserved : goal.loop-low-preserved
 loop-low-preserved c =
+    let low : ℕ = c.loop-low.low in
+    let high : ℕ = c.loop-low.high in
+    let look : ℕ = c.probe-look.result in
+    let key : List ℕ = part c.args.from key_wide c.args.key.now in
+    let compared : cmp (key_of (get_or (rows c.args.count c.args.table.now) look [])) key ≡ c.compare_key-o.result = let s = c.args in
+    rw (key-at s.count look s.table.now (omega arith)) (sym c.compare_key-o.ensures) in
     let s = c.args in
     let i = c.loop-low.invariant in
     let e = c.probe-look.ensures in
-    (omega arith, i.1, i.2, seek-down (rows s.count s.table.now) (key c.before.before) (low c.before.before) (look c.before.before) (high c.before.before) i.3 e.0 e.1 (compared c.before.before ∙ c.in-More.is))
+    (omega arith, i.1, i.2, seek-down (rows s.count s.table.now) key low look high i.3 e.0 e.1 (compared ∙ c.in-More.is))
 
 pub returns : goal.returns
 returns c =

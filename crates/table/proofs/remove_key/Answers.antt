@@ -13,29 +13,30 @@ use Rattle.keys.proofs.PutLaws.{remove-at, found_below}
 use Rattle.table.specs.Rules.{rows}
 use Rattle.table.proofs.remove_key.Goals as goal
 
-abbrev key : goal.Start → List ℕ
-key s = part s.args.from key_wide s.args.key.now
-
--- what find gave
-found : (c : goal.In-At-2) → lookup (key c.before.before.before.before.before) (rows c.args.count c.args.table.now) ≡ At c.in-At.i
-found c = sym c.find-f.ensures ∙ c.in-At.is
-
-below : (c : goal.In-At-2) → c.in-At.i < c.args.count
-below c =
-    found_below row_wide c.args.count _ (key c.before.before.before.before.before) c.args.table.now (found c)
-
 pub remove_row-requires : goal.remove_row-requires
-remove_row-requires c = (below c.before.before, c.requires.row_wide_in_bounds.0)
+remove_row-requires c =
+    let key : List ℕ = part c.args.from key_wide c.args.key.now in
+    let found : lookup (key c) (rows c.args.count c.args.table.now) ≡ At c.in-At.i = sym c.find-f.ensures ∙ c.in-At.is in
+    let below : c.in-At.i < c.args.count = found_below row_wide c.args.count _ key c.args.table.now found in
+    (below, c.requires.row_wide_in_bounds.0)
 
 pub overflow_sub-result : goal.overflow_sub-result
-overflow_sub-result c = omega (arith, below c.before.before.before.before.before)
+overflow_sub-result c =
+    let key : List ℕ = part c.args.from key_wide c.args.key.now in
+    let found : lookup (key c) (rows c.args.count c.args.table.now) ≡ At c.in-At.i = sym c.find-f.ensures ∙ c.in-At.is in
+    let below : c.in-At.i < c.args.count = found_below row_wide c.args.count _ key c.args.table.now found in
+    omega (arith, below)
 
 pub returns-in-At : goal.returns-in-At
 returns-in-At c =
-    let e = remove-at (key c.before.before.before.before.before.before.before.before.before.before) (rows c.args.count c.args.table.now) _ (found c.before.before.before.before.before) in
-    record { value = rw e (sym (length-remove_at row_wide c.args.count _ c.args.table.now c.requires.row_wide_in_bounds.0 (below c.before.before.before.before.before))); table_after = rw e c.remove_row.ensures }
+    let key : List ℕ = part c.args.from key_wide c.args.key.now in
+    let found : lookup (key c) (rows c.args.count c.args.table.now) ≡ At c.in-At.i = sym c.find-f.ensures ∙ c.in-At.is in
+    let below : c.in-At.i < c.args.count = found_below row_wide c.args.count _ key c.args.table.now found in
+    let e = remove-at key (rows c.args.count c.args.table.now) _ found in
+    record { value = rw e (sym (length-remove_at row_wide c.args.count _ c.args.table.now c.requires.row_wide_in_bounds.0 below)); table_after = rw e c.remove_row.ensures }
 
 pub returns-in-Missing : goal.returns-in-Missing
 returns-in-Missing c =
-    let e = remove-at (key c.before.before.before.before.before) (rows c.args.count c.args.table.now) _ (sym c.find-f.ensures ∙ c.in-Missing.is) in
+    let key : List ℕ = part c.args.from key_wide c.args.key.now in
+    let e = remove-at key (rows c.args.count c.args.table.now) _ (sym c.find-f.ensures ∙ c.in-Missing.is) in
     record { value = rw (e, length-rows_of); table_after = rw (e, store_same) }

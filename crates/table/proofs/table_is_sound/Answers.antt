@@ -8,38 +8,40 @@ use Rattle.table.proofs.table_is_sound.Goals as goal
 pub returns-then-most-count : goal.returns-then-most-count
 returns-then-most-count c = sound-over c.args.count c.args.table.now (rw (← c.rows_room-most.ensures) c.if-most-count.true)
 
--- there is room for n rows
-within : (c : goal.Else-most-count) → c.args.count ≤ table_room c.args.table.now
-within c = rw (← c.rows_room-most.ensures) c.if-most-count.false
-
 pub all_common-common-requires : goal.all_common-common-requires
 all_common-common-requires c =
-    let h = room-holds c.args.count c.args.table.now (within c) in
+    let within : c.args.count ≤ table_room c.args.table.now = rw (← c.rows_room-most.ensures) c.if-most-count.false in
+    let h = room-holds c.args.count c.args.table.now within in
     (omega arith, omega arith)
 
 pub all_in_range-good-requires : goal.all_in_range-good-requires
 all_in_range-good-requires c =
+    let within : c.args.count ≤ table_room c.args.table.now = rw (← c.rows_room-most.ensures) c.if-most-count.false in
     let s = c.args in
-    (room-holds s.count s.table.now (within c.before.before), sym c.all_common-common.ensures ∙ c.if-common.true)
+    (room-holds s.count s.table.now within, sym c.all_common-common.ensures ∙ c.if-common.true)
 
 pub keys_rise-requires : goal.keys_rise-requires
 keys_rise-requires c =
+    let within : c.args.count ≤ table_room c.args.table.now = rw (← c.rows_room-most.ensures) c.if-most-count.false in
     let s = c.args in
-    (room-holds s.count s.table.now (within c.before.before.before.before), omega arith)
+    (room-holds s.count s.table.now within, omega arith)
 
 pub returns-then-good : goal.returns-then-good
 returns-then-good c =
+    let within : c.args.count ≤ table_room c.args.table.now = rw (← c.rows_room-most.ensures) c.if-most-count.false in
     let s = c.args in
     c.keys_rise.ensures
     ∙ rows-rise (rows s.count s.table.now)
-    ∙ sym (sym (sound-room s.count s.table.now (within c.before.before.before.before.before)) ∙ rw (sym c.all_in_range-good.ensures ∙ c.if-good.true))
+    ∙ sym (sym (sound-room s.count s.table.now within) ∙ rw (sym c.all_in_range-good.ensures ∙ c.if-good.true))
 
 pub returns-else-good : goal.returns-else-good
 returns-else-good c =
+    let within : c.args.count ≤ table_room c.args.table.now = rw (← c.rows_room-most.ensures) c.if-most-count.false in
     let s = c.args in
-    sym (sym (sound-room s.count s.table.now (within c.before.before.before.before)) ∙ rw (sym c.all_in_range-good.ensures ∙ c.if-good.false))
+    sym (sym (sound-room s.count s.table.now within) ∙ rw (sym c.all_in_range-good.ensures ∙ c.if-good.false))
 
 pub returns-else-common : goal.returns-else-common
 returns-else-common c =
+    let within : c.args.count ≤ table_room c.args.table.now = rw (← c.rows_room-most.ensures) c.if-most-count.false in
     let s = c.args in
-    sym (sym (sound-room s.count s.table.now (within c.before.before)) ∙ rw (range_none (rows s.count s.table.now) (sym c.all_common-common.ensures ∙ c.if-common.false)))
+    sym (sym (sound-room s.count s.table.now within) ∙ rw (range_none (rows s.count s.table.now) (sym c.all_common-common.ensures ∙ c.if-common.false)))

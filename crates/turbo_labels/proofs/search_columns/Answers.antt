@@ -24,8 +24,8 @@ columns-init c = (c.names.invariant.0, refl, omega arith, refl, sym (tail-zero _
 pub size_at-n-requires : goal.size_at-n-requires
 size_at-n-requires c = λ h. c.requires.1 c.columns.k h ∙ ap (λ (x : List ℕ). length (until 124 x)) (sym c.columns.invariant.4)
 
-slice-aggregate-same-bytes : goal.slice_bounds-same_bytes-end
-slice-aggregate-same-bytes c = sym (length-take-le _ _ c.before.size-at.ensures.1)
+pub slice_bounds-same_bytes-end : goal.slice_bounds-same_bytes-end
+slice_bounds-same_bytes-end c = sym (length-take-le _ _ c.size_at-n.ensures.within)
 
 pub overflow_add-k : goal.overflow_add-k
 overflow_add-k c = omega (arith, c.columns.invariant.2, c.well_formed)
@@ -37,7 +37,7 @@ pub columns-smaller : goal.columns-smaller
 columns-smaller c = let l = c.columns.l.now in let n = c.size_at-n.result in omega (arith, tail-length (n + 1) l, c.if-n-l.false, c.size_at-n.ensures.within)
 
 pub columns-preserved : goal.columns-preserved
-columns-preserved c = let k = c.columns in let f = c.size_at-n in let u = c.find-at in let w = c.names in let z = c.count_fields-none.ensures in (k.invariant.0, k.invariant.1, omega (arith, tail-length (f.result + 1) k.l.now, k.invariant.2, c.if-n-l.false, f.ensures.within), sym (column-next c.count_fields-none.result k.first k.k (take u.result w.w.now) k.l.now f.result f.ensures.is c.in-First.p (omega (arith, c.if-n-l.false, f.ensures.within)) (sym (ap (λ (t : Bool). seen_after c.count_fields-none.result k.first k.k t) c.same_bytes-hit.ensures) ∙ sym c.note.ensures ∙ c.in-First.is)) ∙ k.invariant.3, tail-labels c.args.labels.now k.l.now k.k f.result k.invariant.4 f.ensures.is)
+columns-preserved c = let k = c.columns in let f = c.size_at-n in let u = c.find-at in let w = c.names in (k.invariant.0, k.invariant.1, omega (arith, tail-length (f.result + 1) k.l.now, k.invariant.2, c.if-n-l.false, f.ensures.within), sym (column-next c.count_fields-none.result k.first k.k (take u.result w.w.now) k.l.now f.result f.ensures.is c.in-First.p (omega (arith, c.if-n-l.false, f.ensures.within)) (sym (ap (λ (t : Bool). seen_after c.count_fields-none.result k.first k.k t) c.same_bytes-hit.ensures) ∙ sym c.note.ensures ∙ c.in-First.is)) ∙ k.invariant.3, tail-labels c.args.labels.now k.l.now k.k f.result k.invariant.4 f.ensures.is)
 
 pub bounds-places-i : goal.bounds-places-i
 bounds-places-i c = let w = c.names in omega (arith, w.invariant.2, fields-some w.w.now)

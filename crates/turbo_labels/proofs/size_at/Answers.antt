@@ -9,4 +9,4 @@ returns-then-k-sizes c =
     record { is = e; within = omega (arith, e, until-le 124 c.args.l.now) }
 
 pub returns : goal.returns
-returns c = let t = c.find.ensures in record { is = t.0; within = t.1 }
+returns c = c.find.ensures

@@ -24,6 +24,7 @@ pub loop-rest-preserved : goal.loop-rest-preserved
 loop-rest-preserved c = let k = c.loop-rest in (
   omega (arith, ap length c.read_line-next.ensures.tail, after-line-shorter k.rest.now c.loop-rest-test.true, k.invariant.0),
   k.invariant.1 ∙ (bytes-short k.rest.now c.loop-rest-test.true c.read_line-next.new.size c.read_line-next.ensures.size k.line c.read_line-next.result.now c.if-size-gt4094.false c.read_line-next.ensures.tail).0 ∙ ap (λ (n : ℕ). first_long n (lines c.read_line-next.result.now)) (sym (add-one k.line)),
+)
 
 pub returns : goal.returns
 returns c = sym (c.loop-rest.invariant.1 ∙ (bytes-none c.loop-rest.rest.now c.loop-rest.line c.loop-rest-test.false).0)

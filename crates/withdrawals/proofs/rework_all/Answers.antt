@@ -7,6 +7,4 @@ pub rework_in-requires : goal.rework_in-requires
 rework_in-requires c =
     let a = c.args in
     let k = few a.counts.used a.at a.count a.book.now (sound-parts a.book.now a.table.now a.counts c.requires.counts_value).0 c.requires.message_at.within in
-    let order = c.rework_in-arg-3-1.given in
-    let slots = c.rework_in-arg-4-1.given in
     record { counts_value = c.requires.counts_value; message_at = c.requires.message_at; count_in_bounds = (omega arith, omega arith) }

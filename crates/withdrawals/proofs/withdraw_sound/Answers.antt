@@ -22,33 +22,45 @@ count_plans-requires c =
     let a = c.args in
     (used-within a.counts.used a.book.now (sound-facts a.counts.used a.book.now (sound-parts a.book.now a.table.now a.counts c.requires).0)).0
 
--- the message stands from there on
-found : (c : goal.After-count_plans) → let a = c.args in MessageAt a.number a.counts.used a.book.now (c.count_plans.result * plan_wide + c.in-At.i * entry_wide) c.in-At.count
-found c =
-    let a = c.args in
-    let sound = (sound-parts a.book.now a.table.now a.counts c.requires).0 in
-    let h = c.h-1.given in
-    rw c.count_plans.ensures (stands a.number a.counts.used a.book.now sound h.0.0 h.0.1.0 (sym c.find_message-h.ensures ∙ h.1))
-
--- so its place is a number that fits
-fits : (c : goal.After-count_plans) → c.count_plans.result * plan_wide + c.in-At.i * entry_wide ≤ length c.args.book.now
-fits c =
-    let a = c.args in
-    let u = (used-within a.counts.used a.book.now (sound-facts a.counts.used a.book.now (sound-parts a.book.now a.table.now a.counts c.requires).0)).0 in
-    let w = (found c).within in
-    omega arith
-
 pub overflow_mul-at : goal.overflow_mul-at
-overflow_mul-at c = omega (arith, fits c)
+overflow_mul-at c =
+    let found : let a = c.args in MessageAt a.number a.counts.used a.book.now (c.count_plans.result * plan_wide + c.in-At.i * entry_wide) c.in-At.count = let a = c.args in
+    let sound = (sound-parts a.book.now a.table.now a.counts c.requires).0 in
+    rw c.count_plans.ensures (stands a.number a.counts.used a.book.now sound c.in-At.i c.in-At.count (sym c.find_message-h.ensures ∙ c.in-At.is)) in
+    let fits : c.count_plans.result * plan_wide + c.in-At.i * entry_wide ≤ length c.args.book.now = let a = c.args in
+    let u = (used-within a.counts.used a.book.now (sound-facts a.counts.used a.book.now (sound-parts a.book.now a.table.now a.counts c.requires).0)).0 in
+    let w = found.within in
+    omega arith in
+    omega (arith, fits)
 
 pub overflow_mul-at-in-At : goal.overflow_mul-at-in-At
-overflow_mul-at-in-At c = omega (arith, fits c)
+overflow_mul-at-in-At c =
+    let found : let a = c.args in MessageAt a.number a.counts.used a.book.now (c.count_plans.result * plan_wide + c.in-At.i * entry_wide) c.in-At.count = let a = c.args in
+    let sound = (sound-parts a.book.now a.table.now a.counts c.requires).0 in
+    rw c.count_plans.ensures (stands a.number a.counts.used a.book.now sound c.in-At.i c.in-At.count (sym c.find_message-h.ensures ∙ c.in-At.is)) in
+    let fits : c.count_plans.result * plan_wide + c.in-At.i * entry_wide ≤ length c.args.book.now = let a = c.args in
+    let u = (used-within a.counts.used a.book.now (sound-facts a.counts.used a.book.now (sound-parts a.book.now a.table.now a.counts c.requires).0)).0 in
+    let w = found.within in
+    omega arith in
+    omega (arith, fits)
 
 pub overflow_add-at : goal.overflow_add-at
-overflow_add-at c = omega (arith, fits c)
+overflow_add-at c =
+    let found : let a = c.args in MessageAt a.number a.counts.used a.book.now (c.count_plans.result * plan_wide + c.in-At.i * entry_wide) c.in-At.count = let a = c.args in
+    let sound = (sound-parts a.book.now a.table.now a.counts c.requires).0 in
+    rw c.count_plans.ensures (stands a.number a.counts.used a.book.now sound c.in-At.i c.in-At.count (sym c.find_message-h.ensures ∙ c.in-At.is)) in
+    let fits : c.count_plans.result * plan_wide + c.in-At.i * entry_wide ≤ length c.args.book.now = let a = c.args in
+    let u = (used-within a.counts.used a.book.now (sound-facts a.counts.used a.book.now (sound-parts a.book.now a.table.now a.counts c.requires).0)).0 in
+    let w = found.within in
+    omega arith in
+    omega (arith, fits)
 
 pub withdraw_found-requires : goal.withdraw_found-requires
-withdraw_found-requires c = record { counts_value = c.requires; message_at = found c.before.before }
+withdraw_found-requires c =
+    let found : let a = c.args in MessageAt a.number a.counts.used a.book.now (c.count_plans.result * plan_wide + c.in-At.i * entry_wide) c.in-At.count = let a = c.args in
+    let sound = (sound-parts a.book.now a.table.now a.counts c.requires).0 in
+    rw c.count_plans.ensures (stands a.number a.counts.used a.book.now sound c.in-At.i c.in-At.count (sym c.find_message-h.ensures ∙ c.in-At.is)) in
+    record { counts_value = c.requires; message_at = found }
 
 pub returns-in-Nowhere : goal.returns-in-Nowhere
 returns-in-Nowhere c =

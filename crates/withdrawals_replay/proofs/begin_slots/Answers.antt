@@ -13,24 +13,29 @@ loop-i-init c =
     let a = c.args in
     (search rules, refl, begin-start a.plans a.book.now a.message.now a.entries a.order.now a.named c.requires.plan_wide_in_bounds.0 c.requires.plan_wide_in_bounds.1 c.requires.plan_wide_in_bounds.2 c.requires.each a.slots.now)
 
--- the key of the name in turn is there
-spot : (c : goal.In-loop-i) → let a = c.args in get_or a.order.now c.loop-i.i 0 * entry_wide + body_at + key_wide ≤ length a.message.now
-spot c =
-    let a = c.args in
-    spot-fits a.plans a.book.now a.message.now a.entries a.order.now a.named c.requires.plan_wide_in_bounds.0 c.requires.plan_wide_in_bounds.1 c.requires.plan_wide_in_bounds.2 c.requires.each c.loop-i.i c.loop-i-test.true
-
 pub overflow_cast-p : goal.overflow_cast-p
-overflow_cast-p c = omega (arith, spot c.before)
+overflow_cast-p c =
+    let spot : let a = c.args in get_or a.order.now c.loop-i.i 0 * entry_wide + body_at + key_wide ≤ length a.message.now = let a = c.args in
+    spot-fits a.plans a.book.now a.message.now a.entries a.order.now a.named c.requires.plan_wide_in_bounds.0 c.requires.plan_wide_in_bounds.1 c.requires.plan_wide_in_bounds.2 c.requires.each c.loop-i.i c.loop-i-test.true in
+    omega (arith, spot)
 
 pub overflow_mul-p : goal.overflow_mul-p
-overflow_mul-p c = omega (arith, spot c.before)
+overflow_mul-p c =
+    let spot : let a = c.args in get_or a.order.now c.loop-i.i 0 * entry_wide + body_at + key_wide ≤ length a.message.now = let a = c.args in
+    spot-fits a.plans a.book.now a.message.now a.entries a.order.now a.named c.requires.plan_wide_in_bounds.0 c.requires.plan_wide_in_bounds.1 c.requires.plan_wide_in_bounds.2 c.requires.each c.loop-i.i c.loop-i-test.true in
+    omega (arith, spot)
 
 pub overflow_add-p : goal.overflow_add-p
-overflow_add-p c = omega (arith, spot c.before)
+overflow_add-p c =
+    let spot : let a = c.args in get_or a.order.now c.loop-i.i 0 * entry_wide + body_at + key_wide ≤ length a.message.now = let a = c.args in
+    spot-fits a.plans a.book.now a.message.now a.entries a.order.now a.named c.requires.plan_wide_in_bounds.0 c.requires.plan_wide_in_bounds.1 c.requires.plan_wide_in_bounds.2 c.requires.each c.loop-i.i c.loop-i-test.true in
+    omega (arith, spot)
 
 pub begin_slot-requires : goal.begin_slot-requires
 begin_slot-requires c =
-    record { plan_wide_in_bounds = (c.requires.plan_wide_in_bounds.0, spot c.before.before, omega arith); book_value = c.requires.book_value }
+    let spot : let a = c.args in get_or a.order.now c.loop-i.i 0 * entry_wide + body_at + key_wide ≤ length a.message.now = let a = c.args in
+    spot-fits a.plans a.book.now a.message.now a.entries a.order.now a.named c.requires.plan_wide_in_bounds.0 c.requires.plan_wide_in_bounds.1 c.requires.plan_wide_in_bounds.2 c.requires.each c.loop-i.i c.loop-i-test.true in
+    record { plan_wide_in_bounds = (c.requires.plan_wide_in_bounds.0, spot, omega arith); book_value = c.requires.book_value }
 
 pub loop-i-preserved : goal.loop-i-preserved
 loop-i-preserved c =

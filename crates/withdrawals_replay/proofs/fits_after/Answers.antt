@@ -12,7 +12,6 @@ returns-then-count-named c =
 pub overflow_add-result : goal.overflow_add-result
 overflow_add-result c =
     let r = room_most c.args.table.now in
-    let e = c.rows_room-most.ensures in
     omega arith
 
 pub returns : goal.returns

@@ -15,29 +15,26 @@ loop-i-init c =
     let a = c.args in
     (search rules, put-start a.count a.table.now a.slots.now c.requires.row_wide_in_bounds.0 c.requires.table_value)
 
--- the slot in turn, and room for what it puts
-there : (c : goal.In-loop-i) → c.loop-i.i * slot_wide + slot_wide ≤ length c.args.slots.now
-there c = omega arith
-
-space : (c : goal.In-loop-i) → let a = c.args in length (puts (slots_of (c.loop-i.i + 1) a.slots.now) (rows a.count a.table.now)) * row_wide ≤ length a.table.now
-space c =
-    let a = c.args in
-    omega (arith, puts-rises a.slots.now (rows a.count a.table.now) (c.loop-i.i + 1) a.named (omega arith), c.requires.row_wide_in_bounds.2)
-
 pub put_one-held-requires : goal.put_one-held-requires
 put_one-held-requires c =
+    let there : c.loop-i.i * slot_wide + slot_wide ≤ length c.args.slots.now = omega arith in
+    let space : let a = c.args in length (puts (slots_of (c.loop-i.i + 1) a.slots.now) (rows a.count a.table.now)) * row_wide ≤ length a.table.now = let a = c.args in
+    omega (arith, puts-rises a.slots.now (rows a.count a.table.now) (c.loop-i.i + 1) a.named (omega arith), c.requires.row_wide_in_bounds.2) in
     let a = c.args in
     let loop = c.loop-i in
     let rs = puts (slots_of loop.i a.slots.now) (rows a.count a.table.now) in
     let h = loop.invariant.1 in
-    ((holds_fits a.count a.table.now loop.held loop.table rs h, there c.before.before, put-room a.count a.table.now a.slots.now loop.i loop.held loop.table h (there c.before.before) (space c.before.before)), holds-sorted a.count a.table.now loop.held loop.table rs h)
+    ((holds_fits a.count a.table.now loop.held loop.table rs h, there, put-room a.count a.table.now a.slots.now loop.i loop.held loop.table h there space), holds-sorted a.count a.table.now loop.held loop.table rs h)
 
 pub loop-i-preserved : goal.loop-i-preserved
 loop-i-preserved c =
+    let there : c.loop-i.i * slot_wide + slot_wide ≤ length c.args.slots.now = omega arith in
+    let space : let a = c.args in length (puts (slots_of (c.loop-i.i + 1) a.slots.now) (rows a.count a.table.now)) * row_wide ≤ length a.table.now = let a = c.args in
+    omega (arith, puts-rises a.slots.now (rows a.count a.table.now) (c.loop-i.i + 1) a.named (omega arith), c.requires.row_wide_in_bounds.2) in
     let a = c.args in
     let loop = c.loop-i in
     let one = c.put_one-held in
-    (omega arith, put-turn a.count a.table.now a.slots.now loop.i loop.held loop.table loop.invariant.1 (there c.before.before.before.before.before) (space c.before.before.before.before.before) one.result _ one.ensures.value one.ensures.table_after)
+    (omega arith, put-turn a.count a.table.now a.slots.now loop.i loop.held loop.table loop.invariant.1 there space one.result _ one.ensures.value one.ensures.table_after)
 
 pub shape_of-table : goal.shape_of-table
 shape_of-table c =

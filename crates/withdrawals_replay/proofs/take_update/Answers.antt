@@ -8,20 +8,18 @@ pub find_place-f-requires : goal.find_place-f-requires
 find_place-f-requires c =
     ((omega arith, c.requires.body_wide_in_bounds.1, c.requires.body_wide_in_bounds.2, omega arith), (c.requires.each, c.requires.order_value))
 
--- the slot that was found is one of them
-below : (c : goal.In-At-2) → c.in-At.i < c.args.named
-below c =
-    let a = c.args in
-    update-below a.named a.from a.book.now a.slots.now _ c.requires.body_wide_in_bounds.3 c.requires.body_wide_in_bounds.0 c.requires.order_value c.requires.slots_value _ (sym c.in-At.is ∙ c.find_place-f.ensures)
-
 pub overflow_mul-i : goal.overflow_mul-i
 overflow_mul-i c =
-    let h = below c.before.before in
+    let below : c.in-At.i < c.args.named = let a = c.args in
+    update-below a.named a.from a.book.now a.slots.now _ c.requires.body_wide_in_bounds.3 c.requires.body_wide_in_bounds.0 c.requires.order_value c.requires.slots_value _ (sym c.in-At.is ∙ c.find_place-f.ensures) in
+    let h = below in
     omega arith
 
 pub take_into-requires : goal.take_into-requires
 take_into-requires c =
-    let h = below c.before.before in
+    let below : c.in-At.i < c.args.named = let a = c.args in
+    update-below a.named a.from a.book.now a.slots.now _ c.requires.body_wide_in_bounds.3 c.requires.body_wide_in_bounds.0 c.requires.order_value c.requires.slots_value _ (sym c.in-At.is ∙ c.find_place-f.ensures) in
+    let h = below in
     (omega arith, c.requires.body_wide_in_bounds.0)
 
 pub returns-in-At : goal.returns-in-At
