@@ -47,4 +47,4 @@ pub returns : goal.returns
 returns c =
     let hour : Is c.in-Is.h ≡ numeral 2 (take 2 c.args.field.now) = sym c.in-Is.is ∙ c.read_number.ensures in
     let minute : Is c.in-Is-read_number.m ≡ numeral 2 (take 2 (drop 3 c.args.field.now)) = sym c.in-Is-read_number.is ∙ c.read_number-2.ensures in
-    offset-is _ _ hour _ minute c.if-m-gt59.false c.if-h-m-gt840.false c.if-field-ne5.left c.if-field-ne58.left
+    offset-is _ _ hour _ minute c.if-m-gt59.false c.if-h-m-gt840.false c.if-field-ne5.false c.if-field-ne58.false
