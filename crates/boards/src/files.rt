@@ -1,4 +1,7 @@
-// Files.
+// Files. A file's name is text; bytes that are no text name none.
+use std::fs::File;
+use std::io::{ErrorKind, Read, Stdin, Write};
+use std::{fs, io, str};
 
 // What a file gave: so many bytes, or that it cannot be read.
 #[derive(Clone, Copy)]
@@ -7,45 +10,90 @@ pub enum Loaded {
     Unreadable,
 }
 
-// The file's bytes to buf, as many as it takes.
-pub fn load(path: &[u8], buf: &mut [u8]) -> Loaded {
-    let fd = os::open_read(path);
-    if fd < 0 {
-        return Loaded::Unreadable;
-    }
-    let l = taken(fd, buf);
-    libc::close(fd);
-    l
+fn unnamed() -> io::Error {
+    io::Error::from(ErrorKind::InvalidInput)
 }
 
-// The first read tells whether it can be read, as a folder cannot.
-fn taken(fd: i32, buf: &mut [u8]) -> Loaded {
-    let got = libc::read(fd, buf);
-    if got < 0 {
-        return Loaded::Unreadable;
+// The file of that name, to be read.
+fn open_read(rt: HostRuntime, path: &[u8]) -> io::Result<File> {
+    match str::from_utf8(path) {
+        Ok(name) => fs::open(&rt, name),
+        Err(_) => Err(unnamed()),
     }
-    let n = io::count(got, buf);
+}
+
+// The file of that name, emptied, or a new one.
+fn open_overwrite(rt: HostRuntime, path: &[u8]) -> io::Result<File> {
+    match str::from_utf8(path) {
+        Ok(name) => fs::create(&rt, name),
+        Err(_) => Err(unnamed()),
+    }
+}
+
+// The file `part` takes the name; whether it has it.
+fn rename(rt: HostRuntime, part: &[u8], path: &[u8]) -> bool {
+    match str::from_utf8(part) {
+        Ok(from) => match str::from_utf8(path) {
+            Ok(to) => fs::rename(&rt, from, to).is_ok(),
+            Err(_) => false,
+        },
+        Err(_) => false,
+    }
+}
+
+// The file is removed, if it can be.
+fn unlink(rt: HostRuntime, part: &[u8]) {
+    match str::from_utf8(part) {
+        Ok(name) => {
+            let _ = fs::remove_file(&rt, name);
+        }
+        Err(_) => {}
+    }
+}
+
+// The file's bytes to buf, as many as it takes.
+pub fn load(rt: HostRuntime, path: &[u8], buf: &mut [u8]) -> Loaded {
+    match open_read(rt, path) {
+        Ok(file) => taken(file, buf),
+        Err(_) => Loaded::Unreadable,
+    }
+}
+
+// The first read tells whether it can be read, as a folder cannot. The file is closed.
+fn taken(mut file: File, buf: &mut [u8]) -> Loaded {
+    let Ok(n) = file.read(buf) else {
+        return Loaded::Unreadable;
+    };
     if n == 0 {
         return Loaded::Bytes(0);
     }
-    let more = io::read_full(fd, &mut buf[n..]);
+    let more = script_text::read_full(&mut file, &mut buf[n..]);
     Loaded::Bytes(n + more)
 }
 
-// The four parts one behind the other; whether all is written.
-fn put(fd: i32, heading: &[u8], register: &[u8], book: &[u8], table: &[u8]) -> bool {
-    if io::write_all(fd, heading) {
-        if io::write_all(fd, register) {
-            if io::write_all(fd, book) {
-                return io::write_all(fd, table);
-            }
-        }
-    }
-    false
+// The four parts one behind the other; an error where not all is written.
+fn put(
+    file: &mut File,
+    heading: &[u8],
+    register: &[u8],
+    book: &[u8],
+    table: &[u8],
+) -> io::Result<()> {
+    file.write_all(heading)?;
+    file.write_all(register)?;
+    file.write_all(book)?;
+    file.write_all(table)?;
+    file.sync_all()
+}
+
+// Whether all is written. The file is closed.
+fn is_put(mut file: File, heading: &[u8], register: &[u8], book: &[u8], table: &[u8]) -> bool {
+    put(&mut file, heading, register, book, table).is_ok()
 }
 
 // A file of four parts, or none: they go to the file `part` first, which then takes the name. So what stood there stays whole until all is written.
 pub fn store(
+    rt: HostRuntime,
     path: &[u8],
     part: &[u8],
     heading: &[u8],
@@ -53,22 +101,36 @@ pub fn store(
     book: &[u8],
     table: &[u8],
 ) -> bool {
-    let fd = os::open_overwrite(part);
-    if fd < 0 {
+    let Ok(file) = open_overwrite(rt, part) else {
         return false;
+    };
+    if is_put(file, heading, register, book, table) {
+        return rename(rt, part, path);
     }
-    let whole = put(fd, heading, register, book, table);
-    let closed = libc::close(fd);
-    if whole {
-        if closed == 0 {
-            return os::rename(part, path) == 0;
-        }
-    }
-    os::unlink(part);
+    unlink(rt, part);
     false
 }
 
 // ---- A script's lines, one read a byte: so each is done as it comes, and what follows it is left to whoever reads on.
+
+// Where a script's lines come from. A file that cannot be opened cannot be read.
+#[derive(Drop)]
+pub enum Script {
+    Input(Stdin),
+    Open(File),
+    Missing,
+}
+
+// The script that a name gives; - is standard input.
+pub fn opened(rt: HostRuntime, name: &[u8]) -> Script {
+    if lists::same_bytes(name, b"-") {
+        return Script::Input(rt.stdin());
+    }
+    match open_read(rt, name) {
+        Ok(file) => Script::Open(file),
+        Err(_) => Script::Missing,
+    }
+}
 
 #[derive(Clone, Copy)]
 pub enum Line {
@@ -85,24 +147,29 @@ enum Byte {
     Failed,
 }
 
-fn next_byte(fd: i32) -> Byte {
+fn read(script: &mut Script, buf: &mut [u8]) -> io::Result<usize> {
+    match script {
+        Script::Input(input) => input.read(buf),
+        Script::Open(file) => file.read(buf),
+        Script::Missing => Err(unnamed()),
+    }
+}
+
+fn next_byte(script: &mut Script) -> Byte {
     let mut one = [0u8; 1];
-    let got = libc::read(fd, &mut one);
-    if got < 0 {
-        return Byte::Failed;
+    match read(script, &mut one) {
+        Ok(0) => Byte::End,
+        Ok(_) => Byte::Is(one[0]),
+        Err(_) => Byte::Failed,
     }
-    if got == 0 {
-        return Byte::End;
-    }
-    Byte::Is(one[0])
 }
 
 // The rest of a line that is too long is read and left out. A line of over four billion bytes counts as several.
-fn skip(fd: i32) {
+fn skip(script: &mut Script) {
     let mut left: u32 = 4294967295;
     while 0 < left {
         left -= 1;
-        match next_byte(fd) {
+        match next_byte(script) {
             Byte::Is(b) => {
                 if b == b'\n' {
                     return;
@@ -123,10 +190,10 @@ fn last(n: usize) -> Line {
 }
 
 // The next line to buf, without its LF.
-pub fn read_line(fd: i32, buf: &mut [u8]) -> Line {
+pub fn read_line(script: &mut Script, buf: &mut [u8]) -> Line {
     let mut n = 0;
     while n < buf.len() {
-        match next_byte(fd) {
+        match next_byte(script) {
             Byte::Is(b) => {
                 if b == b'\n' {
                     return Line::Whole(n);
@@ -138,6 +205,6 @@ pub fn read_line(fd: i32, buf: &mut [u8]) -> Line {
             Byte::Failed => return Line::Failed,
         }
     }
-    skip(fd);
+    skip(script);
     Line::Long
 }

@@ -32,14 +32,15 @@ pub fn begun(held: Held) -> Held {
 }
 
 // The file that the k-th word names.
-fn load(line: &[u8], k: usize, buf: &mut [u8]) -> Loaded {
-    files::load(script_text::word(line, k), buf)
+fn load(rt: HostRuntime, line: &[u8], k: usize, buf: &mut [u8]) -> Loaded {
+    files::load(rt, script_text::word(line, k), buf)
 }
 
 // A byte more than a dossier may have: so one that is too long reaches the call as one.
 const PAPER: usize = 65537;
 
 fn open_from(
+    rt: HostRuntime,
     line: &[u8],
     first: &mut [u8; PAPER],
     second: &mut [u8; PAPER],
@@ -49,26 +50,27 @@ fn open_from(
 ) -> Held
     ensures { (register : List ℕ) → Opens (state held register book.old table.old) (state result register book.new table.new) }
 {
-    let Loaded::Bytes(n) = load(line, 1, first) else {
-        return boards_deeds::bad(line, 1, boards_orders::UNREADABLE, held);
+    let Loaded::Bytes(n) = load(rt, line, 1, first) else {
+        return boards_deeds::bad(rt.stdout(), line, 1, boards_orders::UNREADABLE, held);
     };
-    let Loaded::Bytes(k) = load(line, 2, second) else {
-        return boards_deeds::bad(line, 2, boards_orders::UNREADABLE, held);
+    let Loaded::Bytes(k) = load(rt, line, 2, second) else {
+        return boards_deeds::bad(rt.stdout(), line, 2, boards_orders::UNREADABLE, held);
     };
     let planning = script_text::front(first, n);
     let calendar = script_text::front(second, k);
-    boards_deeds::open(line, planning, calendar, book, table, held)
+    boards_deeds::open(rt.stdout(), line, planning, calendar, book, table, held)
 }
 
-fn open(line: &[u8], book: &mut [u8], table: &mut [u8], held: Held) -> Held
+fn open(rt: HostRuntime, line: &[u8], book: &mut [u8], table: &mut [u8], held: Held) -> Held
     ensures { (register : List ℕ) → Opens (state held register book.old table.old) (state result register book.new table.new) }
 {
     let mut first = [0u8; PAPER];
     let mut second = [0u8; PAPER];
-    open_from(line, &mut first, &mut second, book, table, held)
+    open_from(rt, line, &mut first, &mut second, book, table, held)
 }
 
 fn send_from(
+    rt: HostRuntime,
     line: &[u8],
     sender: u8,
     size: usize,
@@ -81,17 +83,27 @@ fn send_from(
 ) -> Held
     ensures { Sends sender form (state held register.now book.old table.old) (state result register.now book.new table.new) }
 {
-    let Loaded::Bytes(n) = load(line, 2, paper) else {
-        return boards_deeds::bad(line, 2, boards_orders::UNREADABLE, held);
+    let Loaded::Bytes(n) = load(rt, line, 2, paper) else {
+        return boards_deeds::bad(rt.stdout(), line, 2, boards_orders::UNREADABLE, held);
     };
     let dossier = script_text::front(paper, n);
     boards_deeds::send(
-        line, dossier, sender, size, form, register, book, table, held,
+        rt.stdout(),
+        line,
+        dossier,
+        sender,
+        size,
+        form,
+        register,
+        book,
+        table,
+        held,
     )
 }
 
 // In the form that is stated, in parts of `size` bytes, or whole where that is 0.
 fn send(
+    rt: HostRuntime,
     line: &[u8],
     sender: u8,
     size: usize,
@@ -105,36 +117,50 @@ fn send(
 {
     let mut paper = [0u8; PAPER];
     send_from(
-        line, sender, size, form, &mut paper, register, book, table, held,
+        rt, line, sender, size, form, &mut paper, register, book, table, held,
     )
 }
 
 // ---- Questions, which change nothing.
 
-fn list_messages(line: &[u8], book: &[u8], held: Held) -> Held
+fn list_messages(rt: HostRuntime, line: &[u8], book: &[u8], held: Held) -> Held
     ensures { result ≡ held }
 {
     let c = held.counts;
-    boards_listing::messages(line, script_text::front(book, c.used));
+    boards_listing::messages(rt.stdout(), line, script_text::front(book, c.used));
     held
 }
 
-fn list_pairs(line: &[u8], register: &[u8], held: Held) -> Held
+fn list_pairs(rt: HostRuntime, line: &[u8], register: &[u8], held: Held) -> Held
     ensures { result ≡ held }
 {
-    boards_listing::pairs(line, script_text::front(register, held.register));
+    boards_listing::pairs(
+        rt.stdout(),
+        line,
+        script_text::front(register, held.register),
+    );
     held
 }
 
 // ---- A day kept in a file.
 
+const PATH: usize = 4096;
+
 // The day to the file that the line names, by way of one with .part behind its name.
-fn store(line: &[u8], heading: &[u8], register: &[u8], book: &[u8], table: &[u8]) -> bool {
+fn store(
+    rt: HostRuntime,
+    line: &[u8],
+    heading: &[u8],
+    register: &[u8],
+    book: &[u8],
+    table: &[u8],
+) -> bool {
     let name = script_text::word(line, 1);
-    let mut path = io::buffer();
+    let mut path = [0u8; PATH];
     let n = script_text::append(&mut path, 0, name);
     let end = script_text::append(&mut path, n, b".part");
     files::store(
+        rt,
         name,
         script_text::front(&path, end),
         heading,
@@ -144,7 +170,14 @@ fn store(line: &[u8], heading: &[u8], register: &[u8], book: &[u8], table: &[u8]
     )
 }
 
-fn save(line: &[u8], register: &[u8], book: &[u8], table: &[u8], held: Held) -> Held
+fn save(
+    rt: HostRuntime,
+    line: &[u8],
+    register: &[u8],
+    book: &[u8],
+    table: &[u8],
+    held: Held,
+) -> Held
     ensures { (result ≡ held) ⊎ (result ≡ missed held) }
 {
     let c = held.counts;
@@ -159,6 +192,7 @@ fn save(line: &[u8], register: &[u8], book: &[u8], table: &[u8], held: Held) -> 
         script_text::low_word(rows),
     );
     let whole = store(
+        rt,
         line,
         &heading,
         script_text::front(register, pairs),
@@ -166,16 +200,17 @@ fn save(line: &[u8], register: &[u8], book: &[u8], table: &[u8], held: Held) -> 
         script_text::front(table, rows * passage::ROW_WIDE),
     );
     if whole {
-        boards_answers::saved(line, pairs, used, rows);
+        boards_answers::saved(rt.stdout(), line, pairs, used, rows);
         return held;
     }
-    boards_deeds::bad(line, 1, boards_orders::UNWRITABLE, held)
+    boards_deeds::bad(rt.stdout(), line, 1, boards_orders::UNWRITABLE, held)
 }
 
 // A byte more than a day's file may have: so one that is too long is none.
 const FILE: usize = boards_saved::MOST_BYTES + 1;
 
 fn load_from(
+    rt: HostRuntime,
     line: &[u8],
     file: &mut [u8; FILE],
     register: &mut [u8],
@@ -185,10 +220,11 @@ fn load_from(
 ) -> Held
     ensures { Loads (state held register.old book.old table.old) (state result register.new book.new table.new) }
 {
-    let Loaded::Bytes(n) = load(line, 1, file) else {
-        return boards_deeds::bad(line, 1, boards_orders::UNREADABLE, held);
+    let Loaded::Bytes(n) = load(rt, line, 1, file) else {
+        return boards_deeds::bad(rt.stdout(), line, 1, boards_orders::UNREADABLE, held);
     };
     boards_deeds::load(
+        rt.stdout(),
         line,
         script_text::front(file, n),
         register,
@@ -198,16 +234,24 @@ fn load_from(
     )
 }
 
-fn load_day(line: &[u8], register: &mut [u8], book: &mut [u8], table: &mut [u8], held: Held) -> Held
+fn load_day(
+    rt: HostRuntime,
+    line: &[u8],
+    register: &mut [u8],
+    book: &mut [u8],
+    table: &mut [u8],
+    held: Held,
+) -> Held
     ensures { Loads (state held register.old book.old table.old) (state result register.new book.new table.new) }
 {
     let mut file = [0u8; FILE];
-    load_from(line, &mut file, register, book, table, held)
+    load_from(rt, line, &mut file, register, book, table, held)
 }
 
 // ---- A line, by what it asks.
 
 fn perform(
+    rt: HostRuntime,
     line: &[u8],
     order: Order,
     register: &mut [u8],
@@ -219,30 +263,45 @@ fn perform(
 {
     match order {
         Order::Nothing => held,
-        Order::Open => open(line, book, table, held),
-        Order::Register(sender) => boards_deeds::enrol(line, sender, register, held),
-        Order::Message(sender, form) => send(line, sender, 0, form, register, book, table, held),
+        Order::Open => open(rt, line, book, table, held),
+        Order::Register(sender) => boards_deeds::enrol(rt.stdout(), line, sender, register, held),
+        Order::Message(sender, form) => send(
+            rt, line, sender, 0, form, register, book, table, held,
+        ),
         Order::Withdraw(number, sender) => boards_deeds::withdraw(
-            line, number, sender, book, table, held,
+            rt.stdout(),
+            line,
+            number,
+            sender,
+            book,
+            table,
+            held,
         ),
         Order::Board(date, second, horizon, most) => {
-            boards_deeds::ask(line, date, second, horizon, most, table, held)
+            boards_deeds::ask(rt.stdout(), line, date, second, horizon, most, table, held)
         }
-        Order::Messages => list_messages(line, book, held),
-        Order::Registered => list_pairs(line, register, held),
-        Order::Save => save(line, register, book, table, held),
-        Order::Load => load_day(line, register, book, table, held),
+        Order::Messages => list_messages(rt, line, book, held),
+        Order::Registered => list_pairs(rt, line, register, held),
+        Order::Save => save(rt, line, register, book, table, held),
+        Order::Load => load_day(rt, line, register, book, table, held),
         Order::Parts(sender, size, form) => send(
-            line, sender, size, form, register, book, table, held,
+            rt, line, sender, size, form, register, book, table, held,
         ),
-        Order::Bad(k, why) => boards_deeds::bad(line, k, why, held),
+        Order::Bad(k, why) => boards_deeds::bad(rt.stdout(), line, k, why, held),
     }
 }
 
-pub fn line(line: &[u8], register: &mut [u8], book: &mut [u8], table: &mut [u8], held: Held) -> Held
+pub fn line(
+    rt: HostRuntime,
+    line: &[u8],
+    register: &mut [u8],
+    book: &mut [u8],
+    table: &mut [u8],
+    held: Held,
+) -> Held
     ensures { LineLeaves (order_in held.day line.now) line.now (state (next_line held) register.old book.old table.old) (state result register.new book.new table.new) }
 {
     let n = boards_deeds::next(held);
     let o = boards_orders::read_order(line, held.day);
-    perform(line, o, register, book, table, n)
+    perform(rt, line, o, register, book, table, n)
 }
