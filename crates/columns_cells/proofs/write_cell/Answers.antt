@@ -83,7 +83,7 @@ unfolding cell
 returns-in-Text c =
     let stop = field_under c.args.stop c.args.columns c.args.line.now in
     let kind = kind-as stop c.args.field.now c.in-Text.is in
-    let t = kept-as c.args.at c.args.row.now kind c.write_text.ensures in record { some = t.0; written = t.1 }
+    let t = kept-as c.args.at c.args.row.now kind (c.write_text.ensures.some, c.write_text.ensures.written) in record { some = t.0; written = t.1 }
 
 pub returns-in-Date : goal.returns-in-Date
 unfolding cell
@@ -91,7 +91,7 @@ returns-in-Date c =
     let stop = field_under c.args.stop c.args.columns c.args.line.now in
     let read : c.read_date.result ≡ Dates.date c.args.field.now = c.read_date.ensures in
     let kind = kind-as stop c.args.field.now c.in-Date.is in
-    let t = kept-as c.args.at c.args.row.now (ap (number_cell 4) read ∙ kind) c.write_number.ensures in record { some = t.0; written = t.1 }
+    let t = kept-as c.args.at c.args.row.now (ap (number_cell 4) read ∙ kind) (c.write_number.ensures.some, c.write_number.ensures.written) in record { some = t.0; written = t.1 }
 
 pub returns-in-Journey : goal.returns-in-Journey
 unfolding cell
@@ -99,7 +99,7 @@ returns-in-Journey c =
     let stop = field_under c.args.stop c.args.columns c.args.line.now in
     let read : c.read_number.result ≡ Digits.numeral 6 c.args.field.now = c.read_number.ensures in
     let kind = kind-as stop c.args.field.now c.in-Journey.is in
-    let t = kept-as c.args.at c.args.row.now (ap (number_cell 4) read ∙ kind) c.write_number-in-Journey.ensures in record { some = t.0; written = t.1 }
+    let t = kept-as c.args.at c.args.row.now (ap (number_cell 4) read ∙ kind) (c.write_number-in-Journey.ensures.some, c.write_number-in-Journey.ensures.written) in record { some = t.0; written = t.1 }
 
 pub returns-in-Fortify : goal.returns-in-Fortify
 unfolding cell
@@ -107,7 +107,7 @@ returns-in-Fortify c =
     let stop = field_under c.args.stop c.args.columns c.args.line.now in
     let read : c.read_number-in-Fortify.result ≡ Digits.numeral 2 c.args.field.now = c.read_number-in-Fortify.ensures in
     let kind = kind-as stop c.args.field.now c.in-Fortify.is in
-    let t = kept-as c.args.at c.args.row.now (ap (number_cell 1) read ∙ kind) c.write_number-in-Fortify.ensures in record { some = t.0; written = t.1 }
+    let t = kept-as c.args.at c.args.row.now (ap (number_cell 1) read ∙ kind) (c.write_number-in-Fortify.ensures.some, c.write_number-in-Fortify.ensures.written) in record { some = t.0; written = t.1 }
 
 pub returns-in-Order : goal.returns-in-Order
 unfolding cell
@@ -115,7 +115,7 @@ returns-in-Order c =
     let stop = field_under c.args.stop c.args.columns c.args.line.now in
     let read : c.read_number-in-Order.result ≡ Digits.numeral 3 c.args.field.now = c.read_number-in-Order.ensures in
     let kind = kind-as stop c.args.field.now c.in-Order.is in
-    let t = kept-as c.args.at c.args.row.now (ap (number_cell 2) read ∙ kind) c.write_number-in-Order.ensures in record { some = t.0; written = t.1 }
+    let t = kept-as c.args.at c.args.row.now (ap (number_cell 2) read ∙ kind) (c.write_number-in-Order.ensures.some, c.write_number-in-Order.ensures.written) in record { some = t.0; written = t.1 }
 
 pub returns-in-Stamp : goal.returns-in-Stamp
 unfolding cell
@@ -123,7 +123,7 @@ returns-in-Stamp c =
     let stop = field_under c.args.stop c.args.columns c.args.line.now in
     let read : c.read_stamp.result ≡ Stamps.stamp c.args.field.now = c.read_stamp.ensures in
     let kind = kind-as stop c.args.field.now c.in-Stamp.is in
-    let t = kept-as c.args.at c.args.row.now (ap (number_cell 4) read ∙ kind) c.write_number-in-Stamp.ensures in record { some = t.0; written = t.1 }
+    let t = kept-as c.args.at c.args.row.now (ap (number_cell 4) read ∙ kind) (c.write_number-in-Stamp.ensures.some, c.write_number-in-Stamp.ensures.written) in record { some = t.0; written = t.1 }
 
 pub returns-in-Status : goal.returns-in-Status
 unfolding cell
@@ -131,7 +131,7 @@ returns-in-Status c =
     let stop = field_under c.args.stop c.args.columns c.args.line.now in
     let read : c.read_status.result ≡ Names.status c.args.field.now = c.read_status.ensures in
     let kind = kind-as stop c.args.field.now c.in-Status.is in
-    let t = kept-as c.args.at c.args.row.now (ap (number_cell 1) read ∙ kind) c.write_number-in-Status.ensures in record { some = t.0; written = t.1 }
+    let t = kept-as c.args.at c.args.row.now (ap (number_cell 1) read ∙ kind) (c.write_number-in-Status.ensures.some, c.write_number-in-Status.ensures.written) in record { some = t.0; written = t.1 }
 
 pub returns-in-Arrival : goal.returns-in-Arrival
 unfolding cell
@@ -139,7 +139,7 @@ returns-in-Arrival c =
     let stop = field_under c.args.stop c.args.columns c.args.line.now in
     let kind = kind-as stop c.args.field.now c.in-Arrival.is in
     let write = c.write_time in
-    let said : Kept c.args.at (time_at (bytes "FIRST") stop c.args.field.now) c.args.row.now write.result write.new.row = write.ensures in
+    let said : Kept c.args.at (time_at (bytes "FIRST") stop c.args.field.now) c.args.row.now write.result write.new.row = (write.ensures.some, write.ensures.written) in
     let t = kept-as c.args.at c.args.row.now kind said in record { some = t.0; written = t.1 }
 
 pub returns-in-Departure : goal.returns-in-Departure
@@ -148,7 +148,7 @@ returns-in-Departure c =
     let stop = field_under c.args.stop c.args.columns c.args.line.now in
     let kind = kind-as stop c.args.field.now c.in-Departure.is in
     let write = c.write_time-in-Departure in
-    let said : Kept c.args.at (time_at (bytes "LAST") stop c.args.field.now) c.args.row.now write.result write.new.row = write.ensures in
+    let said : Kept c.args.at (time_at (bytes "LAST") stop c.args.field.now) c.args.row.now write.result write.new.row = (write.ensures.some, write.ensures.written) in
     let t = kept-as c.args.at c.args.row.now kind said in record { some = t.0; written = t.1 }
 
 pub returns-in-StopType : goal.returns-in-StopType
@@ -157,7 +157,7 @@ returns-in-StopType c =
     let stop = field_under c.args.stop c.args.columns c.args.line.now in
     let read : c.read_stop_type.result ≡ Names.stop_type c.args.field.now = c.read_stop_type.ensures in
     let kind = kind-as stop c.args.field.now c.in-StopType.is in
-    let t = kept-as c.args.at c.args.row.now (ap (number_cell 1) read ∙ kind) c.write_number-in-StopType.ensures in record { some = t.0; written = t.1 }
+    let t = kept-as c.args.at c.args.row.now (ap (number_cell 1) read ∙ kind) (c.write_number-in-StopType.ensures.some, c.write_number-in-StopType.ensures.written) in record { some = t.0; written = t.1 }
 
 pub returns-in-Bit : goal.returns-in-Bit
 unfolding cell
@@ -165,7 +165,7 @@ returns-in-Bit c =
     let stop = field_under c.args.stop c.args.columns c.args.line.now in
     let read : c.read_bit.result ≡ Names.bit c.args.field.now = c.read_bit.ensures in
     let kind = kind-as stop c.args.field.now c.in-Bit.is in
-    let t = kept-as c.args.at c.args.row.now (ap (number_cell 1) read ∙ kind) c.write_number-in-Bit.ensures in record { some = t.0; written = t.1 }
+    let t = kept-as c.args.at c.args.row.now (ap (number_cell 1) read ∙ kind) (c.write_number-in-Bit.ensures.some, c.write_number-in-Bit.ensures.written) in record { some = t.0; written = t.1 }
 
 pub returns-in-Flexible : goal.returns-in-Flexible
 unfolding cell
@@ -173,7 +173,7 @@ returns-in-Flexible c =
     let stop = field_under c.args.stop c.args.columns c.args.line.now in
     let read : c.read_flexible.result ≡ Names.flexible c.args.field.now = c.read_flexible.ensures in
     let kind = kind-as stop c.args.field.now c.in-Flexible.is in
-    let t = kept-as c.args.at c.args.row.now (ap (number_cell 1) read ∙ kind) c.write_number-in-Flexible.ensures in record { some = t.0; written = t.1 }
+    let t = kept-as c.args.at c.args.row.now (ap (number_cell 1) read ∙ kind) (c.write_number-in-Flexible.ensures.some, c.write_number-in-Flexible.ensures.written) in record { some = t.0; written = t.1 }
 
 pub returns-in-Truth : goal.returns-in-Truth
 unfolding cell
@@ -181,7 +181,7 @@ returns-in-Truth c =
     let stop = field_under c.args.stop c.args.columns c.args.line.now in
     let read : c.read_truth.result ≡ Names.truth c.args.field.now = c.read_truth.ensures in
     let kind = kind-as stop c.args.field.now c.in-Truth.is in
-    let t = kept-as c.args.at c.args.row.now (ap (number_cell 1) read ∙ kind) c.write_number-in-Truth.ensures in record { some = t.0; written = t.1 }
+    let t = kept-as c.args.at c.args.row.now (ap (number_cell 1) read ∙ kind) (c.write_number-in-Truth.ensures.some, c.write_number-in-Truth.ensures.written) in record { some = t.0; written = t.1 }
 
 pub returns-in-Shown : goal.returns-in-Shown
 unfolding cell
@@ -189,4 +189,4 @@ returns-in-Shown c =
     let stop = field_under c.args.stop c.args.columns c.args.line.now in
     let read : c.read_shown.result ≡ Names.shown c.args.field.now = c.read_shown.ensures in
     let kind = kind-as stop c.args.field.now c.in-Shown.is in
-    let t = kept-as c.args.at c.args.row.now (ap (number_cell 1) read ∙ kind) c.write_number-in-Shown.ensures in record { some = t.0; written = t.1 }
+    let t = kept-as c.args.at c.args.row.now (ap (number_cell 1) read ∙ kind) (c.write_number-in-Shown.ensures.some, c.write_number-in-Shown.ensures.written) in record { some = t.0; written = t.1 }
