@@ -4,7 +4,7 @@ use Rattle.feeds_end.proofs.EndLaws.{form-known, form-unknown}
 use Rattle.feeds_end.proofs.end_known.Goals as goal
 
 pub end_read-requires : goal.end_read-requires
-end_read-requires c = let t = c.requires in record { counts_value = t.0; staged_le_most_rows = t.1 }
+end_read-requires c = record { counts_value = c.requires.counts_value; staged_le_most_rows = c.requires.staged_le_most_rows }
 
 pub returns-then-is_form : goal.returns-then-is_form
 returns-then-is_form c =

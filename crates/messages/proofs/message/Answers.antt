@@ -4,9 +4,6 @@ use Rattle.calls.proofs.NumbersLaws.{message-told}
 use Rattle.messages.proofs.ReadLaws.{unsound, unknown}
 use Rattle.messages.proofs.message.Goals as goal
 
-pub is_sound-requires : goal.is_sound-requires
-is_sound-requires c = tt
-
 pub take_sound-requires : goal.take_sound-requires
 take_sound-requires c = (sym c.is_sound.ensures ∙ c.if-is_sound.true, sym c.is_form.ensures ∙ c.if-is_form.true)
 
@@ -15,29 +12,11 @@ returns-then-is_form c =
     let a = c.args in
     let t = message-told a.dossier.now a.sender a.form a.register.now a.book.now a.table.now a.counts _ _ _ c.take_sound.ensures in record { lent = t.0; numbers = t.1 }
 
-pub unchanged-requires : goal.unchanged-requires
-unchanged-requires c = tt
-
-pub shape_of-book-then-is_sound : goal.shape_of-book-then-is_sound
-shape_of-book-then-is_sound c = refl
-
-pub shape_of-table-then-is_sound : goal.shape_of-table-then-is_sound
-shape_of-table-then-is_sound c = refl
-
 pub returns-then-is_sound : goal.returns-then-is_sound
 returns-then-is_sound c =
     let a = c.args in
     let t = message-told a.dossier.now a.sender a.form a.register.now a.book.now a.table.now a.counts _ _ _
     (unknown a.dossier.now a.sender a.form a.register.now a.book.now a.table.now a.counts (sym c.is_sound.ensures ∙ c.if-is_sound.true) (sym c.is_form.ensures ∙ c.if-is_form.false) c.unchanged.result c.unchanged.ensures) in record { lent = t.0; numbers = t.1 }
-
-pub unchanged-requires-2 : goal.unchanged-requires-2
-unchanged-requires-2 c = tt
-
-pub shape_of-book : goal.shape_of-book
-shape_of-book c = refl
-
-pub shape_of-table : goal.shape_of-table
-shape_of-table c = refl
 
 pub returns : goal.returns
 returns c =

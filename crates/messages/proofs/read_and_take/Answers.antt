@@ -18,24 +18,19 @@ use Rattle.calls.proofs.LeavesLaws.{passed_on}
 use Rattle.messages.proofs.ReadLaws.{staged-bodies, dossier-refused, rows_taken}
 use Rattle.messages.proofs.read_and_take.Goals as goal
 
--- what comes of the dossier
-goes : (p : goal.After-passed) (x : Next) → p.passed.result ≡ x → passed_of 0 (reading_of (message_table p.args.form) p.args.register.now p.args.sender p.args.dossier.now) ≡ x
-goes p x e = sym (p.passed.ensures ∙ ap (passed_of 0) (p.read_message-reading.ensures.answer ∙ ap (λ (t : Table). reading_of t p.args.register.now p.args.sender p.args.dossier.now) (form p))) ∙ e
-
 pub take_rows-requires : goal.take_rows-requires
 take_rows-requires c =
-    let rows : reading_of (message_table c.args.form) c.args.register.now c.args.sender c.args.dossier.now ≡ Rows c.in-On.count = passed_on 0 _ _ (goes c.before.before _ c.in-On.is) in
+    let rows : reading_of (message_table c.args.form) c.args.register.now c.args.sender c.args.dossier.now ≡ Rows c.in-On.count = passed_on 0 _ _ (sym (c.passed.ensures ∙ ap (passed_of 0) (c.read_message-reading.ensures.answer ∙ ap (λ (t : Table). reading_of t c.args.register.now c.args.sender c.args.dossier.now) (ap Message c.form_of.ensures))) ∙ c.in-On.is) in
     let a = c.args in
     let few = rows_few (form_of a.form) a.register.now a.sender a.dossier.now _ rows in
     let parts = sound-parts a.dossier.now a.register.now a.book.now a.table.now a.sender a.form a.counts c.requires.counts_value.0 in
     let holds = c.requires.holds_rows _ few.1 few.0 in
-    let l = c.read_message-reading.auto.1.1.1.1.0 in
     record { count_le_most_updates = (few.1, omega arith); book_value = (parts.1, parts.2) }
 
 pub returns-in-On : goal.returns-in-On
 returns-in-On c =
     let form : Message c.form_of.result ≡ message_table c.args.form = ap Message c.form_of.ensures in
-    let rows : reading_of (message_table c.args.form) c.args.register.now c.args.sender c.args.dossier.now ≡ Rows c.in-On.count = passed_on 0 _ _ (goes c.before.before _ c.in-On.is) in
+    let rows : reading_of (message_table c.args.form) c.args.register.now c.args.sender c.args.dossier.now ≡ Rows c.in-On.count = passed_on 0 _ _ (sym (c.passed.ensures ∙ ap (passed_of 0) (c.read_message-reading.ensures.answer ∙ ap (λ (t : Table). reading_of t c.args.register.now c.args.sender c.args.dossier.now) (ap Message c.form_of.ensures))) ∙ c.in-On.is) in
     let a = c.args in
     let k = c.in-On.count in
     let few = rows_few (form_of a.form) a.register.now a.sender a.dossier.now k rows in
@@ -46,4 +41,4 @@ returns-in-On c =
 pub returns-in-Off : goal.returns-in-Off
 returns-in-Off c =
     let a = c.args in
-    dossier-refused a.dossier.now a.sender a.form a.register.now a.book.now a.table.now a.counts c.requires.counts_value.0 c.requires.counts_value.1 _ (goes c.before.before.before.before _ c.in-Off.is) c.unchanged.result c.unchanged.ensures
+    dossier-refused a.dossier.now a.sender a.form a.register.now a.book.now a.table.now a.counts c.requires.counts_value.0 c.requires.counts_value.1 _ (sym (c.passed.ensures ∙ ap (passed_of 0) (c.read_message-reading.ensures.answer ∙ ap (λ (t : Table). reading_of t c.args.register.now c.args.sender c.args.dossier.now) (ap Message c.form_of.ensures))) ∙ c.in-Off.is) c.unchanged.result c.unchanged.ensures

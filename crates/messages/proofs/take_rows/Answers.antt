@@ -63,8 +63,7 @@ returns-in-Count c =
     let fit : a.counts.used + length bodies * entry_wide ≤ book_room a.book.now = rw (← room, all) c.if-book_room-used.false in
     let some : length bodies ≡ 0 → ⊥ = λ e. c.if-count-eq0.false (sym all ∙ e) in
     let wrote = c.write_rows in
-    let e = wrote.ensures in
-    fits bodies a.sender a.book.now a.table.now a.counts _ c.rows_room-most.ensures c.take_fitting.result _ c.take_fitting.ensures some fit _ c.in-Count.is wrote.result _ a.count (sym all) e.0 e.1
+    fits bodies a.sender a.book.now a.table.now a.counts _ c.rows_room-most.ensures c.take_fitting.result _ (c.take_fitting.ensures.value, c.take_fitting.ensures.table_after) some fit _ c.in-Count.is wrote.result _ a.count (sym all) wrote.ensures.outcome wrote.ensures.entries
 
 pub returns-in-TooMany : goal.returns-in-TooMany
 returns-in-TooMany c =
@@ -72,4 +71,4 @@ returns-in-TooMany c =
     let a = c.args in
     let room = c.book_room.ensures in
     let fit : a.counts.used + length bodies * entry_wide ≤ book_room a.book.now = rw (← room, length-rows_of body_wide a.count a.staging.now) c.if-book_room-used.false in
-    table-short bodies a.sender a.book.now a.table.now a.counts _ c.rows_room-most.ensures c.take_fitting.result _ c.take_fitting.ensures fit c.in-TooMany.is c.unchanged-in-TooMany.result c.unchanged-in-TooMany.ensures
+    table-short bodies a.sender a.book.now a.table.now a.counts _ c.rows_room-most.ensures c.take_fitting.result _ (c.take_fitting.ensures.value, c.take_fitting.ensures.table_after) fit c.in-TooMany.is c.unchanged-in-TooMany.result c.unchanged-in-TooMany.ensures

@@ -24,12 +24,6 @@ pub read_and_take-requires : goal.read_and_take-requires
 read_and_take-requires c =
     record { counts_value = c.requires; holds_rows = λ n few l. made-room (n * body_wide) (few_updates * body_wide) (short-room (length c.args.dossier.now) n c.if-dossier-le-SHORT.true l) }
 
-pub shape_of-book-then-dossier-le-SHORT : goal.shape_of-book-then-dossier-le-SHORT
-shape_of-book-then-dossier-le-SHORT c = c.read_and_take.auto.1.1.1.1.1.0
-
-pub shape_of-table-then-dossier-le-SHORT : goal.shape_of-table-then-dossier-le-SHORT
-shape_of-table-then-dossier-le-SHORT c = c.read_and_take.auto.1.1.1.1.1.1.0
-
 pub returns-then-dossier-le-SHORT : goal.returns-then-dossier-le-SHORT
 returns-then-dossier-le-SHORT c = c.read_and_take.ensures
 
@@ -40,12 +34,6 @@ slice_bounds-read_and_take-end-2 c = sym (length-replicate {A = ℕ} (most_updat
 pub read_and_take-requires-2 : goal.read_and_take-requires-2
 read_and_take-requires-2 c =
     record { counts_value = c.requires; holds_rows = λ n few l. made-room (n * body_wide) (most_updates * body_wide) (any-room n few) }
-
-pub shape_of-book : goal.shape_of-book
-shape_of-book c = c.read_and_take-2.auto.1.1.1.1.1.0
-
-pub shape_of-table : goal.shape_of-table
-shape_of-table c = c.read_and_take-2.auto.1.1.1.1.1.1.0
 
 pub returns : goal.returns
 returns c = c.read_and_take-2.ensures

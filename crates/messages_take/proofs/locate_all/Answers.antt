@@ -15,7 +15,7 @@ loop-k-init c =
 
 pub find-f-requires : goal.find-f-requires
 find-f-requires c =
-    ((c.requires.row_wide_in_bounds.0, omega arith), c.requires.table_value)
+    record { row_wide_in_bounds = (c.requires.row_wide_in_bounds.0, omega arith); table_value = c.requires.table_value }
 
 pub loop-k-preserved-in-At : goal.loop-k-preserved-in-At
 loop-k-preserved-in-At c =

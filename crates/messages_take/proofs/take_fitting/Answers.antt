@@ -19,7 +19,7 @@ returns-then-count-updates c =
     let a = c.args in
     let took = c.take_all in
     let fit = all_fit a.bodies.now a.table.now a.count a.updates a.most c.if-count-updates.true in
-    let t = fits-yes a.count a.most (after a.bodies.now (rows_of row_wide a.count a.table.now) a.updates) a.table.now true fit refl took.result _ took.ensures in record { value = t.0; table_after = t.1 }
+    let t = fits-yes a.count a.most (after a.bodies.now (rows_of row_wide a.count a.table.now) a.updates) a.table.now true fit refl took.result _ (took.ensures.value, took.ensures.table_after) in record { value = t.0; table_after = t.1 }
 
 pub returns : goal.returns
-returns c = c.take_tight.ensures
+returns c = record { value = c.take_tight.ensures.value; table_after = c.take_tight.ensures.table_after }

@@ -18,7 +18,8 @@ take_near-held-requires c =
     let there : l.k * body_wide + body_wide ≤ length a.bodies.now = omega arith in
     let room : length (after a.bodies.now (rows_of row_wide a.count a.table.now) (l.k + 1)) * row_wide ≤ length a.table.now =
     omega (arith, after-rises a.bodies.now (rows_of row_wide a.count a.table.now) (l.k + 1) a.updates (omega arith), c.requires.row_wide_in_bounds_2) in
-    taking-asked a.bodies.now a.table.now a.count c.requires.row_wide_in_bounds.0 l.k l.held l.table l.invariant.1 there room c.requires.table_value
+    let t = taking-asked a.bodies.now a.table.now a.count c.requires.row_wide_in_bounds.0 l.k l.held l.table l.invariant.1 there room c.requires.table_value in
+    record { row_wide_in_bounds = t.0; table_value = t.1.0; row_wide_in_bounds_2 = t.1.1 }
 
 pub loop-k-preserved : goal.loop-k-preserved
 loop-k-preserved c =

@@ -5,4 +5,4 @@ take_found-requires c =
     record { row_wide_in_bounds = c.requires.row_wide_in_bounds; found_value = c.find-f.ensures; row_wide_in_bounds_2 = c.requires.row_wide_in_bounds_2 }
 
 pub returns : goal.returns
-returns c = c.take_found.ensures
+returns c = record { value = c.take_found.ensures.value; table_after = c.take_found.ensures.table_after }

@@ -16,7 +16,7 @@ pub returns-then-fits_with : goal.returns-then-fits_with
 returns-then-fits_with c =
     let a = c.args in
     let took = c.take_placed in
-    let t = fits-yes a.count a.most (after a.bodies.now (rows_of row_wide a.count a.table.now) a.updates) a.table.now _ c.fits_with.ensures c.if-fits_with.true took.result _ took.ensures in record { value = t.0; table_after = t.1 }
+    let t = fits-yes a.count a.most (after a.bodies.now (rows_of row_wide a.count a.table.now) a.updates) a.table.now _ c.fits_with.ensures c.if-fits_with.true took.result _ (took.ensures.value, took.ensures.table_after) in record { value = t.0; table_after = t.1 }
 
 pub returns : goal.returns
 returns c =

@@ -16,12 +16,6 @@ use Rattle.opening.proofs.AreaLaws.{most-within, few-joined, pairs-few}
 use Rattle.opening.proofs.PairLaws.{pairs-short, pairs-read, wide-pairs}
 use Rattle.opening.proofs.join_all.Goals as goal
 
-pub book_room-room-requires : goal.book_room-room-requires
-book_room-room-requires c = tt
-
-pub fewer-most-requires : goal.fewer-most-requires
-fewer-most-requires c = tt
-
 pub join-pairs-requires : goal.join-pairs-requires
 join-pairs-requires c =
     let room : ℕ = book_room c.args.book.now / plan_wide in
@@ -32,9 +26,6 @@ join-pairs-requires c =
     let l = w.0 in
     let m = (room_within c.args.book.now).1 in
     (c.requires.0, c.requires.1, w.1, omega arith)
-
-pub unchanged-requires : goal.unchanged-requires
-unchanged-requires c = tt
 
 pub returns-then-most-pairs : goal.returns-then-most-pairs
 returns-then-most-pairs c =
@@ -56,7 +47,7 @@ sort_and_write-requires c =
     let few : (c.fewer-most.result ≤ room) × (c.fewer-most.result * body_wide ≤ long) = subst (λ (m : ℕ). (m ≤ room) × (m * body_wide ≤ long)) (sym most-is) (most-within room long) in
     let w = few in
     let k = few-joined c.join-pairs.result c.fewer-most.result (book_room c.args.book.now) long c.if-most-pairs.false w.1 w.0 in
-    (room_for _ long c.join-pairs.new.out c.join-pairs.auto.1.1.1.1.0 k.0, k.1)
+    (room_for _ long c.join-pairs.new.out (omega arith) k.0, k.1)
 
 pub returns : goal.returns
 returns c =

@@ -25,12 +25,6 @@ join_all-requires c =
     let q = c.args.times * c.args.days in
     (c.requires.0, c.requires.1, inl (made-room (q * body_wide) (few_pairs * body_wide) (few-fit q c.if-times-days-le-FEW_PAIRS.true)))
 
-pub shape_of-book-then-times-days-le-FEW_PAIRS : goal.shape_of-book-then-times-days-le-FEW_PAIRS
-shape_of-book-then-times-days-le-FEW_PAIRS c = c.join_all.auto.1.1.1.1.1.0
-
-pub shape_of-table-then-times-days-le-FEW_PAIRS : goal.shape_of-table-then-times-days-le-FEW_PAIRS
-shape_of-table-then-times-days-le-FEW_PAIRS c = c.join_all.auto.1.1.1.1.1.1.0
-
 pub returns-then-times-days-le-FEW_PAIRS : goal.returns-then-times-days-le-FEW_PAIRS
 returns-then-times-days-le-FEW_PAIRS c = c.join_all.ensures
 
@@ -41,12 +35,6 @@ slice_bounds-join_all-end-2 c = sym (length-replicate {A = ℕ} (most_plans * bo
 pub join_all-requires-2 : goal.join_all-requires-2
 join_all-requires-2 c =
     (c.requires.0, c.requires.1, inr (made-room (most_plans * body_wide) (most_plans * body_wide) (le_refl (most_plans * body_wide))))
-
-pub shape_of-book : goal.shape_of-book
-shape_of-book c = c.join_all-2.auto.1.1.1.1.1.0
-
-pub shape_of-table : goal.shape_of-table
-shape_of-table c = c.join_all-2.auto.1.1.1.1.1.1.0
 
 pub returns : goal.returns
 returns c = c.join_all-2.ensures

@@ -31,12 +31,6 @@ open_by-requires c =
     let small-validities : HoldsValidities c.args.calendar.now (few_validities * validity_wide) = λ n e. let h = (both-within (length c.args.planning.now) _ (length c.args.calendar.now) _ c.if-planning-calendar.true).1 in let f = (calendar-few c.args.calendar.now n e).0 in omega arith in
     record { holds_passes = (λ n e. made-room (n * pass_wide) (few_passes * pass_wide) (small-passes n e)); holds_validities = (λ n e. made-room (n * validity_wide) (few_validities * validity_wide) (small-validities n e)) }
 
-pub shape_of-book-then-planning-calendar : goal.shape_of-book-then-planning-calendar
-shape_of-book-then-planning-calendar c = c.open_by.auto.1.1.1.1.0
-
-pub shape_of-table-then-planning-calendar : goal.shape_of-table-then-planning-calendar
-shape_of-table-then-planning-calendar c = c.open_by.auto.1.1.1.1.1.0
-
 pub returns-then-planning-calendar : goal.returns-then-planning-calendar
 returns-then-planning-calendar c =
     let a = c.args in
@@ -53,12 +47,6 @@ pub open_by-requires-2 : goal.open_by-requires-2
 open_by-requires-2 c =
     let a = c.args in
     record { holds_passes = (λ n e. made-room (n * pass_wide) (most_passes * pass_wide) (all-passes a.planning.now n e)); holds_validities = (λ n e. made-room (n * validity_wide) (most_validities * validity_wide) (all-validities a.calendar.now n e)) }
-
-pub shape_of-book : goal.shape_of-book
-shape_of-book c = c.open_by-2.auto.1.1.1.1.0
-
-pub shape_of-table : goal.shape_of-table
-shape_of-table c = c.open_by-2.auto.1.1.1.1.1.0
 
 pub returns : goal.returns
 returns c =

@@ -2,6 +2,7 @@
 use mathlib.Core.Path.{◌≡◌, sym, ap, ◌∙◌}
 use mathlib.Core.List.{[]}
 use Prim.Native.Nat.{◌*◌, ◌≤◌}
+use native.Mathlib.Omega.{arith}
 use lib.ListN.{length}
 use Rattle.lists.proofs.AreaLaws.{room_for}
 use Rattle.columns.specs.declared.Table.TheVariants as Tables
@@ -9,32 +10,27 @@ use Rattle.reader.specs.declared.Reading.TheVariants.{Rows}
 use Rattle.reader.specs.Rules.{reading_of}
 use Rattle.reader.specs.Passes.{pass_wide}
 use Rattle.reader.proofs.AnswerLaws.{planning-few}
-use Rattle.calls.specs.declared.Next.{Next}
 use Rattle.calls.specs.inner.Steps.{passed_of}
 use Rattle.calls.proofs.LeavesLaws.{passed_on}
 use Rattle.opening.proofs.StageLaws.{planning-refused, planning-taken}
 use Rattle.opening.proofs.open_by.Goals as goal
 
--- what comes of the planning
-goes : (p : goal.After-passed) (x : Next) → p.passed.result ≡ x → passed_of 1 (reading_of Tables.Planning [] 0 p.args.planning.now) ≡ x
-goes p x e = sym (p.passed.ensures ∙ ap (passed_of 1) p.read_planning-reading.ensures.answer) ∙ e
-
 pub read_and_join-requires : goal.read_and_join-requires
 read_and_join-requires c =
-    let rows : reading_of Tables.Planning [] 0 c.args.planning.now ≡ Rows c.in-On.times = passed_on 1 _ _ (goes c.before.before _ c.in-On.is) in
+    let rows : reading_of Tables.Planning [] 0 c.args.planning.now ≡ Rows c.in-On.times = passed_on 1 _ _ (sym (c.passed.ensures ∙ ap (passed_of 1) c.read_planning-reading.ensures.answer) ∙ c.in-On.is) in
     let fits : c.in-On.times * pass_wide ≤ length c.args.passes.now = c.requires.holds_passes _ rows in
     let r = c.read_planning-reading in
-    record { pass_wide_in_bounds = (room_for _ (length c.args.passes.now) r.last.1.0 r.kept.1.0 fits, (planning-few c.args.planning.now _ rows).1); holds_validities = c.requires.holds_validities }
+    record { pass_wide_in_bounds = (room_for _ (length c.args.passes.now) r.new.staging (omega arith) fits, (planning-few c.args.planning.now _ rows).1); holds_validities = c.requires.holds_validities }
 
 pub returns-in-On : goal.returns-in-On
 returns-in-On c =
-    let rows : reading_of Tables.Planning [] 0 c.args.planning.now ≡ Rows c.in-On.times = passed_on 1 _ _ (goes c.before.before _ c.in-On.is) in
+    let rows : reading_of Tables.Planning [] 0 c.args.planning.now ≡ Rows c.in-On.times = passed_on 1 _ _ (sym (c.passed.ensures ∙ ap (passed_of 1) c.read_planning-reading.ensures.answer) ∙ c.in-On.is) in
     let fits : c.in-On.times * pass_wide ≤ length c.args.passes.now = c.requires.holds_passes _ rows in
     let r = c.read_planning-reading in
     let a = c.args in
-    planning-taken a.planning.now a.calendar.now a.book.now a.table.now a.counts c.read_and_join.result c.read_and_join.new.book c.read_and_join.new.table a.passes.now r.last.1.0 c.in-On.times rows r.ensures.1.0 fits c.read_and_join.ensures
+    planning-taken a.planning.now a.calendar.now a.book.now a.table.now a.counts c.read_and_join.result c.read_and_join.new.book c.read_and_join.new.table a.passes.now r.new.staging c.in-On.times rows r.ensures.area fits c.read_and_join.ensures
 
 pub returns-in-Off : goal.returns-in-Off
 returns-in-Off c =
     let a = c.args in
-    planning-refused a.planning.now a.calendar.now a.book.now a.table.now a.counts _ (goes c.before.before.before.before _ c.in-Off.is) c.unchanged.result c.unchanged.ensures
+    planning-refused a.planning.now a.calendar.now a.book.now a.table.now a.counts _ (sym (c.passed.ensures ∙ ap (passed_of 1) c.read_planning-reading.ensures.answer) ∙ c.in-Off.is) c.unchanged.result c.unchanged.ensures

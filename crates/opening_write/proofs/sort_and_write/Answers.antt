@@ -50,20 +50,18 @@ write_plan-requires c =
     let few : c.args.count ≤ most_plans = let m = (room_within c.args.book.now).1 in omega arith in
     let all-places : length (js c.args.bodies.now c.args.count) ≡ c.args.count = sym c.sort_keys-distinct.ensures.value ∙ c.if-distinct-count.false in
     let k = c.sort_keys-distinct in
-    let l = k.kept.1.1.1.1.0 in
     let f = few in
     let m = (room_within c.args.book.now).0 in
-    record { plan_wide_in_bounds = (omega arith, c.requires.0, omega arith); each = places-each c.args.bodies.now c.args.count all-places _ _ k.ensures.1 f }
+    record { plan_wide_in_bounds = (omega arith, c.requires.0, omega arith); each = places-each c.args.bodies.now c.args.count all-places _ _ k.ensures.order_after f }
 
 pub write_rows-requires : goal.write_rows-requires
 write_rows-requires c =
     let few : c.args.count ≤ most_plans = let m = (room_within c.args.book.now).1 in omega arith in
     let all-places : length (js c.args.bodies.now c.args.count) ≡ c.args.count = sym c.sort_keys-distinct.ensures.value ∙ c.if-distinct-count.false in
     let k = c.sort_keys-distinct in
-    let l = k.kept.1.1.1.1.0 in
     let f = few in
     let m = room_fits c.args.table.now in
-    record { row_wide_in_bounds = (omega arith, c.requires.0, omega arith); each = places-each c.args.bodies.now c.args.count all-places _ _ k.ensures.1 f }
+    record { row_wide_in_bounds = (omega arith, c.requires.0, omega arith); each = places-each c.args.bodies.now c.args.count all-places _ _ k.ensures.order_after f }
 
 pub returns : goal.returns
 returns c =

@@ -14,24 +14,23 @@ use Rattle.opening_write.proofs.write_rows.Goals as goal
 pub loop-i-init : goal.loop-i-init
 loop-i-init c = (search rules, refl, write-start plan_row _ c.args.order.now _)
 
--- the place that is read
-abbrev Read : Type 0
-Read = tie.After-shared-slice-known3 invariant-loop decreases-loop
-
-abbrev started : Read → goal.Start
-started c = c.before.before.before.before.before.before
-
-below : (c : Read) → get_or (started c).args.order.now c.before.before.loop.i 0 < (started c).args.n
-below c = place-below (started c).args.n _ (started c).args.order.now (started c).requires.1 (started c).requires.0.2 (omega arith)
-
 pub overflow_cast-j : goal.overflow_cast-j
-overflow_cast-j c = let b = below c in search rules
+overflow_cast-j c =
+    let b : get_or c.args.order.now c.loop-i.i 0 < c.args.n =
+    place-below c.args.n c.loop-i.i c.args.order.now c.requires.each c.requires.row_wide_in_bounds.2 (omega arith) in
+    search rules
 
 pub overflow_mul-j : goal.overflow_mul-j
-overflow_mul-j c = let b = below c.before in search rules
+overflow_mul-j c =
+    let b : get_or c.args.order.now c.loop-i.i 0 < c.args.n =
+    place-below c.args.n c.loop-i.i c.args.order.now c.requires.each c.requires.row_wide_in_bounds.2 (omega arith) in
+    search rules
 
 pub write_row-requires : goal.write_row-requires
-write_row-requires c = let b = below c.before in (search rules, search rules)
+write_row-requires c =
+    let b : get_or c.args.order.now c.loop-i.i 0 < c.args.n =
+    place-below c.args.n c.loop-i.i c.args.order.now c.requires.each c.requires.row_wide_in_bounds.2 (omega arith) in
+    (omega arith, omega arith)
 
 pub loop-i-preserved : goal.loop-i-preserved
 loop-i-preserved c =

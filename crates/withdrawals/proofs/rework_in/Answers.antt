@@ -9,7 +9,7 @@ use Rattle.withdrawals.proofs.rework_in.Goals as goal
 pub work_out-named-requires : goal.work_out-named-requires
 work_out-named-requires c =
     let a = c.args in
-    ((sound-parts a.book.now a.table.now a.counts c.requires.counts_value).0, (c.requires.message_at.within, c.requires.count_in_bounds.0, c.requires.count_in_bounds.1))
+    record { book_value = (sound-parts a.book.now a.table.now a.counts c.requires.counts_value).0; entry_wide_bound = (c.requires.message_at.within, c.requires.count_in_bounds.0, c.requires.count_in_bounds.1) }
 
 pub fits_after-requires : goal.fits_after-requires
 fits_after-requires c =
@@ -41,7 +41,7 @@ settle-settled-requires c =
     let a = c.args in
     let x = worked in
     let k = names-most x in
-    ((sound-fits a.counts.rows a.table.now x.tables, omega arith, rows_fit x (room-there x (sym c.fits_after.ensures ∙ c.if-fits_after.true))), sound-sorted a.counts.rows a.table.now x.tables)
+    record { row_wide_in_bounds = (sound-fits a.counts.rows a.table.now x.tables, omega arith, rows_fit x (room-there x (sym c.fits_after.ensures ∙ c.if-fits_after.true))); table_value = sound-sorted a.counts.rows a.table.now x.tables }
 
 pub mark_withdrawn-requires : goal.mark_withdrawn-requires
 mark_withdrawn-requires c =

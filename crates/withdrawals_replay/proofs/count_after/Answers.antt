@@ -12,7 +12,7 @@ loop-i-init c =
 
 pub weigh-w-requires : goal.weigh-w-requires
 weigh-w-requires c =
-    ((c.requires.row_wide_in_bounds.0, omega arith), c.requires.table_value)
+    record { row_wide_in_bounds = (c.requires.row_wide_in_bounds.0, omega arith); table_value = c.requires.table_value }
 
 pub overflow_add-sum : goal.overflow_add-sum
 overflow_add-sum c =

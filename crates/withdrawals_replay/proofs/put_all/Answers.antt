@@ -24,7 +24,7 @@ put_one-held-requires c =
     let loop = c.loop-i in
     let rs = puts (slots_of loop.i a.slots.now) (rows a.count a.table.now) in
     let h = loop.invariant.1 in
-    ((holds_fits a.count a.table.now loop.held loop.table rs h, there, put-room a.count a.table.now a.slots.now loop.i loop.held loop.table h there space), holds-sorted a.count a.table.now loop.held loop.table rs h)
+    record { row_wide_in_bounds = (holds_fits a.count a.table.now loop.held loop.table rs h, there, put-room a.count a.table.now a.slots.now loop.i loop.held loop.table h there space); table_value = holds-sorted a.count a.table.now loop.held loop.table rs h }
 
 pub loop-i-preserved : goal.loop-i-preserved
 loop-i-preserved c =

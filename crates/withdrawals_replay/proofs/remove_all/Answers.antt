@@ -19,7 +19,7 @@ remove_one-held-requires c =
     let loop = c.loop-i in
     let rs = removals (slots_of loop.i a.slots.now) (rows a.count a.table.now) in
     let h = loop.invariant.1.0 in
-    ((holds_fits a.count a.table.now loop.held loop.table rs h, omega arith), holds-sorted a.count a.table.now loop.held loop.table rs h)
+    record { row_wide_in_bounds = (holds_fits a.count a.table.now loop.held loop.table rs h, omega arith); table_value = holds-sorted a.count a.table.now loop.held loop.table rs h }
 
 pub loop-i-preserved : goal.loop-i-preserved
 loop-i-preserved c =

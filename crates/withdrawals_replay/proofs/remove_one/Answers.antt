@@ -8,9 +8,15 @@ use Rattle.withdrawals_replay.proofs.remove_one.Goals as goal
 pub returns-then-slots-at-eq1 : goal.returns-then-slots-at-eq1
 returns-then-slots-at-eq1 c =
     let a = c.args in
-    rw (has_one a.at a.slots.now c.if-slots-at-eq1.true) (record { value = sym (length-rows_of row_wide a.count a.table.now); table_after = sym (store_same row_wide a.count a.table.now) })
+    record {
+      value = rw (has_one a.at a.slots.now c.if-slots-at-eq1.true) (sym (length-rows_of row_wide a.count a.table.now));
+      table_after = rw (has_one a.at a.slots.now c.if-slots-at-eq1.true) (sym (store_same row_wide a.count a.table.now));
+    }
 
 pub returns : goal.returns
 returns c =
     let a = c.args in
-    let t = rw (has-none a.at a.slots.now c.if-slots-at-eq1.false, key-lies a.at a.slots.now) c.remove_key.ensures in record { value = t.0; table_after = t.1 }
+    record {
+      value = rw (has-none a.at a.slots.now c.if-slots-at-eq1.false, key-lies a.at a.slots.now) c.remove_key.ensures.value;
+      table_after = rw (has-none a.at a.slots.now c.if-slots-at-eq1.false, key-lies a.at a.slots.now) c.remove_key.ensures.table_after;
+    }

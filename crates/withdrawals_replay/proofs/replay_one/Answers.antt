@@ -16,7 +16,7 @@ returns-then-own-number c =
 
 pub take_update-requires : goal.take_update-requires
 take_update-requires c =
-    let t = ((omega arith, c.requires.entry_wide_in_bounds.1, c.requires.entry_wide_in_bounds.2, c.requires.entry_wide_in_bounds.3), c.requires.1) in record { body_wide_in_bounds = t.0; each = t.1.0; order_value = t.1.1.0; slots_value = t.1.1.1 }
+    record { body_wide_in_bounds = (omega arith, c.requires.entry_wide_in_bounds.1, c.requires.entry_wide_in_bounds.2, c.requires.entry_wide_in_bounds.3); each = c.requires.each; order_value = c.requires.order_value; slots_value = c.requires.slots_value }
 
 pub returns : goal.returns
 returns c =

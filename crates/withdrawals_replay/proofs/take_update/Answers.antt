@@ -6,7 +6,7 @@ use Rattle.withdrawals_replay.proofs.take_update.Goals as goal
 
 pub find_place-f-requires : goal.find_place-f-requires
 find_place-f-requires c =
-    ((omega arith, c.requires.body_wide_in_bounds.1, c.requires.body_wide_in_bounds.2, omega arith), (c.requires.each, c.requires.order_value))
+    record { key_wide_bound = (omega arith, c.requires.body_wide_in_bounds.1, c.requires.body_wide_in_bounds.2, omega arith); each = c.requires.each; order_value = c.requires.order_value }
 
 pub overflow_mul-i : goal.overflow_mul-i
 overflow_mul-i c =
