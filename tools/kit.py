@@ -55,6 +55,19 @@ def words(room):
     return [*said, "--links", room + "=", *logic(), *(["--crate-type", "staticlib"] if room in static else [])]
 
 
+def toolchain_in(folder, script):
+    """The kit's toolchain by links, with a script in place of its clang."""
+    for below, _, files in os.walk(KIT + "/toolchain"):
+        to = folder + below[len(KIT + "/toolchain"):]
+        os.makedirs(to)
+        for file in files:
+            if file != "clang":
+                os.symlink(os.path.join(below, file), os.path.join(to, file))
+    with open(folder + "/bin/clang", "w", encoding="utf-8") as file:
+        file.write(script)
+    os.chmod(folder + "/bin/clang", 0o755)
+
+
 def sources_sum(room):
     """A sum of all that a room is made from: the kit, and the sources of the room and of those below it."""
     told = hashlib.sha256(text_of(KIT + "/KIT-ID").encode())
