@@ -7,5 +7,5 @@ use Rattle.feeds.proofs.feed_in.Goals as goal
 pub returns : goal.returns
 unfolding feed_of
 returns c =
-    let k = c.args.t1 in
+    let k = c.args.kept in
     ap (feed_at k c.machine_at-machine.result) c.lines_in-lines.ensures ∙ ap (λ (m : Machine.State). feed_at k m (lines_of k)) c.machine_at-machine.ensures

@@ -16,10 +16,10 @@ pub loop-i-preserved : goal.loop-i-preserved
 loop-i-preserved c =
     let l = c.loop-i in
     let a = c.args in
-    (omega arith, simp length-set l.invariant.1, l.invariant.2, copy-turn 18 l.i a.t2 a.kept.now l.auto l.invariant.3 (omega arith))
+    (omega arith, simp length-set l.invariant.1, l.invariant.2, copy-turn 18 l.i a.places a.kept.now l.auto l.invariant.3 (omega arith))
 
 pub returns : goal.returns
 returns c =
     let l = c.loop-i in
     let a = c.args in
-    record { kept = l.invariant.3 ∙ ap (λ (b : List ℕ). over 18 b a.kept.now) (take_all l.i a.t2 (omega arith)); room = l.invariant.2 }
+    record { kept = l.invariant.3 ∙ ap (λ (b : List ℕ). over 18 b a.kept.now) (take_all l.i a.places (omega arith)); room = l.invariant.2 }

@@ -11,7 +11,7 @@ use Rattle.feeds.proofs.lines_in.Goals as goal
 pub returns : goal.returns
 unfolding lines_of
 returns c =
-    let k = c.args.t1 in
+    let k = c.args.kept in
     ap (lines_at k)
     (c.restored-shape.ensures
     ∙ ap (λ (t : Table). shape_at t (get_or k 16 0) (get_or k 17 0) c.places_in-places.result) c.message_of-table.ensures

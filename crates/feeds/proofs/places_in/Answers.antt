@@ -11,9 +11,9 @@ pub loop-i-preserved : goal.loop-i-preserved
 loop-i-preserved c =
     let l = c.loop-i in
     let a = c.args in
-    (omega arith, l.invariant.1, simp length-set l.invariant.2, places-turn l.i a.t1 l.places l.invariant.3 (omega arith))
+    (omega arith, l.invariant.1, simp length-set l.invariant.2, places-turn l.i a.kept l.places l.invariant.3 (omega arith))
 
 pub returns : goal.returns
 returns c =
     let l = c.loop-i in
-    places-done l.i c.args.t1 l.places l.invariant.3 l.invariant.0 c.loop-i-test.false l.invariant.1
+    places-done l.i c.args.kept l.places l.invariant.3 l.invariant.0 c.loop-i-test.false l.invariant.1
