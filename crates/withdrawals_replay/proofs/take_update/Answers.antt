@@ -25,10 +25,13 @@ take_into-requires c =
 pub returns-in-At : goal.returns-in-At
 returns-in-At c =
     let a = c.args in
-    let found = sym c.in-At.is ∙ c.find_place-f.ensures in let t = (
-      update-taken a.named a.from a.book.now a.slots.now _ c.requires.body_wide_in_bounds.3 c.requires.body_wide_in_bounds.0 c.requires.order_value c.requires.slots_value _ _ found c.take_into.ensures,
-      update-rest a.named a.from a.book.now a.slots.now _ c.requires.body_wide_in_bounds.3 c.requires.body_wide_in_bounds.0 c.requires.order_value c.requires.slots_value _ _ found c.take_into.ensures,
-    ) in record { taken = t.0; rest = t.1 }
+    let found = sym c.in-At.is ∙ c.find_place-f.ensures in
+    record {
+      taken =
+          update-taken a.named a.from a.book.now a.slots.now _ c.requires.body_wide_in_bounds.3 c.requires.body_wide_in_bounds.0 c.requires.order_value c.requires.slots_value _ _ found c.take_into.ensures;
+      rest =
+          update-rest a.named a.from a.book.now a.slots.now _ c.requires.body_wide_in_bounds.3 c.requires.body_wide_in_bounds.0 c.requires.order_value c.requires.slots_value _ _ found c.take_into.ensures;
+    }
 
 pub returns-in-Missing : goal.returns-in-Missing
 returns-in-Missing c =
