@@ -1,4 +1,4 @@
 use Rattle.reader.proofs.read_calendar.Goals as goal
 
 pub returns : goal.returns
-returns c = c.read.ensures
+returns c = let t = c.read.ensures in record { answer = t.answer; area = t.area; numbers = t.numbers }

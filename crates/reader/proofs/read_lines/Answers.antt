@@ -31,7 +31,7 @@ pub loop-rest-smaller : goal.loop-rest-smaller
 loop-rest-smaller c = let k = c.loop-rest in omega (arith, ap length c.read_line-next.ensures.tail, after-line-shorter k.rest.now c.loop-rest-test.true)
 
 pub loop-rest-preserved : goal.loop-rest-preserved
-loop-rest-preserved c = let g = ( let k = c.loop-rest in let n = c.line_step-state in let r = c.read_line-next in going_on c.args.table c.args.register.now c.args.sender c.args.dossier.now c.args.staging.now k.state k.rest.now k.staging k.invariant.0 c.loop-rest-test.true r.new.size r.ensures.size c.if-size-gt4094.false (take r.new.size k.rest.now) (upto_is 13 r.new.size k.rest.now r.ensures.size) r.result.now r.ensures.tail n.result n.ensures.state n.new.staging n.ensures.area (line_reads c.args.table c.args.register.now c.args.sender (take r.new.size k.rest.now)) (line-fronts c.args.table (take r.new.size k.rest.now)) c.if-state-ne0.false) in let n = c.line_step-state in let r = c.read_line-next in (g, going-length c.args.table c.args.register.now c.args.sender c.args.dossier.now c.args.staging.now n.result r.result.now n.new.staging g)
+loop-rest-preserved c = let g = (let k = c.loop-rest in let n = c.line_step-state in let r = c.read_line-next in going_on c.args.table c.args.register.now c.args.sender c.args.dossier.now c.args.staging.now k.state k.rest.now k.staging k.invariant.0 c.loop-rest-test.true r.new.size r.ensures.size c.if-size-gt4094.false (take r.new.size k.rest.now) (upto_is 13 r.new.size k.rest.now r.ensures.size) r.result.now r.ensures.tail n.result n.ensures.state n.new.staging n.ensures.area (line_reads c.args.table c.args.register.now c.args.sender (take r.new.size k.rest.now)) (line-fronts c.args.table (take r.new.size k.rest.now)) c.if-state-ne0.false) in let n = c.line_step-state in let r = c.read_line-next in (g, going-length c.args.table c.args.register.now c.args.sender c.args.dossier.now c.args.staging.now n.result r.result.now n.new.staging g)
 
 pub returns : goal.returns
 returns c = let k = c.loop-rest in let r = going_done c.args.table c.args.register.now c.args.sender c.args.dossier.now c.args.staging.now k.state k.rest.now k.staging k.invariant.0 c.loop-rest-test.false in record { answer = c.settle.ensures ∙ r.0; area = r.1 }
