@@ -23,7 +23,7 @@ row_in_range-good-requires c =
     common-now row_wide 0 s.count 0 s.table.now c.loop-i.i c.loop-i-test.true (omega arith) c.loop-i.invariant.2 in
     let i = c.loop-i.i in
     let e : 0 + i * row_wide + 0 ≡ i * row_wide = omega arith in
-    (search rules, rw e at common.0)
+    record { row_wide_in_bounds = search rules; bytes_value = rw e at common.0 }
 
 pub loop-i-preserved : goal.loop-i-preserved
 loop-i-preserved c =

@@ -16,21 +16,21 @@ use Rattle.table.proofs.remove_key.Goals as goal
 pub remove_row-requires : goal.remove_row-requires
 remove_row-requires c =
     let key : List ℕ = part c.args.from key_wide c.args.key.now in
-    let found : lookup (key c) (rows c.args.count c.args.table.now) ≡ At c.in-At.i = sym c.find-f.ensures ∙ c.in-At.is in
+    let found : lookup key (rows c.args.count c.args.table.now) ≡ At c.in-At.i = sym c.find-f.ensures ∙ c.in-At.is in
     let below : c.in-At.i < c.args.count = found_below row_wide c.args.count _ key c.args.table.now found in
     (below, c.requires.row_wide_in_bounds.0)
 
 pub overflow_sub-result : goal.overflow_sub-result
 overflow_sub-result c =
     let key : List ℕ = part c.args.from key_wide c.args.key.now in
-    let found : lookup (key c) (rows c.args.count c.args.table.now) ≡ At c.in-At.i = sym c.find-f.ensures ∙ c.in-At.is in
+    let found : lookup key (rows c.args.count c.args.table.now) ≡ At c.in-At.i = sym c.find-f.ensures ∙ c.in-At.is in
     let below : c.in-At.i < c.args.count = found_below row_wide c.args.count _ key c.args.table.now found in
     omega (arith, below)
 
 pub returns-in-At : goal.returns-in-At
 returns-in-At c =
     let key : List ℕ = part c.args.from key_wide c.args.key.now in
-    let found : lookup (key c) (rows c.args.count c.args.table.now) ≡ At c.in-At.i = sym c.find-f.ensures ∙ c.in-At.is in
+    let found : lookup key (rows c.args.count c.args.table.now) ≡ At c.in-At.i = sym c.find-f.ensures ∙ c.in-At.is in
     let below : c.in-At.i < c.args.count = found_below row_wide c.args.count _ key c.args.table.now found in
     let e = remove-at key (rows c.args.count c.args.table.now) _ found in
     record { value = rw e (sym (length-remove_at row_wide c.args.count _ c.args.table.now c.requires.row_wide_in_bounds.0 below)); table_after = rw e c.remove_row.ensures }

@@ -18,7 +18,7 @@ pub all_in_range-good-requires : goal.all_in_range-good-requires
 all_in_range-good-requires c =
     let within : c.args.count ≤ table_room c.args.table.now = rw (← c.rows_room-most.ensures) c.if-most-count.false in
     let s = c.args in
-    (room-holds s.count s.table.now within, sym c.all_common-common.ensures ∙ c.if-common.true)
+    record { row_wide_in_bounds = room-holds s.count s.table.now within; table_value = sym c.all_common-common.ensures ∙ c.if-common.true }
 
 pub keys_rise-requires : goal.keys_rise-requires
 keys_rise-requires c =
