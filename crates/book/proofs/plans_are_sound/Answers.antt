@@ -7,7 +7,7 @@ pub all_common-common-requires : goal.all_common-common-requires
 all_common-common-requires c = (omega arith, omega arith)
 
 pub plans_in_range-good-requires : goal.plans_in_range-good-requires
-plans_in_range-good-requires c = (omega arith, sym c.all_common-common.ensures ∙ c.if-common.true)
+plans_in_range-good-requires c = record { plan_wide_in_bounds = omega arith; book_value = sym c.all_common-common.ensures ∙ c.if-common.true }
 
 pub keys_rise-requires : goal.keys_rise-requires
 keys_rise-requires c = (omega arith, omega arith)

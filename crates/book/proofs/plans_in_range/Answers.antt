@@ -26,7 +26,7 @@ plan_in_range-good-requires c =
     common-now plan_wide 1 a.plans 0 a.book.now c.loop-i.i c.loop-i-test.true (omega arith) c.loop-i.invariant.2 in
     let i = c.loop-i.i in
     let e : 0 + i * plan_wide + 1 ≡ i * plan_wide + 1 = omega arith in
-    (search rules, rw e at common.0)
+    record { body_wide_in_bounds = search rules; bytes_value = rw e at common.0 }
 
 pub loop-i-preserved : goal.loop-i-preserved
 loop-i-preserved c =
