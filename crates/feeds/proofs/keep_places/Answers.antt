@@ -16,7 +16,7 @@ pub loop-i-preserved : goal.loop-i-preserved
 loop-i-preserved c =
     let l = c.loop-i in
     let a = c.args in
-    (omega arith, simp length-set l.invariant.1, l.invariant.2, copy-turn 18 l.i a.places a.kept.now l.auto l.invariant.3 (omega arith))
+    (omega arith, simp length-set l.invariant.1, l.invariant.2, copy-turn 18 l.i a.places a.kept.now l.kept l.invariant.3 (omega arith))
 
 pub returns : goal.returns
 returns c =

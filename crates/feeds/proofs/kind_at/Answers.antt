@@ -1,4 +1,3 @@
-use borrow.Author.Tests.{ne_eqb}
 use Rattle.feeds.proofs.kind_at.Goals as goal
 
 pub returns-in-0 : goal.returns-in-0
@@ -9,6 +8,3 @@ returns-in-1 c = rw c.in-1.is
 
 pub returns-in-2 : goal.returns-in-2
 returns-in-2 c = rw c.in-2.is
-
-pub returns-in_default : goal.returns-in_default
-returns-in_default c = let r = c.in_default.in_default-own.rest in rw (ne_eqb _ 0 r.0.0.1, ne_eqb _ 1 r.0.1, ne_eqb _ 2 r.1)

@@ -1,4 +1,3 @@
-use borrow.Author.Tests.{ne_eqb}
 use Rattle.feeds.proofs.state_at.Goals as goal
 
 pub returns-in-0 : goal.returns-in-0
@@ -21,8 +20,3 @@ returns-in-5 c = rw c.in-5.is
 
 pub returns-in-6 : goal.returns-in-6
 returns-in-6 c = rw c.in-6.is
-
-pub returns-in_default : goal.returns-in_default
-returns-in_default c =
-    let r = c.in_default.in_default-own.rest in
-    rw (ne_eqb _ 0 r.0.0.0.0.0.0.1, ne_eqb _ 1 r.0.0.0.0.0.1, ne_eqb _ 2 r.0.0.0.0.1, ne_eqb _ 3 r.0.0.0.1, ne_eqb _ 4 r.0.0.1, ne_eqb _ 5 r.0.1, ne_eqb _ 6 r.1)

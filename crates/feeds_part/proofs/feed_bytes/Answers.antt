@@ -13,7 +13,7 @@ pub slice_bounds-feed_lines-end : goal.slice_bounds-feed_lines-end
 slice_bounds-feed_lines-end c = let a = c.args in let o = c.open_for-open in let part = a.part.now in let q = opened (length part) a.feed o.result o.ensures in sym (length-take-le _ part q.most)
 
 pub feed_lines-f-requires : goal.feed_lines-f-requires
-feed_lines-f-requires c = let a = c.args in let o = c.open_for-open in let part = a.part.now in let q = opened (length part) a.feed o.result o.ensures in ((c.requires.0, c.requires.1), (sym c.scan.ensures ∙ c.in-To.is, front-room part a.feed o.result q o.result (omega arith)))
+feed_lines-f-requires c = let a = c.args in let o = c.open_for-open in let part = a.part.now in let q = opened (length part) a.feed o.result o.ensures in record { fits = (c.requires.0, c.requires.1); taken = (sym c.scan.ensures ∙ c.in-To.is, front-room part a.feed o.result q o.result (omega arith)) }
 
 pub overflow_sub-part : goal.overflow_sub-part
 overflow_sub-part c = let a = c.args in let o = c.open_for-open in let part = a.part.now in let q = opened (length part) a.feed o.result o.ensures in omega (arith, q.most)
@@ -31,7 +31,7 @@ pub slice_bounds-feed_lines-end-in-Stuck : goal.slice_bounds-feed_lines-end-in-S
 slice_bounds-feed_lines-end-in-Stuck c = let a = c.args in let o = c.open_for-open in let part = a.part.now in let q = opened (length part) a.feed o.result o.ensures in sym (length-take-le _ part (omega (arith, q.most, stuck-within part a.feed o.result q c.in-Stuck.j (sym c.scan.ensures ∙ c.in-Stuck.is))))
 
 pub feed_lines-f-requires-in-Stuck : goal.feed_lines-f-requires-in-Stuck
-feed_lines-f-requires-in-Stuck c = let a = c.args in let o = c.open_for-open in let part = a.part.now in let q = opened (length part) a.feed o.result o.ensures in ((c.requires.0, c.requires.1), (c.state_behind-m.ensures, front-room part a.feed o.result q c.in-Stuck.j (omega (arith, stuck-within part a.feed o.result q c.in-Stuck.j (sym c.scan.ensures ∙ c.in-Stuck.is)))))
+feed_lines-f-requires-in-Stuck c = let a = c.args in let o = c.open_for-open in let part = a.part.now in let q = opened (length part) a.feed o.result o.ensures in record { fits = (c.requires.0, c.requires.1); taken = (c.state_behind-m.ensures, front-room part a.feed o.result q c.in-Stuck.j (omega (arith, stuck-within part a.feed o.result q c.in-Stuck.j (sym c.scan.ensures ∙ c.in-Stuck.is)))) }
 
 pub at_fault-requires : goal.at_fault-requires
 at_fault-requires c = let a = c.args in let o = c.open_for-open in let part = a.part.now in let q = opened (length part) a.feed o.result o.ensures in let f = c.feed_lines-f-in-Stuck in let m = c.state_behind-m in stuck_at part a.feed o.result q c.in-Stuck.j (sym c.scan.ensures ∙ c.in-Stuck.is) a.register.now (lent a.feed a.line.now a.staging.now) m.result m.ensures f.result f.new.line f.new.staging f.ensures.is f.ensures.counted.0 f.ensures.counted.1 f.ensures.counted.2

@@ -32,9 +32,9 @@ loop-n-preserved c = let a = c.args in let k = c.loop-n in let i = k.invariant i
     let g = c.line_ended-f in (
       left-turn a.register.now (fed a.register.now (lent a.feed a.line.now a.staging.now) a.bytes.now) a.machine (a.feed.at + length a.bytes.now) a.feed.fault k.f k.line k.staging k.rest.now i.0
           k.n (take k.n k.rest.now) (take (length k.rest.now - (k.n + 1)) (drop (k.n + 1) k.rest.now)) i.1 c.loop-n-test.true (upto_is 10 k.n k.rest.now i.1) (rest-is 10 k.n k.rest.now i.1)
-          g.result g.new.line g.new.staging g.ensures (g.auto.1.1.1.1.0 ∙ i.0.room),
+          g.result g.new.line g.new.staging g.ensures (g.auto.line ∙ i.0.room),
       c.line_feed-n-in-loop-n.ensures.is,
-      g.auto.1.1.1.0 ∙ i.2,
+      g.auto.staging ∙ i.2,
     )
 
 pub hold_bytes-requires : goal.hold_bytes-requires
@@ -47,7 +47,7 @@ pub shape_of-staging : goal.shape_of-staging
 shape_of-staging c = let a = c.args in let k = c.loop-n in let i = k.invariant in i.2
 
 pub shape_of-line : goal.shape_of-line
-shape_of-line c = let a = c.args in let k = c.loop-n in let i = k.invariant in c.hold_bytes.auto.0 ∙ i.0.room ∙ sym c.requires.fits.0
+shape_of-line c = let a = c.args in let k = c.loop-n in let i = k.invariant in c.hold_bytes.auto.line ∙ i.0.room ∙ sym c.requires.fits.0
 
 pub returns : goal.returns
 returns c = let a = c.args in let k = c.loop-n in let i = k.invariant in

@@ -23,7 +23,7 @@ loop-i-preserved c =
     let j = c.join_one-k in
     let g =
     plan-turn a.passes.now a.validities.now a.times a.days a.most a.out.now c.requires.0 c.requires.1 l.out l.k l.i l.invariant.3 c.loop-i-test.true j.result j.new.out j.ensures.count j.ensures.bodies c.if-most-k.false in
-    (j.auto.1.1.1.1.0 ∙ l.invariant.0, g.within, g.few, g)
+    (j.auto.out ∙ l.invariant.0, g.within, g.few, g)
 
 pub returns : goal.returns
 returns c =

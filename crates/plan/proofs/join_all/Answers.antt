@@ -35,7 +35,7 @@ loop-j-preserved c =
     let l = c.loop-j in
     let w = c.write_body in
     let g = join-turn (part a.pass pass_wide a.passes.now) a.validities.now a.days (length_part a.pass pass_wide a.passes.now c.requires.1) c.requires.2 a.held a.most a.out.now a.shared.now c.requires.0 l.out l.m l.j l.invariant.3 w.new.out c.next_with-j-in-loop-j.result (omega arith) (omega arith) w.ensures c.next_with-j-in-loop-j.ensures in
-    (w.auto.0 ∙ l.invariant.0, g.reached.within, g.few, g)
+    (w.auto.out ∙ l.invariant.0, g.reached.within, g.few, g)
 
 pub returns : goal.returns
 returns c =
