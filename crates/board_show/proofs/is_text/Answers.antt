@@ -1,5 +1,4 @@
 use mathlib.Core.Path.{refl, sym, ◌∙◌}
-use Prim.Native.Nat.{◌-◌}
 use Rattle.lists.proofs.LogicLaws.{in-range, below-range, above-range}
 use Rattle.board_show.proofs.AskLaws.{text-none, text-long, text-other, text-is, rest-stop, rest-step, rest_end}
 use borrow.Author.Rules.{rules}
