@@ -45,8 +45,10 @@ returns c =
     let staged : area ≡ line_staged (message_of a.feed) a.register.now a.feed.sender a.feed.lines l a.staging.now =
     n.ensures.area ∙ ap (λ (t : Table). line_staged t a.register.now a.feed.sender a.feed.lines l a.staging.now) m.ensures in
     let more : c.staged_after-more.result ≡ on (rows_stay (message_of a.feed) a.feed.lines.rows n.result.rows a.feed.staged (length area)) (a.feed.staged + 1) a.feed.staged =
-    c.staged_after-more.ensures ∙ ap (λ (t : Table). on (rows_stay t a.feed.lines.rows n.result.rows a.feed.staged (length area)) (a.feed.staged + 1) a.feed.staged) m.ensures in let t = (
-      line-on a.register.now l a.feed a.staging.now area n.result step staged c.staged_after-more.result more c.end_line.result c.end_line.ensures
-          ∙ ap (λ (k : List ℕ). line_on a.register.now k a.feed a.staging.now) q,
-      staged ∙ ap (λ (k : List ℕ). line_staged (message_of a.feed) a.register.now a.feed.sender a.feed.lines k a.staging.now) q,
-    ) in record { feed = t.0; area = t.1 }
+    c.staged_after-more.ensures ∙ ap (λ (t : Table). on (rows_stay t a.feed.lines.rows n.result.rows a.feed.staged (length area)) (a.feed.staged + 1) a.feed.staged) m.ensures in
+    record {
+      feed =
+          line-on a.register.now l a.feed a.staging.now area n.result step staged c.staged_after-more.result more c.end_line.result c.end_line.ensures
+          ∙ ap (λ (k : List ℕ). line_on a.register.now k a.feed a.staging.now) q;
+      area = staged ∙ ap (λ (k : List ℕ). line_staged (message_of a.feed) a.register.now a.feed.sender a.feed.lines k a.staging.now) q;
+    }
