@@ -4,10 +4,10 @@ use Rattle.desk_boards.proofs.AnswerLaws.{board-written}
 use Rattle.desk_boards.proofs.set_board.Goals as goal
 
 pub returns-in-Listed : goal.returns-in-Listed
-returns-in-Listed c = let t = board-written _ (Listed c.in-Listed.w c.in-Listed.s) _ _ c.in-Listed.is c.write_three.ensures in record { value = t.0; answer_after = t.1 }
+returns-in-Listed c = let t = board-written _ (Listed c.in-Listed.w c.in-Listed.s) _ _ c.in-Listed.is (c.write_three.ensures.value, c.write_three.ensures.answer_after) in record { value = t.0; answer_after = t.1 }
 
 pub returns-in-Unsound : goal.returns-in-Unsound
-returns-in-Unsound c = let t = board-written _ Unsound _ _ c.in-Unsound.is c.write_three-in-Unsound.ensures in record { value = t.0; answer_after = t.1 }
+returns-in-Unsound c = let t = board-written _ Unsound _ _ c.in-Unsound.is (c.write_three-in-Unsound.ensures.value, c.write_three-in-Unsound.ensures.answer_after) in record { value = t.0; answer_after = t.1 }
 
 pub returns-in-OutOfRange : goal.returns-in-OutOfRange
-returns-in-OutOfRange c = let t = board-written _ OutOfRange _ _ c.in-OutOfRange.is c.write_three-in-OutOfRange.ensures in record { value = t.0; answer_after = t.1 }
+returns-in-OutOfRange c = let t = board-written _ OutOfRange _ _ c.in-OutOfRange.is (c.write_three-in-OutOfRange.ensures.value, c.write_three-in-OutOfRange.ensures.answer_after) in record { value = t.0; answer_after = t.1 }

@@ -3,4 +3,4 @@ use Rattle.desk_answers.proofs.AnswerLaws.{of-call}
 use Rattle.desk_day.proofs.desk_withdraw.Goals as goal
 
 pub returns : goal.returns
-returns c = let t = of-call _ _ _ _ _ _ _ c.set_answer.ensures c.withdraw-outcome.ensures in record { told = t.0; numbers = t.1 }
+returns c = let t = of-call _ _ _ _ _ _ _ (c.set_answer.ensures.value, c.set_answer.ensures.answer_after) (c.withdraw-outcome.ensures.lent, c.withdraw-outcome.ensures.numbers) in record { told = t.0; numbers = t.1 }
