@@ -1,6 +1,6 @@
 // Files. A file's name is text; bytes that are no text name none.
 use std::fs::File;
-use std::io::{ErrorKind, Read, Stdin, Write};
+use std::io::{Read, Stdin, Write};
 use std::{fs, io, str};
 
 // What a file gave: so many bytes, or that it cannot be read.
@@ -10,52 +10,36 @@ pub enum Loaded {
     Unreadable,
 }
 
-fn unnamed() -> io::Error {
-    io::Error::from(ErrorKind::InvalidInput)
-}
-
 // The file of that name, to be read.
-fn open_read(rt: HostRuntime, path: &[u8]) -> io::Result<File> {
-    match str::from_utf8(path) {
-        Ok(name) => fs::open(&rt, name),
-        Err(_) => Err(unnamed()),
-    }
+fn open_read(rt: HostRuntime, path: &[u8]) -> Option<File> {
+    let name = str::from_utf8(path).ok()?;
+    fs::open(&rt, name).ok()
 }
 
 // The file of that name, emptied, or a new one.
-fn open_overwrite(rt: HostRuntime, path: &[u8]) -> io::Result<File> {
-    match str::from_utf8(path) {
-        Ok(name) => fs::create(&rt, name),
-        Err(_) => Err(unnamed()),
-    }
+fn open_overwrite(rt: HostRuntime, path: &[u8]) -> Option<File> {
+    let name = str::from_utf8(path).ok()?;
+    fs::create(&rt, name).ok()
 }
 
-// The file `part` takes the name; whether it has it.
-fn rename(rt: HostRuntime, part: &[u8], path: &[u8]) -> bool {
-    match str::from_utf8(part) {
-        Ok(from) => match str::from_utf8(path) {
-            Ok(to) => fs::rename(&rt, from, to).is_ok(),
-            Err(_) => false,
-        },
-        Err(_) => false,
-    }
+// The file of one name takes another.
+fn rename(rt: HostRuntime, from: &[u8], to: &[u8]) -> Option<()> {
+    let old = str::from_utf8(from).ok()?;
+    let new = str::from_utf8(to).ok()?;
+    fs::rename(&rt, old, new).ok()
 }
 
-// The file is removed, if it can be.
-fn unlink(rt: HostRuntime, part: &[u8]) {
-    match str::from_utf8(part) {
-        Ok(name) => {
-            let _ = fs::remove_file(&rt, name);
-        }
-        Err(_) => {}
-    }
+// The file of that name is removed, if it can be.
+fn unlink(rt: HostRuntime, path: &[u8]) -> Option<()> {
+    let name = str::from_utf8(path).ok()?;
+    fs::remove_file(&rt, name).ok()
 }
 
 // The file's bytes to buf, as many as it takes.
 pub fn load(rt: HostRuntime, path: &[u8], buf: &mut [u8]) -> Loaded {
     match open_read(rt, path) {
-        Ok(file) => taken(file, buf),
-        Err(_) => Loaded::Unreadable,
+        Some(file) => taken(file, buf),
+        None => Loaded::Unreadable,
     }
 }
 
@@ -101,11 +85,11 @@ pub fn store(
     book: &[u8],
     table: &[u8],
 ) -> bool {
-    let Ok(file) = open_overwrite(rt, part) else {
+    let Some(file) = open_overwrite(rt, part) else {
         return false;
     };
     if is_put(file, heading, register, book, table) {
-        return rename(rt, part, path);
+        return rename(rt, part, path).is_some();
     }
     unlink(rt, part);
     false
@@ -127,8 +111,8 @@ pub fn opened(rt: HostRuntime, name: &[u8]) -> Script {
         return Script::Input(rt.stdin());
     }
     match open_read(rt, name) {
-        Ok(file) => Script::Open(file),
-        Err(_) => Script::Missing,
+        Some(file) => Script::Open(file),
+        None => Script::Missing,
     }
 }
 
@@ -147,21 +131,23 @@ enum Byte {
     Failed,
 }
 
-fn read(script: &mut Script, buf: &mut [u8]) -> io::Result<usize> {
-    match script {
-        Script::Input(input) => input.read(buf),
-        Script::Open(file) => file.read(buf),
-        Script::Missing => Err(unnamed()),
+// A read of nothing is the end.
+fn byte_of(got: io::Result<usize>, byte: u8) -> Byte {
+    match got {
+        Ok(0) => Byte::End,
+        Ok(_) => Byte::Is(byte),
+        Err(_) => Byte::Failed,
     }
 }
 
 fn next_byte(script: &mut Script) -> Byte {
     let mut one = [0u8; 1];
-    match read(script, &mut one) {
-        Ok(0) => Byte::End,
-        Ok(_) => Byte::Is(one[0]),
-        Err(_) => Byte::Failed,
-    }
+    let got = match script {
+        Script::Input(input) => input.read(&mut one),
+        Script::Open(file) => file.read(&mut one),
+        Script::Missing => return Byte::Failed,
+    };
+    byte_of(got, one[0])
 }
 
 // The rest of a line that is too long is read and left out. A line of over four billion bytes counts as several.
