@@ -18,7 +18,6 @@ use Rattle.lists.proofs.EachLaws.{bytes-part}
 use Rattle.lists.proofs.PartLaws.{part-add, part_step, part-done, length_part}
 use Rattle.lists.proofs.NumberTurnLaws.{read-start, read-turn}
 use Rattle.lists.proofs.BigEndianLaws.{number_same, precedes-number}
-use Rattle.keys.specs.declared.Order.{Order}
 use Rattle.keys.specs.declared.Order.TheVariants.{Less, Same, More}
 use Rattle.keys.specs.Keys.{cmp, by_byte}
 use Rattle.keys.specs.Sorted.{is_less}

@@ -1,5 +1,5 @@
 use mathlib.Core.Path.{sym, ◌∙◌}
-use Prim.Native.Nat.{◌-◌, ◌/◌}
+use Prim.Native.Nat.{◌/◌}
 use native.Mathlib.Omega.{arith}
 use Rattle.book.specs.Entries.{plan_wide}
 use Rattle.book.proofs.PlanLaws.{count-start, leading-stop, leading-next, leading_end}

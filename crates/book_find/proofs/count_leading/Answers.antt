@@ -1,4 +1,3 @@
-use Prim.Native.Nat.{◌-◌}
 use native.Mathlib.Omega.{arith}
 use lib.Dec.{eqb}
 use Rattle.book_find.proofs.CountLaws.{as_wanted, not-as-wanted, leads-start, leads-turn, leads-until, leads-end}
