@@ -1,5 +1,5 @@
 -- What a line of the script asks. Assumes nothing.
-use Rattle.std.specs.Prelude.{ℕ, ◌+◌, min, Bool, true, false, ◌||◌, List, [], ◌∷◌, eqb, ltb, length}
+use Rattle.std.specs.Prelude.{ℕ, ◌+◌, min, Bool, true, false, List, [], ◌∷◌, eqb, ltb, length}
 use Rattle.lists.specs.Logic.{on, first_held}
 use Rattle.lists.specs.Text.{bytes}
 use Rattle.turbo.specs.Split.{fields}

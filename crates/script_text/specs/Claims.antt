@@ -1,7 +1,7 @@
 -- What is certain of words, and of bytes put behind others. `proofs/Claims.antt` proves `All`. Assumes nothing.
-use Rattle.std.specs.Prelude.{ℕ, ◌≤◌, ◌≡◌, false, List, length}
+use Rattle.std.specs.Prelude.{ℕ, ◌≡◌, false, List, length}
 use Rattle.lists.specs.Each.{Each}
-use Rattle.script_text.specs.Rules.{is_blank, word_at, place_behind, appended}
+use Rattle.script_text.specs.Rules.{is_blank, word_at, appended}
 
 -- no word has a blank in it
 abbrev pub NoBlankInWord : Type 0

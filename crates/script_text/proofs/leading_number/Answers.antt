@@ -1,7 +1,6 @@
 -- `leading_number` meets its contract. Assumes nothing.
 use native.Mathlib.Omega.{arith}
 use mathlib.Core.Path.{refl, sym, ◌∙◌}
-use Prim.Native.Nat.{◌-◌}
 use Rattle.script_text.proofs.TextLaws.{leading-stop, leading-on, leading_end, low_byte, high_byte, digit-byte}
 use Rattle.script_text.proofs.leading_number.Goals as goal
 

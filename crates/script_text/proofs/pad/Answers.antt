@@ -2,7 +2,7 @@
 use mathlib.Core.Logic.{inl, inr}
 use native.Mathlib.Omega.{arith}
 use mathlib.Core.Path.{◌≡◌, refl, sym, ◌∙◌}
-use Prim.Native.Nat.{◌-◌, ◌≤◌}
+use Prim.Native.Nat.{◌≤◌}
 use lib.ListN.{length, length-set}
 use Rattle.script_text.proofs.TextLaws.{over-past, pad-turn, pad-end, pad-done}
 use Rattle.script_text.proofs.pad.Goals as goal

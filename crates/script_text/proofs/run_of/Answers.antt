@@ -1,7 +1,6 @@
 -- `run_of` meets its contract. Assumes nothing.
 use native.Mathlib.Omega.{arith}
 use mathlib.Core.Path.{sym, ◌∙◌}
-use Prim.Native.Nat.{◌-◌}
 use Rattle.script_text.proofs.TextLaws.{run-stop, run_on, run_end}
 use Rattle.script_text.proofs.run_of.Goals as goal
 

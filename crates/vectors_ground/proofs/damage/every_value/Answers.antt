@@ -1,6 +1,5 @@
 -- `damage::every_value` is safe and ends. Assumes nothing.
 use native.Mathlib.Omega.{arith}
-use Prim.Native.Nat.{◌-◌}
 use Rattle.vectors_ground.proofs.damage.every_value.Goals as goal
 
 pub changed-requires : goal.changed-requires

@@ -1,6 +1,5 @@
 -- `walk::tails` is safe and ends. Assumes nothing.
 use native.Mathlib.Omega.{arith}
-use Prim.Native.Nat.{◌-◌}
 use Rattle.vectors_ground.proofs.walk.tails.Goals as goal
 
 pub count_fields-n-requires : goal.count_fields-n-requires
