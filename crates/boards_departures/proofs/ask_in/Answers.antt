@@ -8,4 +8,4 @@ returns c =
     let b = c.board-listing in
     let v = c.word-stop in
     let w = c.word-owner in
-    shown-is a.line.now w.result.now v.result.now a.date a.second a.horizon a.table.now a.rows _ b.result c.told.result w.ensures v.ensures b.ensures.1 c.told.ensures
+    shown-is a.line.now w.result.now v.result.now a.date a.second a.horizon a.table.now a.rows _ b.result c.told.result w.ensures v.ensures b.ensures.result_value c.told.ensures
