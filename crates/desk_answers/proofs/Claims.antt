@@ -1,7 +1,7 @@
 -- All that is claimed of an answer's numbers holds: it is what the calls and the board claim. Assumes nothing.
 use Prim.Native.Nat.{ℕ}
 use mathlib.Core.Path.{◌≡◌, refl}
-use mathlib.Core.Bool.{Bool, true, false, ◌&&◌}
+use mathlib.Core.Bool.{Bool, true, false}
 use mathlib.Core.List.{List, [], ◌∷◌}
 use Rattle.calls.specs.declared.Answer.{Answer}
 use Rattle.calls.specs.Answers.{numbers, is_accepted}
@@ -16,12 +16,12 @@ use Rattle.calls.specs.End.{end_sound, end_answer, cleared, end_leaves}
 use Rattle.calls.proofs.RefusalLaws.{acceptance-is-zero, refusals-give-back, numbers-listed}
 use Rattle.calls.proofs.EndLaws.{end-gives-back, end-listed}
 use Rattle.feeds.specs.Kept.{is_begun}
-use Rattle.feeds.specs.Feed.{Fed, fed}
+use Rattle.feeds.specs.Feed.{fed}
 use Rattle.feeds.specs.Feeding.{Feeding, fed_in, feeding, fed_out, feed_leaves}
 use Rattle.calls.specs.Message.{message_sound}
 use Rattle.lists.proofs.LogicLaws.{and-false}
 use Rattle.lists.specs.Logic.{on}
-use Rattle.desk_answers.specs.Answered.{outcome_number, answered, told_of, end_told_of}
+use Rattle.desk_answers.specs.Answered.{outcome_number, answered, told_of}
 use Rattle.desk_answers.specs.Claims.{NumbersOfAnswer, FaceGivesBack, OpenGivesBack, MessageGivesBack, WithdrawGivesBack, EndGivesBack, FeedGivesBack, EndedOnce, FaceNumbersListed, FeedNumbersListed, All}
 use Rattle.desk_answers.proofs.DossierLaws.{dossier-named}
 

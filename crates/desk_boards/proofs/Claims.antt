@@ -3,7 +3,7 @@ use Prim.Native.Nat.{ℕ}
 use mathlib.Core.Path.{◌≡◌, refl}
 use mathlib.Core.Bool.{Bool, true, false}
 use mathlib.Core.List.{List, [], ◌∷◌}
-use mathlib.Core.Logic.{◌⊎◌, inl, inr}
+use mathlib.Core.Logic.{inl, inr}
 use Rattle.lists.specs.Logic.{on}
 use Rattle.table.specs.Rules.{table_sound}
 use Rattle.board.specs.declared.Listing.TheVariants.{Listed, Unsound, OutOfRange}
