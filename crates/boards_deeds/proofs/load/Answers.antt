@@ -7,4 +7,4 @@ returns c =
     let a = c.args in
     let l = c.load-saved in
     let h = c.hold_day in
-    loaded-is a.file.now l.result a.held h.result a.register.now _ a.book.now _ a.table.now _ l.ensures.0 l.ensures.1.0 l.ensures.1.1.0 l.ensures.1.1.1 h.ensures
+    loaded-is a.file.now l.result a.held h.result a.register.now _ a.book.now _ a.table.now _ l.ensures.day l.ensures.pairs l.ensures.entries l.ensures.passages h.ensures

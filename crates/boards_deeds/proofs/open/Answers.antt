@@ -5,4 +5,4 @@ use Rattle.boards_deeds.proofs.DeedLaws.{left_is}
 use Rattle.boards_deeds.proofs.open.Goals as goal
 
 pub returns : goal.returns
-returns c = let a = c.args in let o = c.before.before.before.before.before.before.«open» in λ register. left_is o.result _ _ _ a.held c.told.result (state a.held register a.book.now a.table.now) refl c.told.ensures o.ensures.0
+returns c = let a = c.args in let o = c.open-o in λ register. left_is o.result _ _ _ a.held c.told.result (state a.held register a.book.now a.table.now) refl c.told.ensures o.ensures.lent

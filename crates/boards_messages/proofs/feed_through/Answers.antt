@@ -13,5 +13,5 @@ returns c =
     let f = c.feed_all in
     let e = c.end in
     as-whole a.dossier.now a.register.now a.size a.sender a.form a.line.now a.staging.now a.book.now a.table.now a.counts (omega (arith, c.ranges.sender)) (omega (arith, c.ranges.form)) c.requires.0 c.requires.1
-    e.result b.new.0 f.new.1.1.1.1.1.0 f.new.1.1.1.1.0 f.new.1.1.1.0 e.new.1.1.0 e.new.1.1.1.0 e.new.1.1.1.1.1.0
-    b.ensures f.ensures e.ensures.0
+    e.result b.new.kept f.new.kept f.new.line f.new.staging e.new.book e.new.table e.new.kept
+    b.ensures f.ensures e.ensures.lent

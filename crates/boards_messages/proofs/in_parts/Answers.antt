@@ -18,11 +18,5 @@ slice_bounds-feed_through-end c = sym (length-replicate {A = ℕ} (most_rows * b
 pub feed_through-requires : goal.feed_through-requires
 feed_through-requires c = (c.requires, made-room (most_rows * body_wide) (most_rows * body_wide) all-rows)
 
-pub shape_of-book : goal.shape_of-book
-shape_of-book c = c.feed_through.auto.1.1.1.1.1.1.1.1.0
-
-pub shape_of-table : goal.shape_of-table
-shape_of-table c = c.feed_through.auto.1.1.1.1.1.1.1.1.1.0
-
 pub returns : goal.returns
 returns c = c.feed_through.ensures
