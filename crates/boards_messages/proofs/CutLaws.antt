@@ -1,6 +1,6 @@
 -- A dossier cut into parts, fed and ended: what the one call leaves. Assumes nothing.
 use Prim.Native.Nat.{ℕ, zero, suc, ◌+◌, ◌-◌, ◌*◌, ◌/◌, ◌≤◌, ◌<◌}
-use mathlib.Core.Path.{◌≡◌, refl, sym, ap, subst, ◌∙◌}
+use mathlib.Core.Path.{◌≡◌, refl, sym, ap, ◌∙◌}
 use mathlib.Core.List.{List, [], ◌∷◌, ◌++◌}
 use native.Mathlib.Omega.{arith}
 use lib.ListN.{length, take, drop, length-drop, take-append-drop}
@@ -15,7 +15,7 @@ use Rattle.feeds_whole.proofs.CallLaws.{parts-are-whole}
 use Rattle.calls.specs.declared.Counts.{Counts}
 use Rattle.calls.specs.declared.Outcome.{Outcome}
 use Rattle.calls.specs.Answers.{numbers}
-use Rattle.calls.specs.Leaves.{Leaves, leaves}
+use Rattle.calls.specs.Leaves.{leaves}
 use Rattle.calls.specs.Message.{message_leaves}
 use Rattle.calls.specs.End.{most_rows, EndLeaves, end_with, end_leaves}
 use Rattle.boards_messages.specs.inner.Cut.{cut_for, cut}

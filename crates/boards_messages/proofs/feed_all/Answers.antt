@@ -20,8 +20,8 @@ loop-rest-preserved c =
     let k = c.loop-rest in
     let g = c.feed in
     let f = c.front-bytes in
-      fed-turn a.register.now a.size k.rest.now f.result.now c.after-next.result.now k.kept k.line k.staging g.new.kept g.new.line g.new.staging g.result _
-          c.requires c.loop-rest-test.true f.ensures c.after-next.ensures.is g.ensures k.invariant
+    fed-turn a.register.now a.size k.rest.now f.result.now c.after-next.result.now k.kept k.line k.staging g.new.kept g.new.line g.new.staging g.result _
+    c.requires c.loop-rest-test.true f.ensures c.after-next.ensures.is g.ensures k.invariant
 
 pub returns : goal.returns
 returns c =
