@@ -1,6 +1,6 @@
 -- The old form is answered as before; a message without the columns in which the forms differ comes to the same in both. Assumes nothing.
 use Prim.Native.Nat.{ℕ}
-use mathlib.Core.Path.{◌≡◌, refl, ap, ◌∙◌}
+use mathlib.Core.Path.{refl, ap, ◌∙◌}
 use mathlib.Core.List.{List}
 use Rattle.lists.specs.Logic.{on}
 use Rattle.columns.specs.declared.Form.TheVariants.{Old, New}

@@ -10,7 +10,6 @@ use borrow.Author.Tests.{le-leb, eq-eqb}
 use lib.ListN.{length}
 use Rattle.lists.specs.Each.{Each}
 use Rattle.passage.specs.Layout.{key_of}
-use Rattle.columns.specs.declared.Table.TheVariants as Tables
 use Rattle.plan.specs.Claims.{Passage}
 use Rattle.keys.specs.Sorted.{get, put, put_all}
 use Rattle.keys.proofs.KeyLaws.{cmp-same}

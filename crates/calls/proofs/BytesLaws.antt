@@ -23,7 +23,7 @@ use Rattle.book.proofs.SoundLaws.{room_within}
 use Rattle.book.proofs.WriteLaws.{wide-entries_of, length-entries_of}
 use Rattle.calls.specs.declared.Counts.{Counts}
 use Rattle.calls.specs.Answers.{numbers, is_accepted}
-use Rattle.calls.specs.Message.{message_table, message_rows, next_in, number_for, rows_taken, book_taking, table_taking, counts_taking, message_answer, taken_by, message_leaves}
+use Rattle.calls.specs.Message.{message_rows, next_in, number_for, rows_taken, book_taking, table_taking, counts_taking, message_answer, taken_by, message_leaves}
 use Rattle.calls.specs.Withdraw.{rows_without, withdraw_answer, table_without, without_by, withdraw_leaves}
 use Rattle.calls.specs.Claims.{RowsAreDataLines, MessageNumbered, RowsGoToBook, FreedAndKept, TableFreedAndKept}
 use Rattle.calls.proofs.AcceptedLaws.{passed, passes, sound-parts, left}

@@ -1,5 +1,5 @@
 -- The end of a dossier in parts: its numbers by the table, of their list, and what a refusal gives back. Assumes nothing.
-use Prim.Native.Nat.{ℕ, ◌+◌, ◌-◌, ◌*◌}
+use Prim.Native.Nat.{ℕ, ◌+◌, ◌*◌}
 use mathlib.Core.Path.{◌≡◌, refl, ap, ◌∙◌}
 use mathlib.Core.Bool.{Bool, true, false, not}
 use mathlib.Core.List.{List, [], ◌∷◌}
@@ -21,7 +21,7 @@ use Rattle.calls.specs.declared.Answer.{Answer}
 use Rattle.calls.specs.declared.Answer.TheVariants.{Accepted, Unsound, Owner, StagingShort, BookShort, TableShort, UnknownForm}
 use Rattle.calls.specs.declared.Counts.{Counts}
 use Rattle.calls.specs.declared.Outcome.{Outcome}
-use Rattle.calls.specs.Answers.{numbers, is_accepted, unless_refused}
+use Rattle.calls.specs.Answers.{numbers, unless_refused}
 use Rattle.calls.specs.Message.{number_for, rows_taken, room_for, taken_by}
 use Rattle.calls.specs.End.{EndLeaves, staged_rows, any_denied, falls_short, end_sound, reading_kept, post_answer, end_answer, end_with, end_leaves}
 use Rattle.calls.specs.Numbers.{line, dossier_lines, kept_table, end_numbers}

@@ -3,7 +3,6 @@ use Prim.Native.Nat.{ℕ, ◌<◌}
 use native.Mathlib.Omega.{arith}
 use mathlib.Core.Path.{◌≡◌, refl}
 use mathlib.Core.Bool.{Bool, true, false}
-use mathlib.Core.List.{List}
 use mathlib.Core.Logic.{◌↔◌}
 use borrow.Author.Tests.{leb-true, leb-false, eq-eqb}
 use lib.Dec.{eqb, leb}
@@ -16,7 +15,6 @@ use Rattle.table.specs.Rules.{table_room}
 use Rattle.book.specs.Rules.{book_room}
 use Rattle.calls.specs.declared.Answer.{Answer}
 use Rattle.calls.specs.declared.Answer.TheVariants.{Accepted, Unsound, Owner, StagingShort, BookShort, TableShort, UnknownForm}
-use Rattle.calls.specs.declared.Counts.{Counts}
 use Rattle.calls.specs.Answers.{numbers, unless_refused}
 use Rattle.calls.specs.Message.{message_sound, message_table, message_rows, number_for, room_for, message_answer}
 use Rattle.calls.specs.End.{staged_rows, any_denied, falls_short, end_sound, reading_kept, post_answer, end_answer}

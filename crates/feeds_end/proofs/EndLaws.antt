@@ -14,7 +14,6 @@ use Rattle.lists.proofs.LogicLaws.{and-pass, and-false}
 use Rattle.syntax.specs.Machine.{accepting}
 use Rattle.passage.specs.Layout.{body_wide}
 use Rattle.columns.specs.Tables.{is_form}
-use Rattle.reader.specs.declared.Reading.{Reading}
 use Rattle.reader.specs.declared.Reading.TheVariants as Readings
 use Rattle.reader.specs.Rules.{largest}
 use Rattle.feeds.specs.declared.Feed.{Feed}
@@ -26,10 +25,10 @@ use Rattle.calls.specs.declared.Answer.TheVariants.{Unsound, Owner, StagingShort
 use Rattle.calls.specs.declared.Counts.{Counts}
 use Rattle.calls.specs.declared.Outcome.{Outcome}
 use Rattle.calls.specs.declared.Next.TheVariants.{Off}
-use Rattle.calls.specs.Answers.{is_accepted, unless_refused}
+use Rattle.calls.specs.Answers.{is_accepted}
 use Rattle.calls.specs.Leaves.{Leaves, outcome_of, leaves}
 use Rattle.calls.specs.Message.{message_sound, room_for, taken_by}
-use Rattle.calls.specs.End.{most_rows, least, staged_rows, all_in_range, any_denied, falls_short, reading_kept, post_answer, end_sound, end_answer, EndLeaves, end_with, cleared, end_leaves}
+use Rattle.calls.specs.End.{most_rows, least, staged_rows, all_in_range, any_denied, falls_short, reading_kept, post_answer, end_sound, end_answer, end_with, cleared, end_leaves}
 use Rattle.calls.specs.inner.Steps.{passed_of}
 use Rattle.calls.proofs.LeavesLaws.{leaves-refused, passed-off}
 use Rattle.messages.specs.inner.Steps.{taken_leaves}

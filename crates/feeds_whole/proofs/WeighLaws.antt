@@ -16,11 +16,10 @@ use Rattle.syntax.specs.declared.Next.TheVariants.{To, Bad}
 use Rattle.syntax.specs.declared.Verdict.{Verdict}
 use Rattle.syntax.specs.declared.Verdict.TheVariants.{Fine, FaultAt}
 use Rattle.syntax.specs.Machine.{field_step, escape_step, first_escape_step, null_step, return_step, start_step, mark_step, step, follow, accepting, run}
-use Rattle.turbo_lines.specs.declared.Mark.{Mark}
 use Rattle.turbo_lines.specs.Lines.{is_long, short_front}
 use Rattle.columns.specs.declared.Form.{Form}
 use Rattle.columns.specs.declared.Table.TheVariants.{Message}
-use Rattle.reader.specs.Items.{row, outside, items}
+use Rattle.reader.specs.Items.{outside, items}
 use Rattle.reader.specs.Rules.{faults, fault_place}
 use Rattle.reader.specs.Staging.{rows_up_to}
 use Rattle.reader.proofs.BoundLaws.{weights, message-long, rows-weigh}

@@ -7,7 +7,6 @@ use mathlib.Core.List.{List, []}
 use borrow.Author.Tests.{le-leb, lt-leb, ne_eqb}
 use lib.Dec.{leb}
 use lib.ListN.{length}
-use Rattle.lists.specs.Part.{over}
 use Rattle.lists.specs.Rows.{rows_of, flat}
 use Rattle.lists.proofs.OverLaws.{over-nil}
 use Rattle.lists.proofs.StoreLaws.{store_same}

@@ -8,7 +8,7 @@ use lib.ListN.{drop}
 use Rattle.lists.specs.Part.{over}
 use Rattle.lists.specs.Rows.{rows_of, flat}
 use Rattle.book.specs.Entries.{plan_wide, entry_wide, plan_count, updates_in}
-use Rattle.book.specs.Rules.{book_sound, marked_withdrawn, withdrawn}
+use Rattle.book.specs.Rules.{book_sound, marked_withdrawn}
 use Rattle.book.proofs.SplitLaws.{sound-split, length-updates}
 use Rattle.book.proofs.MarkLaws.{marks-alone}
 use Rattle.book_find.specs.declared.Held.TheVariants.{At}

@@ -1,7 +1,5 @@
 -- `end_read` meets its contract. Assumes nothing.
-use mathlib.Core.Path.{◌≡◌, sym, ap, ◌∙◌}
-use Rattle.calls.specs.declared.Next.{Next}
-use Rattle.calls.specs.End.{reading_kept}
+use mathlib.Core.Path.{sym, ap, ◌∙◌}
 use Rattle.calls.specs.inner.Steps.{passed_of}
 use Rattle.calls.proofs.LeavesLaws.{passed_on}
 use Rattle.feeds_end.proofs.EndLaws.{found, posted}

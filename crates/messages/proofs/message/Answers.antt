@@ -1,5 +1,5 @@
 -- `message` meets its contract. Assumes nothing.
-use mathlib.Core.Path.{refl, sym, ◌∙◌}
+use mathlib.Core.Path.{sym, ◌∙◌}
 use Rattle.calls.proofs.NumbersLaws.{message-told}
 use Rattle.messages.proofs.ReadLaws.{unsound, unknown}
 use Rattle.messages.proofs.message.Goals as goal

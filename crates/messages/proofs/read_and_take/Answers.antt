@@ -10,7 +10,6 @@ use Rattle.reader.specs.declared.Reading.TheVariants.{Rows}
 use Rattle.reader.specs.Rules.{reading_of}
 use Rattle.reader.specs.Staging.{staged_by}
 use Rattle.reader.proofs.AnswerLaws.{rows_few}
-use Rattle.calls.specs.declared.Next.{Next}
 use Rattle.calls.specs.Message.{message_table, message_rows}
 use Rattle.calls.specs.inner.Steps.{passed_of}
 use Rattle.calls.proofs.AcceptedLaws.{sound-parts}

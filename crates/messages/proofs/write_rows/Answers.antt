@@ -39,7 +39,7 @@ returns c =
     let a = c.args in
     record {
       outcome =
-        c.accepted.ensures ∙ ap (λ (n : ℕ). outcome_of (Accepted n) (counts_of (a.used + a.count * entry_wide) a.rows)) c.next_number-number.ensures;
+          c.accepted.ensures ∙ ap (λ (n : ℕ). outcome_of (Accepted n) (counts_of (a.used + a.count * entry_wide) a.rows)) c.next_number-number.ensures;
       entries =
-        tail-back a.staging.now a.count c.requires.count_le_most_updates.1 a.book.now a.used _ a.sender _ c.requires.entry_wide_bound c.next_number-number.ensures c.write_entries.ensures;
+          tail-back a.staging.now a.count c.requires.count_le_most_updates.1 a.book.now a.used _ a.sender _ c.requires.entry_wide_bound c.next_number-number.ensures c.write_entries.ensures;
     }
