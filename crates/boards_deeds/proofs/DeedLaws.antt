@@ -1,7 +1,6 @@
 -- What the ways through a command come to. Assumes nothing.
-use Rattle.std.proofs.Common.{◌≡◌, ℕ, ◌+◌, ◌%◌, ◌^◌, ◌<◌, ◌≤◌, Bool, true, false, not, ◌&&◌, List, [], ◌∷◌, length, take, sym, refl, ap, ◌∙◌, subst, arith, le-ltb, lt-ltb}
-use Rattle.lists.specs.Logic.{on}
-use Rattle.script_text.specs.Rules.{word_at, appended}
+use Rattle.std.proofs.Common.{◌≡◌, ℕ, ◌+◌, ◌<◌, ◌≤◌, Bool, true, false, List, [], ◌∷◌, sym, refl, ap, ◌∙◌, arith, le-ltb, lt-ltb}
+use Rattle.script_text.specs.Rules.{appended}
 use Rattle.boards_departures.specs.Shown.{is_shown}
 use Rattle.calls.specs.declared.Answer.{Answer}
 use Rattle.calls.specs.declared.Answer.TheVariants as Answers

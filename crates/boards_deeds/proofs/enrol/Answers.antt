@@ -10,7 +10,8 @@ returns-then-at-gt693 c = let a = c.args in record { state = c.bad.ensures ∙ f
 pub returns : goal.returns
 returns c =
     let a = c.args in
-    let left = c.if-at-gt693.false in let t = (
-      pair-held a.held left,
-      pair-register a.sender (word_at 2 a.line.now) _ a.held.register a.register.now _ _ left c.word.ensures c.append.ensures.bytes c.append-2.ensures.bytes,
-    ) in record { state = t.0; pairs = t.1 }
+    let left = c.if-at-gt693.false in
+    record {
+      state = pair-held a.held left;
+      pairs = pair-register a.sender (word_at 2 a.line.now) _ a.held.register a.register.now _ _ left c.word.ensures c.append.ensures.bytes c.append-2.ensures.bytes;
+    }
