@@ -15,9 +15,6 @@ loop-i-init c = omega arith
 pub overflow_add-i : goal.overflow_add-i
 overflow_add-i c = omega arith
 
-pub buffer-name-requires : goal.buffer-name-requires
-buffer-name-requires c = tt
-
 pub name_of-n-requires : goal.name_of-n-requires
 name_of-n-requires c = tt
 

@@ -10,7 +10,7 @@ pub returns-in-Nothing : goal.returns-in-Nothing
 returns-in-Nothing c = let a = c.args in leaves_by a.order _ a.line.now (state a.held a.register.now a.book.now a.table.now) _ c.in-Nothing.is (refl)
 
 pub returns-in-Open : goal.returns-in-Open
-returns-in-Open c = let a = c.args in leaves_by a.order _ a.line.now (state a.held a.register.now a.book.now a.table.now) _ c.in-Open.is (c.before.before.before.before.«open».ensures a.register.now)
+returns-in-Open c = let a = c.args in leaves_by a.order _ a.line.now (state a.held a.register.now a.book.now a.table.now) _ c.in-Open.is (c.«open».ensures a.register.now)
 
 pub returns-in-Register : goal.returns-in-Register
 returns-in-Register c = let a = c.args in leaves_by a.order _ a.line.now (state a.held a.register.now a.book.now a.table.now) _ c.in-Register.is (state-is _ _ _ _ _ _ _ _ c.enrol.ensures.state c.enrol.ensures.pairs refl refl)
