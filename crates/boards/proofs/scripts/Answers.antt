@@ -1,6 +1,5 @@
 -- `scripts` is safe and ends. Assumes nothing.
 use native.Mathlib.Omega.{arith}
-use Prim.Native.Nat.{◌-◌}
 use Rattle.boards.proofs.scripts.Goals as goal
 
 pub nothing-h-requires : goal.nothing-h-requires

@@ -1,6 +1,5 @@
 -- `rows` is safe and ends. Assumes nothing.
 use native.Mathlib.Omega.{arith}
-use Prim.Native.Nat.{◌-◌}
 use Rattle.boards_departures.proofs.rows.Goals as goal
 
 pub loop-i-init : goal.loop-i-init

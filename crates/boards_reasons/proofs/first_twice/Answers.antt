@@ -1,6 +1,5 @@
 -- `first_twice` is safe and ends. Assumes nothing.
 use native.Mathlib.Omega.{arith}
-use Prim.Native.Nat.{◌-◌}
 use Rattle.boards_reasons.proofs.first_twice.Goals as goal
 
 pub count_fields-n-requires : goal.count_fields-n-requires

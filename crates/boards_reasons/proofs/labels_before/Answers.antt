@@ -1,6 +1,5 @@
 -- `labels_before` is safe and ends. Assumes nothing.
 use native.Mathlib.Omega.{arith}
-use Prim.Native.Nat.{◌-◌}
 use Rattle.boards_reasons.proofs.labels_before.Goals as goal
 
 pub loop-i-init : goal.loop-i-init

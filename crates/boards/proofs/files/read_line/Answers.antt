@@ -1,6 +1,5 @@
 -- `files::read_line` is safe and ends. Assumes nothing.
 use native.Mathlib.Omega.{arith}
-use Prim.Native.Nat.{◌-◌}
 use lib.ListN.{length-set}
 use Rattle.boards.proofs.files.read_line.Goals as goal
 

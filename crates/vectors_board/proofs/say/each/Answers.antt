@@ -1,6 +1,5 @@
 -- `say::each` is safe and ends. Assumes nothing.
 use native.Mathlib.Omega.{arith}
-use Prim.Native.Nat.{◌-◌}
 use Rattle.vectors_board.proofs.say.each.Goals as goal
 
 pub loop-i-init : goal.loop-i-init

@@ -1,6 +1,5 @@
 -- `say::bytes` is safe and ends. Assumes nothing.
 use native.Mathlib.Omega.{arith}
-use Prim.Native.Nat.{◌-◌}
 use Rattle.vectors_day.proofs.say.bytes.Goals as goal
 
 pub loop-i-init : goal.loop-i-init

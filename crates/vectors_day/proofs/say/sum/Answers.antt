@@ -1,6 +1,5 @@
 -- `say::sum` is safe and ends. The sum so far is a remainder. Assumes nothing.
 use native.Mathlib.Omega.{arith}
-use Prim.Native.Nat.{◌-◌}
 use Rattle.vectors_day.proofs.say.sum.Goals as goal
 
 pub loop-i-init : goal.loop-i-init

@@ -1,6 +1,5 @@
 -- `staged::rows` is safe and ends. A row has some width. Assumes nothing.
 use native.Mathlib.Omega.{arith}
-use Prim.Native.Nat.{◌-◌}
 use Rattle.vectors_reader.proofs.staged.rows.Goals as goal
 
 pub width-w-requires : goal.width-w-requires
