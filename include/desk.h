@@ -1,7 +1,7 @@
 /* Zhemdurak for C: open a day, take messages whole or in parts, withdraw them, ask for boards. docs/SCOPE.md has the rules, examples/board.c a use of it all.
 
    Link the archive that `tools/native-archive` writes, or `tools/install PREFIX` puts with this header and a pkg-config file: `cc program.c
-   $(pkg-config --cflags --libs desk)`. 64-bit machines only.
+   $(pkg-config --cflags --libs desk)`. For x86-64 Linux.
 
    MEMORY. All memory is lent for the time of one call, each piece as a pointer and a length; nothing is kept and nothing allocated. What a call may
    write (book, table, places, staging, line, feed, answer) must overlap nothing else that is passed to it; what it only reads may overlap. `places`,

@@ -3,9 +3,11 @@ import hashlib
 import os
 import re
 import shutil
+import sys
 
 TOP = os.path.normpath(os.path.join(os.path.dirname(os.path.abspath(__file__)), ".."))
-KIT = os.path.normpath(os.path.join(os.path.dirname(os.path.realpath(shutil.which("rt") or "/opt/rattle/bin/rt")), ".."))
+RT = shutil.which("rt") or sys.exit("kit.py: the kit's `rt` is not on the path")
+KIT = os.path.normpath(os.path.join(os.path.dirname(os.path.realpath(RT)), ".."))
 RATTLE = KIT + "/bin/rattle"
 
 

@@ -1,4 +1,4 @@
-// How answers are printed. Bytes outside 32 to 126 are written \x_hH.
+// How answers are printed. Bytes outside 32 to 126 are written \xHH.
 use field_types::Number;
 use std::io::{Print, Stdout};
 
