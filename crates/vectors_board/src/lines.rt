@@ -2,9 +2,10 @@
 use crate::say;
 use std::io::Stdout;
 
-// How many bytes of the table are lent, and the number of rows that is passed.
-#[derive(Clone, Copy)]
-struct Held {
+// The table, of which the first bytes are lent, and the number of rows that is passed.
+#[derive(Drop)]
+struct Desk {
+    table: [u8; 20000],
     size: usize,
     rows: usize,
 }
@@ -14,82 +15,59 @@ fn number(t: &[u8]) -> u32 {
     script_text::low_word(script_text::leading_number(t))
 }
 
-// A board of owner and stop; behind them in t date, second and horizon.
-fn call(
-    out: Stdout,
-    owner: &[u8],
-    stop: &[u8],
-    text: &[u8],
-    table: &[u8],
-    rows: usize,
-    places: &mut [u32],
-) {
-    let second = turbo::rest_after_bar(text);
-    let horizon = turbo::rest_after_bar(second);
-    let a = board::board(
-        owner,
-        stop,
-        number(text),
-        number(second),
-        number(horizon),
-        table,
-        rows,
-        places,
-    );
-    say::answer(out, a, places);
-}
-
 // L asks as `LCXX|S1|20160301|85800|1800|4`: owner, stop, date, second, horizon, and how many places are lent.
 fn ask(out: Stdout, t: &[u8], table: &[u8], rows: usize) {
     let mut places = [7777u32; 64];
     let many = script_text::leading_number(turbo::rest_after_bars(t, 5));
-    let lent = script_text::at_most(many, 64);
-    call(
-        out,
+    let lent = &mut places[..many.min(64)];
+    let listing = board::board(
         turbo::first_field(t),
         turbo::field_of(t, 1),
-        turbo::rest_after_bars(t, 2),
+        number(turbo::rest_after_bars(t, 2)),
+        number(turbo::rest_after_bars(t, 3)),
+        number(turbo::rest_after_bars(t, 4)),
         table,
         rows,
-        &mut places[0..lent],
+        lent,
     );
+    say::answer(out, listing, lent);
 }
 
 // The bytes that the digits stand for, from n on; the place behind them.
-fn append(s: &mut [u8], n: usize, digits: &[u8]) -> usize {
+fn append(area: &mut [u8], n: usize, digits: &[u8]) -> usize {
     let mut end = n;
-    let mut rest = digits;
-    while 1 < rest.len() {
-        let b = script_text::hex_byte(rest[0], rest[1]);
-        let t = script_text::after(rest, 1);
-        rest = t;
-        end = script_text::pad(s, end, 1, b);
+    for pair in digits.chunks_exact(2) {
+        end = script_text::pad(area, end, 1, script_text::hex_byte(pair[0], pair[1]));
     }
     end
 }
 
-// t puts bytes behind the table's, 0 empties it, n is the number of rows, # a heading.
-fn one(out: Stdout, line: &[u8], table: &mut [u8], h: Held) -> Held {
-    let mut n = h;
-    let letter = script_text::at(line, 0);
-    let t = script_text::after(line, 0);
-    match letter {
-        b't' => n.size = append(table, h.size, t),
-        b'0' => n.size = 0,
-        b'n' => n.rows = script_text::leading_number(t),
-        b'L' => ask(out, t, script_text::front(table, h.size), h.rows),
-        b'#' => say::heading(out, line),
-        _ => {}
+impl Desk {
+    // t puts bytes behind the table's, 0 empties it, n is the number of rows, # a heading.
+    fn do_line(&mut self, out: Stdout, line: &[u8]) {
+        match line {
+            [b't', digits @ ..] => self.size = append(&mut self.table, self.size, digits),
+            [b'0', ..] => self.size = 0,
+            [b'n', digits @ ..] => self.rows = script_text::leading_number(digits),
+            [b'L', asked @ ..] => ask(
+                out,
+                asked,
+                script_text::front(&self.table, self.size),
+                self.rows,
+            ),
+            [b'#', ..] => say::heading(out, line),
+            _ => {}
+        }
     }
-    n
 }
 
-pub fn run(out: Stdout, input: &[u8], table: &mut [u8]) {
-    let mut h = Held { size: 0, rows: 0 };
-    let mut rest = input;
-    while 0 < rest.len() {
-        h = one(out, script_text::first_line(rest), table, h);
-        let next = script_text::rest_after_line(rest);
-        rest = next;
+pub fn run(out: Stdout, input: &[u8]) {
+    let mut desk = Desk {
+        table: [0; 20000],
+        size: 0,
+        rows: 0,
+    };
+    for line in input.split_inclusive(|b| *b == b'\n') {
+        desk.do_line(out, script_text::first_line(line));
     }
 }

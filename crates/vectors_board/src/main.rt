@@ -6,14 +6,13 @@ mod say;
 
 use std::io::{Stdin, Stdout};
 
-// The buffers come as arrays of known size: so no proof has to count one through.
-fn run(mut from: Stdin, out: Stdout, input: &mut [u8; 120000], table: &mut [u8; 20000]) {
+// The buffer comes as an array of known size: so no proof has to count one through.
+fn run(mut from: Stdin, out: Stdout, input: &mut [u8; 120000]) {
     let n = script_text::read_full(&mut from, input);
-    lines::run(out, script_text::front(input, n), table);
+    lines::run(out, script_text::front(input, n));
 }
 
 fn main(rt: HostRuntime) {
     let mut input = [0u8; 120000];
-    let mut table = [0u8; 20000];
-    run(rt.stdin(), rt.stdout(), &mut input, &mut table);
+    run(rt.stdin(), rt.stdout(), &mut input);
 }
