@@ -17,7 +17,7 @@ use Rattle.columns.specs.declared.Table.{Table}
 use Rattle.columns.specs.Tables.{table_name, row_width, label_fault}
 use Rattle.register.specs.Register.{may_send}
 use Rattle.rows.specs.declared.Shape.{Shape}
-use Rattle.rows.specs.declared.Read.{Read}
+use Rattle.std.specs.Prelude.{Result, Ok, Err}
 use Rattle.rows.specs.Shape.{no_shape, shape_of}
 use Rattle.rows.specs.Reading.{read_by}
 use Rattle.rows.proofs.SoundLaws.{right_shape, shape_is, right-sound}
@@ -140,12 +140,11 @@ module _ (t : Table) (s : State) (now : Lined t s) where
         rows = omega arith;
       }
 
-  row-steps : (register : List ℕ) (sender : ℕ) (r : Read) → Steps t s (row_step t register sender s r)
+  row-steps : (register : List ℕ) (sender : ℕ) (r : Result (List ℕ) ℕ) → Steps t s (row_step t register sender s r)
   unfolding row_step
-  row-steps register sender r =
-      on-steps t (eqb r.wrong 0) s _ _
-      (on-steps t (eqb s.owner 0) s _ _ (on-steps t (may_send t register sender r.row) s _ _ more-steps disowned-steps) stays-steps)
-      (mistyped-steps r.wrong)
+  row-steps register sender (Ok row) =
+      on-steps t (eqb s.owner 0) s _ _ (on-steps t (may_send t register sender row) s _ _ more-steps disowned-steps) stays-steps
+  row-steps register sender (Err c) = mistyped-steps c
 
   data-steps : (register : List ℕ) (sender : ℕ) (l : List ℕ) → Steps t s (data_step t register sender s l)
   unfolding data_step
@@ -196,12 +195,10 @@ module _ (t : Table) (register : List ℕ) (sender : ℕ) (s : State) (st : List
   unfolding staged
   staged-length n r = on-length (leb ((n + 1) * row_width t) (length st)) _ st _ (length_over (n * row_width t) (take (row_width t) r) st) refl
 
-  row-length : (r : Read) → length (row_staged t register sender s r st) ≡ length st
+  row-length : (r : Result (List ℕ) ℕ) → length (row_staged t register sender s r st) ≡ length st
   unfolding row_staged
-  row-length r =
-      on-length (eqb r.wrong 0) _ st _
-      (on-length (eqb s.owner 0) _ st _ (on-length (may_send t register sender r.row) _ st _ (staged-length s.rows r.row) refl) refl)
-      refl
+  row-length (Ok row) = on-length (eqb s.owner 0) _ st _ (on-length (may_send t register sender row) _ st _ (staged-length s.rows row) refl) refl
+  row-length (Err c) = refl
 
   data-length : (l : List ℕ) → length (data_staged t register sender s l st) ≡ length st
   unfolding data_staged

@@ -19,7 +19,7 @@ use Rattle.turbo_lines.proofs.LongLaws.{long-here, long-later, long-none, front_
 use Rattle.columns.specs.declared.Table.{Table}
 use Rattle.columns.specs.Tables.{row_width}
 use Rattle.rows.specs.declared.Shape.{Shape}
-use Rattle.rows.specs.declared.Read.{Read}
+use Rattle.std.specs.Prelude.{Result, Ok, Err}
 use Rattle.rows.specs.Shape.{shape_of}
 use Rattle.rows.specs.Reading.{read_by}
 use Rattle.register.specs.Register.{may_send}
@@ -61,14 +61,13 @@ on-more s x y false p q = q
 sent-more : (s : State) → s.form ≡ 0 → s.wrong ≡ 0 → s.owner ≡ 0 → More s (one_row_more s)
 sent-more s f w o = record { line = refl; low = omega arith; high = omega arith; right = λ h. (f, rw (w, o) refl) }
 
-row_more : (t : Table) (register : List ℕ) (sender : ℕ) (s : State) (r : Read) → s.form ≡ 0 → s.wrong ≡ 0 → More s (row_step t register sender s r)
+row_more : (t : Table) (register : List ℕ) (sender : ℕ) (s : State) (r : Result (List ℕ) ℕ) → s.form ≡ 0 → s.wrong ≡ 0 → More s (row_step t register sender s r)
 unfolding row_step
-row_more t register sender s r f w =
-    on-more s _ (mistyped s r.wrong) (eqb r.wrong 0)
-    (λ a. on-more s _ (moved s s.place) (eqb s.owner 0)
-    (λ o. on-more s (one_row_more s) (disowned s) (may_send t register sender r.row) (λ m. sent-more s f w (eqb-true _ _ o)) (plain s (disowned s) refl refl))
-    (plain s (moved s s.place) refl refl))
-    (plain s (mistyped s r.wrong) refl refl)
+row_more t register sender s (Ok row) f w =
+    on-more s _ (moved s s.place) (eqb s.owner 0)
+    (λ o. on-more s (one_row_more s) (disowned s) (may_send t register sender row) (λ m. sent-more s f w (eqb-true _ _ o)) (plain s (disowned s) refl refl))
+    (plain s (moved s s.place) refl refl)
+row_more t register sender s (Err c) f w = plain s (mistyped s c) refl refl
 
 data-more : (t : Table) (register : List ℕ) (sender : ℕ) (s : State) (l : List ℕ) → s.form ≡ 0 → More s (data_step t register sender s l)
 unfolding data_step

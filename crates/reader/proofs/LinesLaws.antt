@@ -23,7 +23,7 @@ use Rattle.reader_step.specs.declared.State.{State}
 use Rattle.reader.specs.declared.Reading.TheVariants.{Form, Field, Owner, Rows}
 use Rattle.reader.specs.Items.{Item, Place, outside, place_after, seen, in_front, items}
 use Rattle.rows.specs.declared.Shape.{Shape}
-use Rattle.rows.specs.declared.Read.{Read}
+use Rattle.std.specs.Prelude.{Result, Ok, Err}
 use Rattle.rows.specs.Shape.{shape_of}
 use Rattle.rows.specs.Reading.{read_by}
 use Rattle.reader.specs.Rules.{first_line, first_column, answer_to}
@@ -59,12 +59,11 @@ on-rows : (b : Bool) (x y : State) (n : ℕ) → x.rows ≤ n → y.rows ≤ n �
 on-rows true x y n h k = h
 on-rows false x y n h k = k
 
-row-few : (t : Table) (register : List ℕ) (sender : ℕ) (s : State) (r : Read) → (row_step t register sender s r).rows ≤ s.rows + 1
+row-few : (t : Table) (register : List ℕ) (sender : ℕ) (s : State) (r : Result (List ℕ) ℕ) → (row_step t register sender s r).rows ≤ s.rows + 1
 unfolding row_step
-row-few t register sender s r =
-    on-rows (eqb r.wrong 0) _ (mistyped s r.wrong) _
-    (on-rows (eqb s.owner 0) _ (moved s s.place) _ (on-rows (may_send t register sender r.row) (one_row_more s) (disowned s) _ (omega arith) (omega arith)) (omega arith))
-    (omega arith)
+row-few t register sender s (Ok row) =
+    on-rows (eqb s.owner 0) _ (moved s s.place) _ (on-rows (may_send t register sender row) (one_row_more s) (disowned s) _ (omega arith) (omega arith)) (omega arith)
+row-few t register sender s (Err c) = omega arith
 
 data-few : (t : Table) (register : List ℕ) (sender : ℕ) (s : State) (l : List ℕ) → (data_step t register sender s l).rows ≤ s.rows + 1
 unfolding data_step

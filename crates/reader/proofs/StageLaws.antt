@@ -24,7 +24,7 @@ use Rattle.turbo_lines.specs.Lines.{mark_of, after_mark}
 use Rattle.columns.specs.declared.Table.{Table}
 use Rattle.columns.specs.Tables.{table_name, row_of, row_width, wrong_column, label_fault}
 use Rattle.rows.specs.declared.Shape.{Shape}
-use Rattle.rows.specs.declared.Read.{Read}
+use Rattle.std.specs.Prelude.{Result}
 use Rattle.rows.specs.Shape.{shape_of}
 use Rattle.rows.specs.Reading.{read_by, read_given}
 use Rattle.columns.specs.Layout.{widest_row}
@@ -190,7 +190,7 @@ module _
           ap (λ (h : Shape). on (eqb (length (fields l)) h.count) (on (eqb s.wrong 0) (row_staged t register sender s (read_by t h l) area) area) area) shape
           ∙ ap (λ (n : ℕ). on (eqb (length (fields l)) n) (on (eqb s.wrong 0) (row_staged t register sender s (read_by t (shape_of t ls) l) area) area) area) (shape-count t ls right)
           ∙ ap (λ (r : List ℕ). on (eqb (length (fields l)) (length ls)) (on (eqb s.wrong 0) r area) area)
-          (ap (λ (r : Read). row_staged t register sender s r area) reads ∙ row-laying (eqb (wrong_column t ls l) 0) refl)
+          (ap (λ (r : Result (List ℕ) ℕ). row_staged t register sender s r area) reads ∙ row-laying (eqb (wrong_column t ls l) 0) refl)
 
       stage-data : s.place ≡ 2 → Stages t register sender s (data_step t register sender s l) (row s.line ls l ∷ []) xs done st₀ (data_staged t register sender s l area)
       stage-data there =

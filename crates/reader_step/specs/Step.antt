@@ -1,5 +1,5 @@
 -- One line at a time: what the reader keeps of the lines so far, and what a line changes in it. Assumes nothing.
-use Rattle.std.specs.Prelude.{ℕ, ◌+◌, ◌*◌, ◌≡◌, List, eqb, leb, length, take}
+use Rattle.std.specs.Prelude.{ℕ, ◌+◌, ◌*◌, ◌≡◌, List, eqb, leb, length, take, Result, Ok, Err}
 use Rattle.lists.specs.Logic.{on}
 use Rattle.lists.specs.Text.{same}
 use Rattle.lists.specs.Part.{over}
@@ -11,7 +11,6 @@ use Rattle.columns.specs.declared.Table.{Table}
 use Rattle.columns.specs.Tables.{table_name, row_width}
 use Rattle.register.specs.Register.{may_send}
 use Rattle.rows.specs.declared.Shape.{Shape}
-use Rattle.rows.specs.declared.Read.{Read}
 use Rattle.rows.specs.Shape.{no_shape, shape_of}
 use Rattle.rows.specs.Reading.{read_by}
 use Rattle.reader_step.specs.declared.State.{State}
@@ -40,12 +39,10 @@ disowned s = record { place = s.place; line = s.line + 1; form = s.form; wrong =
 abbrev pub one_row_more : State → State
 one_row_more s = record { place = s.place; line = s.line + 1; form = s.form; wrong = s.wrong; column = s.column; owner = s.owner; rows = s.rows + 1; shape = s.shape }
 
--- a row that was read
-unfoldable pub row_step : Table → List ℕ → ℕ → State → Read → State
-row_step t register sender s r =
-    on (eqb r.wrong 0)
-    (on (eqb s.owner 0) (on (may_send t register sender r.row) (one_row_more s) (disowned s)) (moved s s.place))
-    (mistyped s r.wrong)
+-- a row that was read, or its first wrong column
+unfoldable pub row_step : Table → List ℕ → ℕ → State → Result (List ℕ) ℕ → State
+row_step t register sender s (Ok row) = on (eqb s.owner 0) (on (may_send t register sender row) (one_row_more s) (disowned s)) (moved s s.place)
+row_step t register sender s (Err column) = mistyped s column
 
 -- a data line under labels: its count of fields first, and no more once a field was wrong
 unfoldable pub data_step : Table → List ℕ → ℕ → State → List ℕ → State
@@ -81,9 +78,9 @@ line_step t register sender s l = on (eqb s.form 0) (step_by t register sender s
 unfoldable pub staged : Table → ℕ → List ℕ → List ℕ → List ℕ
 staged t n r staging = on (leb ((n + 1) * row_width t) (length staging)) (over (n * row_width t) (take (row_width t) r) staging) staging
 
-unfoldable pub row_staged : Table → List ℕ → ℕ → State → Read → List ℕ → List ℕ
-row_staged t register sender s r staging =
-    on (eqb r.wrong 0) (on (eqb s.owner 0) (on (may_send t register sender r.row) (staged t s.rows r.row staging) staging) staging) staging
+unfoldable pub row_staged : Table → List ℕ → ℕ → State → Result (List ℕ) ℕ → List ℕ → List ℕ
+row_staged t register sender s (Ok row) staging = on (eqb s.owner 0) (on (may_send t register sender row) (staged t s.rows row staging) staging) staging
+row_staged t register sender s (Err column) staging = staging
 
 unfoldable pub data_staged : Table → List ℕ → ℕ → State → List ℕ → List ℕ → List ℕ
 data_staged t register sender s l staging =

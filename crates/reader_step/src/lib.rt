@@ -10,7 +10,7 @@ ghost use Rattle.reader_step.specs.Step.{moved, misformed, labelled, mistyped, d
 ghost use Rattle.reader_step.specs.Step.{staged, row_staged, data_staged, stage_by, line_staged};
 
 use columns::Table;
-use rows::{Read, Shape};
+use rows::Shape;
 use turbo_lines::Mark;
 
 // What is kept of the lines so far. `place`: 0 outside the table, 1 between its `\T` and `\L` lines, 2 under its labels.
@@ -121,7 +121,7 @@ fn stage(table: Table, n: usize, row: &[u8], staging: &mut [u8])
 fn row_step(
     table: Table,
     state: State,
-    read: Read,
+    read: Result<[u8; 80], usize>,
     register: &[u8],
     sender: u8,
     staging: &mut [u8],
@@ -130,19 +130,19 @@ fn row_step(
     ensures state { result ≡ row_step table register.now sender state read }
     ensures area { staging.new ≡ row_staged table register.now sender state read staging.old }
 {
-    let wrong = read.wrong;
-    if wrong != 0 {
-        return wrong_field(state, wrong);
+    match read {
+        Err(column) => wrong_field(state, column),
+        Ok(row) => {
+            if state.owner != 0 {
+                return moved_to(state, state.place);
+            }
+            if register::may_send(table, register, sender, &row) {
+                stage(table, state.rows, &row, staging);
+                return one_more(state);
+            }
+            wrong_owner(state)
+        }
     }
-    if state.owner != 0 {
-        return moved_to(state, state.place);
-    }
-    let row = read.row;
-    if register::may_send(table, register, sender, &row) {
-        stage(table, state.rows, &row, staging);
-        return one_more(state);
-    }
-    wrong_owner(state)
 }
 
 // A data line: its count of fields first, and no more once a field was wrong.

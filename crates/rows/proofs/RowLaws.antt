@@ -21,7 +21,6 @@ use Rattle.columns.specs.Layout.{widest_row}
 use Rattle.columns.proofs.PartLaws.{begins, Fit, length-flat, flat-part}
 use Rattle.columns.proofs.LayoutLaws.{wanted-most, width-at, length-widths, total-widths}
 use Rattle.rows.specs.declared.Shape.{Shape}
-use Rattle.rows.specs.declared.Read.{Read}
 use Rattle.rows.specs.Shape.{places_of, shape_of, IsShape}
 use Rattle.rows.specs.Reading.{cell_at, per_column, cells_by, first_wrong, read_given, read_cells, read_by}
 use Rattle.rows.proofs.ColumnLaws.{WrongIs, wrong-is, fit-each}

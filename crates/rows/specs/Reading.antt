@@ -1,5 +1,5 @@
 -- What a data line of a wanted table gives, by the shape of its labels: as the code reads it. Assumes nothing.
-use Rattle.std.specs.Prelude.{ℕ, ◌+◌, List, [], ◌∷◌, eqb, ltb, replicate}
+use Rattle.std.specs.Prelude.{ℕ, ◌+◌, List, [], ◌∷◌, eqb, ltb, replicate, Result, Ok, Err}
 use Rattle.lists.specs.Logic.{on}
 use Rattle.lists.specs.Part.{over, some}
 use Rattle.lists.specs.Rows.{flat}
@@ -11,7 +11,6 @@ use Rattle.columns.specs.Tables.{Column, columns_in, left_out, cell_of, lesser}
 use Rattle.columns.specs.Layout.{column_at, offset}
 use Rattle.columns.specs.Layout.{widest_row}
 use Rattle.rows.specs.declared.Shape.{Shape}
-use Rattle.rows.specs.declared.Read.{Read}
 
 -- the cell of the column c, which stands at place p of n columns, in a line whose stop type stands at place s
 abbrev pub cell_at : ℕ → ℕ → List ℕ → Column → ℕ → List ℕ
@@ -33,15 +32,15 @@ first_wrong [] ps = 0
 first_wrong (x ∷ xs) [] = 0
 first_wrong (x ∷ xs) (p ∷ ps) = on (some x) (first_wrong xs ps) (lesser (p + 1) (first_wrong xs ps))
 
--- the row, and zero bytes behind it; or the column at fault, and zero bytes
-abbrev pub read_given : ℕ → List ℕ → Read
-read_given w row = on (eqb w 0) (record { wrong = 0; row = over 0 row (replicate widest_row 0) }) (record { wrong = w; row = replicate widest_row 0 })
+-- the row, and zero bytes behind it; or the column at fault
+abbrev pub read_given : ℕ → List ℕ → Result (List ℕ) ℕ
+read_given w row = on (eqb w 0) (Ok (over 0 row (replicate widest_row 0))) (Err w)
 
 -- what the cells of the columns at the places ps give
-abbrev pub read_cells : List (List ℕ) → List ℕ → Read
+abbrev pub read_cells : List (List ℕ) → List ℕ → Result (List ℕ) ℕ
 read_cells xs ps = read_given (first_wrong xs ps) (flat xs)
 
-unfoldable pub read_by : Table → Shape → List ℕ → Read
+unfoldable pub read_by : Table → Shape → List ℕ → Result (List ℕ) ℕ
 read_by t h line = read_cells (cells_by (columns_in t) h.places h.count h.stop line) h.places
 
 -- a blank row once the field f of column j is read
