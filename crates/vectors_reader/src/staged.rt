@@ -1,85 +1,66 @@
 // How much of the staging area is written, and the staged rows.
-ghost use Rattle.std.specs.Prelude.{◌≤◌, ◌<◌, length};
+ghost use Rattle.std.specs.Prelude.{◌<◌};
 
-use crate::say;
-use std::io::Stdout;
+use std::io::{Print, Stdout};
 
-// How wide the rows are.
-fn width(r: u8) -> usize
+// How wide the rows of a reader are.
+fn width(letter: u8) -> usize
     ensures { 0 < result }
 {
-    match r {
+    match letter {
         b'p' => 65,
         b'c' => 24,
         _ => 66,
     }
 }
 
-// A row's bytes are counted on, so that no two kinds of row have a number in common.
-fn counted(r: u8, k: usize) -> usize {
-    match r {
-        b'p' => k % 66 + 66,
-        b'c' => k % 66 + 131,
-        _ => k % 66,
+// Where in a row a field begins, but for the first.
+fn starts(letter: u8) -> &'static [u8] {
+    match letter {
+        b'p' => &[10, 20, 24, 25, 35, 37, 47, 57, 60, 63, 64],
+        b'c' => &[10, 20],
+        _ => &[10, 14, 24, 28, 29, 39, 41, 51, 55, 56, 59, 62, 63, 64, 65],
     }
 }
 
-// Whether a field begins at this byte: 15 of a message's do behind the first, 11 of the planning's and 2 of the calendar's.
-fn begins(k: usize) -> bool {
-    let all =
-        b"\x0a\x0e\x18\x1c\x1d\x27\x29\x33\x37\x38\x3b\x3e\x3f\x40\x41\x4c\x56\x5a\x5b\x65\x67\x71\x7b\x7e\x81\x82\x8d\x97";
-    turbo::find(all, (k % 256) as u8) < 28
-}
-
-fn at_byte(out: Stdout, r: u8, k: usize) {
-    if k == 0 {
-        say::words(out, b"\n    ");
-    }
-    if begins(counted(r, k)) {
-        say::words(out, b" ");
-    }
-}
-
-// Rows in hexadecimal, one to a line, with blanks between the fields.
-fn rows(out: Stdout, r: u8, s: &[u8]) {
-    let w = width(r);
-    let mut i: usize = 0;
-    while i < s.len() {
-        at_byte(out, r, i % w);
-        say::hex(out, s[i]);
-        i += 1;
+// A row in hexadecimal, with blanks between the fields.
+fn row(out: Stdout, letter: u8, bytes: &[u8]) {
+    let _ = out.print("\n    ");
+    for (place, byte) in bytes.iter().enumerate() {
+        if starts(letter)
+            .iter()
+            .any(|start| usize::from(*start) == place)
+        {
+            let _ = out.print(" ");
+        }
+        let _ = print!(out; "{byte:02x}");
     }
 }
 
 // How many bytes there are up to the last that is not 238.
-fn written(area: &[u8]) -> usize
-    ensures { result ≤ length area.now }
-{
-    let mut n = area.len();
-    while 0 < n {
-        if area[n - 1] != 238 {
-            return n;
-        }
-        n -= 1;
-    }
-    0
+fn written(area: &[u8]) -> usize {
+    area.iter()
+        .rposition(|byte| *byte != 238)
+        .map_or(0, |last| last + 1)
 }
 
 // Where the rows that are printed begin: none are with a capital, and of more than 660 bytes only a message's last row is.
-fn from(r: u8, n: usize) -> usize {
-    if r < b'a' {
-        return n;
+fn from(letter: u8, end: usize) -> usize {
+    if letter < b'a' {
+        end
+    } else if 660 < end {
+        end - 66
+    } else {
+        0
     }
-    if 660 < n {
-        return n - 66;
-    }
-    0
 }
 
-// What a call left: how many bytes are written, and rows.
+// What a call left: how many bytes are written, and rows, one to a line.
 pub fn left(out: Stdout, letter: u8, area: &[u8]) {
-    let n = written(area);
-    say::count(out, b", staged ", n);
-    rows(out, letter, script_text::part(area, from(letter, n), n));
-    say::words(out, b"\n");
+    let end = written(area);
+    let _ = print!(out; ", staged {end}");
+    for bytes in script_text::part(area, from(letter, end), end).chunks(width(letter)) {
+        row(out, letter, bytes);
+    }
+    let _ = out.println("");
 }
