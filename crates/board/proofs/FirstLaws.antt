@@ -14,10 +14,9 @@ use Rattle.lists.proofs.ReadLaws.{part-written}
 use Rattle.lists.proofs.RowLaws.{row-at, length-rows_of}
 use Rattle.lists.proofs.TextLaws.{same-equal, same_refl}
 use Rattle.passage.specs.Layout.{key_of, owner_of, text_wide, key_wide, row_wide}
-use Rattle.keys.specs.declared.Order.{Order}
-use Rattle.keys.specs.declared.Order.TheVariants.{Less, Same, More}
-use Rattle.keys.specs.declared.Found.{Found}
-use Rattle.keys.specs.declared.Found.TheVariants.{At, Missing}
+use Rattle.std.specs.declared.cmp.Ordering.{Ordering}
+use Rattle.std.specs.declared.cmp.Ordering.TheVariants.{Less, Equal, Greater}
+use Rattle.std.specs.Prelude.{Result, Ok, Err}
 use Rattle.keys.specs.Keys.{cmp, by_order}
 use Rattle.keys.specs.Sorted.{lookup_from, lookup}
 use Rattle.keys.proofs.KeyLaws.{tri, by_byte-eq, by_byte-gt, cmp-same, cmp-trans, flipped, cases}
@@ -28,7 +27,7 @@ use Rattle.board.specs.inner.First.{place_found, first_owned}
 
 -- ---- keys that begin alike
 
-never : {A : Type 0} (o : Order) → o ≡ Less → o ≡ More → A
+never : {A : Type 0} (o : Ordering) → o ≡ Less → o ≡ Greater → A
 never o p q = let z : ◌≡◌ {A = ℕ} 0 1 = cc in absurd (omega arith)
 
 zeros-least : (m : ℕ) (xs : List ℕ) → m ≤ length xs → cmp xs (replicate m 0) ≡ Less → ⊥
@@ -69,47 +68,47 @@ unfolding lookup_from
 place-before i k [] j h = absurd (omega arith)
 place-before i k (r ∷ rs) j h = go (cmp (key_of r) k) refl j (place-before (suc i) k rs) h
   where
-    go : (o : Order) → cmp (key_of r) k ≡ o → (j : ℕ) → ((j : ℕ) → suc i + j < place_found (lookup_from (suc i) k rs) → cmp (key_of (get_or rs j [])) k ≡ Less)
-        → i + j < place_found (by_order o (lookup_from (suc i) k rs) (At i) (Missing i)) → cmp (key_of (get_or (r ∷ rs) j [])) k ≡ Less
+    go : (o : Ordering) → cmp (key_of r) k ≡ o → (j : ℕ) → ((j : ℕ) → suc i + j < place_found (lookup_from (suc i) k rs) → cmp (key_of (get_or rs j [])) k ≡ Less)
+        → i + j < place_found (by_order o (lookup_from (suc i) k rs) (Ok i) (Err i)) → cmp (key_of (get_or (r ∷ rs) j [])) k ≡ Less
     go Less e zero ih l = e
     go Less e (suc j) ih l = ih j (omega arith)
-    go Same e j ih l = absurd (omega arith)
-    go More e j ih l = absurd (omega arith)
+    go Equal e j ih l = absurd (omega arith)
+    go Greater e j ih l = absurd (omega arith)
 
 place-least : (i : ℕ) (k : List ℕ) (rs : List (List ℕ)) → i ≤ place_found (lookup_from i k rs)
 unfolding lookup_from
 place-least i k [] = omega arith
 place-least i k (r ∷ rs) = go (cmp (key_of r) k) (place-least (suc i) k rs)
   where
-    go : (o : Order) → suc i ≤ place_found (lookup_from (suc i) k rs) → i ≤ place_found (by_order o (lookup_from (suc i) k rs) (At i) (Missing i))
+    go : (o : Ordering) → suc i ≤ place_found (lookup_from (suc i) k rs) → i ≤ place_found (by_order o (lookup_from (suc i) k rs) (Ok i) (Err i))
     go Less ih = omega arith
-    go Same ih = omega arith
-    go More ih = omega arith
+    go Equal ih = omega arith
+    go Greater ih = omega arith
 
 place-most : (i : ℕ) (k : List ℕ) (rs : List (List ℕ)) → place_found (lookup_from i k rs) ≤ i + length rs
 unfolding lookup_from
 place-most i k [] = omega arith
 place-most i k (r ∷ rs) = go (cmp (key_of r) k) (place-most (suc i) k rs)
   where
-    go : (o : Order) → place_found (lookup_from (suc i) k rs) ≤ suc i + length rs → place_found (by_order o (lookup_from (suc i) k rs) (At i) (Missing i)) ≤ i + length (r ∷ rs)
+    go : (o : Ordering) → place_found (lookup_from (suc i) k rs) ≤ suc i + length rs → place_found (by_order o (lookup_from (suc i) k rs) (Ok i) (Err i)) ≤ i + length (r ∷ rs)
     go Less ih = omega arith
-    go Same ih = omega arith
-    go More ih = omega arith
+    go Equal ih = omega arith
+    go Greater ih = omega arith
 
 place_here : (i : ℕ) (k : List ℕ) (rs : List (List ℕ)) (j : ℕ) → place_found (lookup_from i k rs) ≡ i + j → j < length rs → cmp (key_of (get_or rs j [])) k ≡ Less → ⊥
 unfolding lookup_from
 place_here i k [] j h l e = absurd (omega arith)
 place_here i k (r ∷ rs) j h l e = go (cmp (key_of r) k) refl j (place_here (suc i) k rs) (place-least (suc i) k rs) h l e
   where
-    go : (o : Order) → cmp (key_of r) k ≡ o → (j : ℕ) → ((j : ℕ) → place_found (lookup_from (suc i) k rs) ≡ suc i + j → j < length rs → cmp (key_of (get_or rs j [])) k ≡ Less → ⊥)
+    go : (o : Ordering) → cmp (key_of r) k ≡ o → (j : ℕ) → ((j : ℕ) → place_found (lookup_from (suc i) k rs) ≡ suc i + j → j < length rs → cmp (key_of (get_or rs j [])) k ≡ Less → ⊥)
         → suc i ≤ place_found (lookup_from (suc i) k rs)
-        → place_found (by_order o (lookup_from (suc i) k rs) (At i) (Missing i)) ≡ i + j → j < length (r ∷ rs) → cmp (key_of (get_or (r ∷ rs) j [])) k ≡ Less → ⊥
+        → place_found (by_order o (lookup_from (suc i) k rs) (Ok i) (Err i)) ≡ i + j → j < length (r ∷ rs) → cmp (key_of (get_or (r ∷ rs) j [])) k ≡ Less → ⊥
     go Less q zero ih m h l e = absurd (omega arith)
     go Less q (suc j) ih m h l e = ih j (omega arith) (omega arith) e
-    go Same q zero ih m h l e = let z : ◌≡◌ {A = ℕ} 0 1 = cc in absurd (omega arith)
-    go Same q (suc j) ih m h l e = absurd (omega arith)
-    go More q zero ih m h l e = let z : ◌≡◌ {A = ℕ} 0 1 = cc in absurd (omega arith)
-    go More q (suc j) ih m h l e = absurd (omega arith)
+    go Equal q zero ih m h l e = let z : ◌≡◌ {A = ℕ} 0 1 = cc in absurd (omega arith)
+    go Equal q (suc j) ih m h l e = absurd (omega arith)
+    go Greater q zero ih m h l e = let z : ◌≡◌ {A = ℕ} 0 1 = cc in absurd (omega arith)
+    go Greater q (suc j) ih m h l e = absurd (omega arith)
 
 -- ---- keys of a sound table rise
 
@@ -135,7 +134,7 @@ least-key owner =
     let l : length (over 0 owner (replicate key_wide 0)) ≡ key_wide = length_over 0 owner (replicate key_wide 0) ∙ length-replicate {A = ℕ} key_wide 0 in
     ap (λ (m : ℕ). part 0 m (over 0 owner (replicate key_wide 0))) (sym l) ∙ part-all (over 0 owner (replicate key_wide 0))
 
-pub first-is : (owner k : List ℕ) (rs : List (List ℕ)) (f : Found) → k ≡ over 0 owner (replicate key_wide 0) → f ≡ lookup (part 0 key_wide k) rs → place_found f ≡ first_owned owner rs
+pub first-is : (owner k : List ℕ) (rs : List (List ℕ)) (f : Result ℕ ℕ) → k ≡ over 0 owner (replicate key_wide 0) → f ≡ lookup (part 0 key_wide k) rs → place_found f ≡ first_owned owner rs
 unfolding first_owned
 first-is owner k rs f e g = ap place_found (g ∙ ap (λ (x : List ℕ). lookup (part 0 key_wide x) rs) e ∙ ap (λ (x : List ℕ). lookup x rs) (least-key owner))
 
@@ -210,14 +209,14 @@ module _ (owner t : List ℕ) (n : ℕ) (s : table_sound n t ≡ true) (w : leng
   within : (i j : ℕ) → first_owned owner (rows n t) ≤ i → i < j → j < n → same (owner_of (row j)) owner ≡ true → same (owner_of (row i)) owner ≡ true
   within i j h k l e = starts-same i (go (cases (cmp least (key_of (row i)))))
     where
-      go : (cmp least (key_of (row i)) ≡ Less) ⊎ ((cmp least (key_of (row i)) ≡ Same) ⊎ (cmp least (key_of (row i)) ≡ More)) → part 0 (length owner) (key_of (row i)) ≡ owner
+      go : (cmp least (key_of (row i)) ≡ Less) ⊎ ((cmp least (key_of (row i)) ≡ Equal) ⊎ (cmp least (key_of (row i)) ≡ Greater)) → part 0 (length owner) (key_of (row i)) ≡ owner
       go (inl f) =
           part-is 0 (length owner) (key_of (row i))
           ∙ between owner (drop (length owner) (replicate key_wide 0)) (rest j) (key_of (row i)) (rw least-starts at f) (rw (key-starts j e) at (keys-rise n t i j s k l))
       go (inr (inl f)) =
           ap (part 0 (length owner)) (sym (cmp-same least (key_of (row i)) f))
           ∙ part-written 0 owner (replicate key_wide 0) (let q = length-replicate {A = ℕ} key_wide 0 in omega arith)
-      go (inr (inr f)) = absurd (above i h (omega arith) (flipped least (key_of (row i)) More f))
+      go (inr (inr f)) = absurd (above i h (omega arith) (flipped least (key_of (row i)) Greater f))
 
   -- from a row behind the first that is not the owner's, no row is
   pub first-behind : (i j : ℕ) → first_owned owner (rows n t) ≤ i → same (owner_of (row i)) owner ≡ false → i ≤ j → j < n → same (owner_of (row j)) owner ≡ false

@@ -5,7 +5,7 @@ use Rattle.lists.specs.Part.{part}
 use Rattle.clock.specs.Moment.{day_count}
 use Rattle.texts.specs.Texts.{padded}
 use Rattle.passage.specs.Layout.{key_of, owner_of, date_of, fortify_of, stop_of, status_of, departure_of, stop_type_of, show_cancelled_of, flexible_of, monitored_of, heard_of, row_wide}
-use Rattle.keys.specs.declared.Order.TheVariants.{Less}
+use Rattle.std.specs.declared.cmp.Ordering.TheVariants.{Less}
 use Rattle.keys.specs.Keys.{cmp}
 use Rattle.table.specs.Rules.{table_sound}
 use Rattle.board.specs.declared.Listing.TheVariants.{Listed, Unsound, OutOfRange}

@@ -4,7 +4,7 @@ use Rattle.lists.specs.Part.{part}
 use Rattle.lists.specs.BigEndian.{number}
 use Rattle.passage.specs.Layout.{key_wide, body_wide}
 use Rattle.passage.specs.Facts.{PlanFacts, UpdateFacts}
-use Rattle.keys.specs.declared.Order.TheVariants.{Less}
+use Rattle.std.specs.declared.cmp.Ordering.TheVariants.{Less}
 use Rattle.keys.specs.Keys.{cmp}
 use Rattle.book.specs.Entries.{kind_wide, plan_wide, number_offset, number_wide, sender_offset, body_at, entry_wide}
 

@@ -15,7 +15,7 @@ use Rattle.lists.proofs.RowLaws.{length-rows_of, drop-rows_of}
 use Rattle.book.specs.Entries.{number_offset, number_wide, entry_wide}
 use Rattle.book.proofs.PlaceLaws.{number-from, rest, rest-start, rest-step, rest_end}
 use Rattle.book.proofs.NumberLaws.{first-within}
-use Rattle.book_find.specs.declared.Held.TheVariants.{Nowhere, At}
+use Rattle.std.specs.Prelude.{None, Some}
 use Rattle.book_find.specs.inner.Held.{leading_of, held_as}
 use Rattle.book.specs.inner.Steps.{first_entry_of, run_of}
 
@@ -83,11 +83,11 @@ module _ (from m n : ℕ) (b : List ℕ) where
     pub place-within : i ≤ m
     place-within = rw found (rw length-rows_of at (first-within n us))
 
-    pub held-nowhere : i ≡ m → Nowhere ≡ held_as n us
+    pub held-nowhere : i ≡ m → None ≡ held_as n us
     unfolding held_as
     held-nowhere h = let l = length-rows_of entry_wide m (drop from b) in rw (eq-eqb (first_entry_of n us) (length us) (sym found ∙ h ∙ sym l))
 
-    pub held-at : (i ≡ m → ⊥) → (k : ℕ) → k ≡ run_of n (rows_of entry_wide (m - i) (drop (from + i * entry_wide) b)) → At i k ≡ held_as n us
+    pub held-at : (i ≡ m → ⊥) → (k : ℕ) → k ≡ run_of n (rows_of entry_wide (m - i) (drop (from + i * entry_wide) b)) → Some (i, k) ≡ held_as n us
     unfolding held_as
     held-at h k e =
         let l = length-rows_of entry_wide m (drop from b) in

@@ -11,8 +11,7 @@ use Rattle.lists.proofs.PartLaws.{length_part, part-part}
 use Rattle.lists.proofs.OverLaws.{over-snoc}
 use Rattle.lists.proofs.RowLaws.{length-rows_of, row-at}
 use Rattle.passage.specs.Layout.{key_wide, body_wide, heard_at, key_of}
-use Rattle.keys.specs.declared.Found.{Found}
-use Rattle.keys.specs.declared.Found.TheVariants.{At, Missing}
+use Rattle.std.specs.Prelude.{Result, Ok, Err}
 use Rattle.keys.specs.Keys.{cmp, by_order}
 use Rattle.keys.specs.Sorted.{lookup_from, lookup, get}
 use Rattle.keys.proofs.PutLaws.{get_at, lookup-within}
@@ -40,25 +39,25 @@ row-key body h = sym (part-part 0 key_wide 0 body_wide (body ++ 0 ∷ []) (omega
 rows-lookup : (j : ℕ) (k : List ℕ) (bs : List (List ℕ)) → Wide body_wide bs → lookup_from j k (plan_rows bs) ≡ lookup_from j k bs
 unfolding lookup_from plan_rows
 rows-lookup j k [] w = refl
-rows-lookup j k (b ∷ bs) w = rw (row-key b w.0) (ap (λ (f : Found). by_order (cmp (key_of b) k) f (At j) (Missing j)) (rows-lookup (suc j) k bs w.1))
+rows-lookup j k (b ∷ bs) w = rw (row-key b w.0) (ap (λ (f : Result ℕ ℕ). by_order (cmp (key_of b) k) f (Ok j) (Err j)) (rows-lookup (suc j) k bs w.1))
 
 module _ (n : ℕ) (b k : List ℕ) (fits : n * plan_wide ≤ length b) where
   looked : lookup k (plan_rows (bodies n b)) ≡ lookup k (bodies n b)
   unfolding lookup
   looked = rows-lookup 0 k (bodies n b) (wide-bodies n b fits)
 
-  pub found_below : (i : ℕ) → At i ≡ lookup k (bodies n b) → i < n
+  pub found_below : (i : ℕ) → Ok i ≡ lookup k (bodies n b) → i < n
   found_below i e = rw (sym e, length-bodies n b) at (lookup-within k (bodies n b))
 
-  pub row-found : (i : ℕ) → At i ≡ lookup k (bodies n b) → get k (plan_rows (bodies n b)) ≡ plan_body_at i b ++ 0 ∷ []
+  pub row-found : (i : ℕ) → Ok i ≡ lookup k (bodies n b) → get k (plan_rows (bodies n b)) ≡ plan_body_at i b ++ 0 ∷ []
   unfolding plan_rows plan_row
   row-found i e =
       let h = found_below i e in
       let l : i < length (bodies n b) = rw (length-bodies n b) h in
-      get_at k (plan_rows (bodies n b)) (At i) (looked ∙ sym e) ∙ get_d_map plan_row (bodies n b) i l ∙ ap plan_row (body_of n i b h)
+      get_at k (plan_rows (bodies n b)) (Ok i) (looked ∙ sym e) ∙ get_d_map plan_row (bodies n b) i l ∙ ap plan_row (body_of n i b h)
 
-  pub row-missing : (i : ℕ) → Missing i ≡ lookup k (bodies n b) → get k (plan_rows (bodies n b)) ≡ []
-  row-missing i e = get_at k (plan_rows (bodies n b)) (Missing i) (looked ∙ sym e)
+  pub row-missing : (i : ℕ) → Err i ≡ lookup k (bodies n b) → get k (plan_rows (bodies n b)) ≡ []
+  row-missing i e = get_at k (plan_rows (bodies n b)) (Err i) (looked ∙ sym e)
 
 -- ---- the row as it is written: body, then heard 0
 

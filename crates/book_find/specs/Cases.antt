@@ -1,8 +1,7 @@
 -- The rules run on small examples. Assumes nothing.
-use Rattle.std.specs.Prelude.{◌≡◌, refl, List, [], ◌∷◌, ℕ}
+use Rattle.std.specs.Prelude.{◌≡◌, refl, List, [], ◌∷◌, ℕ, None, Some}
 use Rattle.lists.specs.Part.{part}
 use Rattle.lists.specs.BigEndian.{number}
-use Rattle.book_find.specs.declared.Held.TheVariants.{Nowhere, At}
 use Rattle.book_find.specs.inner.Held.{held_as}
 use Rattle.book.specs.inner.Steps.{first_entry_of, run_of}
 
@@ -14,6 +13,6 @@ head k n s = k ∷ 0 ∷ 0 ∷ 0 ∷ n ∷ s ∷ []
 updates : List (List ℕ)
 updates = head 3 1 7 ∷ head 2 2 9 ∷ head 2 2 9 ∷ []
 
-held-case : (held_as 2 updates ≡ At 1 2) × (held_as 1 updates ≡ At 0 1) × (held_as 3 updates ≡ Nowhere)
+held-case : (held_as 2 updates ≡ Some (1, 2)) × (held_as 1 updates ≡ Some (0, 1)) × (held_as 3 updates ≡ None)
 unfolding held_as first_entry_of run_of number part updates head
 held-case = (refl, refl, refl)

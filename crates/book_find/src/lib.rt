@@ -10,15 +10,6 @@ ghost use Rattle.book.specs.Entries.{plan_wide, entry_wide, plan_body_of, update
 ghost use Rattle.book.specs.Rules.{book_sound, plan_rows};
 ghost use Rattle.book_find.specs.inner.Held.{leading_of, held_as};
 
-use keys::Found;
-
-// Where a message stands: the place of its first entry among the updates, and how many follow each other.
-#[derive(Clone, Copy)]
-pub enum Held {
-    Nowhere,
-    At(usize, usize),
-}
-
 // How many of the updates from `at` on stand before the first of another number; if not `own`, before the first of this number.
 fn count_leading(book: &[u8], at: usize, entries: usize, number: u32, own: bool) -> usize
     requires { at + entries * entry_wide ≤ length book.now }
@@ -39,8 +30,8 @@ fn count_leading(book: &[u8], at: usize, entries: usize, number: u32, own: bool)
     entries
 }
 
-// Where the message of this number stands.
-pub fn find_message(book: &[u8], used: usize, number: u32) -> Held
+// Where the message of this number stands: the place of its first entry among the updates, and how many follow each other.
+pub fn find_message(book: &[u8], used: usize, number: u32) -> Option<(usize, usize)>
     requires { book_sound used book.now ≡ true }
     ensures { result ≡ held_as number (updates_in used book.now) }
 {
@@ -48,14 +39,14 @@ pub fn find_message(book: &[u8], used: usize, number: u32) -> Held
     let m = (used - from) / book::ENTRY_WIDE;
     let i = count_leading(book, from, m, number, false);
     if i == m {
-        return Held::Nowhere;
+        return None;
     }
     let k = count_leading(book, from + i * book::ENTRY_WIDE, m - i, number, true);
-    Held::At(i, k)
+    Some((i, k))
 }
 
 // Where the key from `from` on in `key` stands among the plan entries, or would stand.
-pub fn find_plan(book: &[u8], plans: usize, key: &[u8], from: usize) -> Found
+pub fn find_plan(book: &[u8], plans: usize, key: &[u8], from: usize) -> Result<usize, usize>
     requires plan_wide_in_bounds { (plans * plan_wide ≤ length book.now) × (from + key_wide ≤ length key.now) }
     requires book_value { sorted_rows (map plan_body_of (rows_of plan_wide plans book.now)) ≡ true }
     ensures { result ≡ lookup (part from key_wide key.now) (map plan_body_of (rows_of plan_wide plans book.now)) }
@@ -80,13 +71,13 @@ pub fn plan_row(
 {
     let f = find_plan(book, plans, key, from);
     match f {
-        Found::At(i) => {
+        Ok(i) => {
             let p = i * book::PLAN_WIDE + book::KIND_WIDE;
             lists::copy_to(out, at, &book[p..p + passage::BODY_WIDE]);
             out[at + passage::HEARD_AT] = 0;
             return true;
         }
-        Found::Missing(_) => {
+        Err(_) => {
             return false;
         }
     }

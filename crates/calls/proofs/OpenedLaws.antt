@@ -22,8 +22,8 @@ use Rattle.plan.specs.Rules.{joined}
 use Rattle.plan.specs.Claims.{Some, Passage}
 use Rattle.plan.proofs.ExactLaws.{joined-exactly}
 use Rattle.plan.proofs.Claims.{rows-joined}
-use Rattle.keys.specs.declared.Order.{Order}
-use Rattle.keys.specs.declared.Order.TheVariants.{Less, Same, More}
+use Rattle.std.specs.declared.cmp.Ordering.{Ordering}
+use Rattle.std.specs.declared.cmp.Ordering.TheVariants.{Less, Equal, Greater}
 use Rattle.keys.specs.Keys.{cmp, by_order}
 use Rattle.keys.specs.Sorted.{sorted_rows, put, put_all}
 use Rattle.keys.proofs.PutLaws.{sorted-put}
@@ -83,20 +83,20 @@ module _ (P : List ℕ → Type 0) where
   put-there r [] p = inl p
   put-there r (s ∷ rs) p = go (cmp (key_of s) (key_of r)) (put-there r rs p)
     where
-      go : (o : Order) → Some P (put r rs) → Some P (by_order o (s ∷ put r rs) (r ∷ rs) (r ∷ s ∷ rs))
+      go : (o : Ordering) → Some P (put r rs) → Some P (by_order o (s ∷ put r rs) (r ∷ rs) (r ∷ s ∷ rs))
       go Less ih = inr ih
-      go Same ih = inl p
-      go More ih = inl p
+      go Equal ih = inl p
+      go Greater ih = inl p
 
   put-from : (r : List ℕ) (rs : List (List ℕ)) → Some P (put r rs) → P r ⊎ Some P rs
   unfolding put
   put-from r [] h = h
   put-from r (s ∷ rs) h = go (cmp (key_of s) (key_of r)) (put-from r rs) h
     where
-      go : (o : Order) → (Some P (put r rs) → P r ⊎ Some P rs) → Some P (by_order o (s ∷ put r rs) (r ∷ rs) (r ∷ s ∷ rs)) → P r ⊎ (P s ⊎ Some P rs)
+      go : (o : Ordering) → (Some P (put r rs) → P r ⊎ Some P rs) → Some P (by_order o (s ∷ put r rs) (r ∷ rs) (r ∷ s ∷ rs)) → P r ⊎ (P s ⊎ Some P rs)
       go Less ih k = ⊎_elim (λ p. inr (inl p)) (λ t. ⊎_elim inl (λ q. inr (inr q)) (ih t)) k
-      go Same ih k = ⊎_elim inl (λ q. inr (inr q)) k
-      go More ih k = k
+      go Equal ih k = ⊎_elim inl (λ q. inr (inr q)) k
+      go Greater ih k = k
 
   -- where a row came, none went
   put_keeps : (r : List ℕ) (rs : List (List ℕ)) → length (put r rs) ≡ suc (length rs) → Some P rs → Some P (put r rs)
@@ -104,11 +104,11 @@ module _ (P : List ℕ → Type 0) where
   put_keeps r [] e h = absurd h
   put_keeps r (s ∷ rs) e h = go (cmp (key_of s) (key_of r)) (put_keeps r rs) e h
     where
-      go : (o : Order) → (length (put r rs) ≡ suc (length rs) → Some P rs → Some P (put r rs)) → length (by_order o (s ∷ put r rs) (r ∷ rs) (r ∷ s ∷ rs)) ≡ suc (suc (length rs))
+      go : (o : Ordering) → (length (put r rs) ≡ suc (length rs) → Some P rs → Some P (put r rs)) → length (by_order o (s ∷ put r rs) (r ∷ rs) (r ∷ s ∷ rs)) ≡ suc (suc (length rs))
           → P s ⊎ Some P rs → Some P (by_order o (s ∷ put r rs) (r ∷ rs) (r ∷ s ∷ rs))
       go Less ih l k = let m : length (put r rs) ≡ suc (length rs) = omega arith in ⊎_elim inl (λ q. inr (ih m q)) k
-      go Same ih l k = absurd (omega arith)
-      go More ih l k = inr k
+      go Equal ih l k = absurd (omega arith)
+      go Greater ih l k = inr k
 
   put_all-from : (qs rs : List (List ℕ)) → Some P (put_all qs rs) → Some P qs ⊎ Some P rs
   unfolding put_all

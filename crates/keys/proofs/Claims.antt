@@ -6,7 +6,7 @@ use Prim.Native.Nat.{ℕ}
 use lib.Dec.{ltb}
 use Rattle.lists.specs.Logic.{on}
 use Rattle.lists.specs.BigEndian.{precedes}
-use Rattle.keys.specs.declared.Order.TheVariants.{Less, More}
+use Rattle.std.specs.declared.cmp.Ordering.TheVariants.{Less, Greater}
 use Rattle.keys.specs.Keys.{cmp}
 use Rattle.keys.specs.Sorted.{is_less}
 use Rattle.keys.specs.Claims.{LessExactly, SameExactly, MoreExactly, All}
@@ -20,7 +20,7 @@ orders-agree [] (y ∷ ys) = refl
 orders-agree (x ∷ xs) [] = refl
 orders-agree (x ∷ xs) (y ∷ ys) = go (ltb x y) (ltb y x) (orders-agree xs ys)
   where
-    go : (s t : Bool) → is_less (cmp xs ys) ≡ precedes xs ys → is_less (on s Less (on t More (cmp xs ys))) ≡ on s true (on t false (precedes xs ys))
+    go : (s t : Bool) → is_less (cmp xs ys) ≡ precedes xs ys → is_less (on s Less (on t Greater (cmp xs ys))) ≡ on s true (on t false (precedes xs ys))
     go true t e = refl
     go false true e = refl
     go false false e = e
@@ -32,7 +32,7 @@ same-exactly : SameExactly
 same-exactly a b = (cmp-same a b, λ e. rw e (cmp-refl b))
 
 more-exactly : MoreExactly
-more-exactly a b = (flipped a b More, flipped b a Less)
+more-exactly a b = (flipped a b Greater, flipped b a Less)
 
 pub claims : All
 claims = (less-exactly, same-exactly, more-exactly)

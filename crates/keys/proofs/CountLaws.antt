@@ -7,8 +7,8 @@ use native.Mathlib.Omega.{arith}
 use lib.ListN.{length}
 use Rattle.lists.specs.Each.{Each}
 use Rattle.lists.specs.Rows.{Wide}
-use Rattle.keys.specs.declared.Order.{Order}
-use Rattle.keys.specs.declared.Order.TheVariants.{Less, Same, More}
+use Rattle.std.specs.declared.cmp.Ordering.{Ordering}
+use Rattle.std.specs.declared.cmp.Ordering.TheVariants.{Less, Equal, Greater}
 use Rattle.passage.specs.Layout.{key_of}
 use Rattle.keys.specs.Keys.{cmp, by_order}
 use Rattle.keys.specs.Sorted.{put, remove, get}
@@ -64,10 +64,10 @@ length-remove-held k (s ∷ rs) g = go (length-remove-held k rs) (cases (cmp (ke
 abbrev Grown : ℕ → List (List ℕ) → Type 0
 Grown n l = (n ≤ length l) × (length l ≤ suc n)
 
-grown-order : (o : Order) (a b c : List (List ℕ)) (n : ℕ) → Grown n a → Grown n b → Grown n c → Grown n (by_order o a b c)
+grown-order : (o : Ordering) (a b c : List (List ℕ)) (n : ℕ) → Grown n a → Grown n b → Grown n c → Grown n (by_order o a b c)
 grown-order Less a b c n x y z = x
-grown-order Same a b c n x y z = y
-grown-order More a b c n x y z = z
+grown-order Equal a b c n x y z = y
+grown-order Greater a b c n x y z = z
 
 put-grown : (r : List ℕ) (rs : List (List ℕ)) → Grown (length rs) (put r rs)
 unfolding put
@@ -87,10 +87,10 @@ module _ (r : List ℕ) (rs : List (List ℕ)) where
 abbrev Shrunk : ℕ → List (List ℕ) → Type 0
 Shrunk n l = (length l ≤ n) × (n ≤ suc (length l))
 
-shrunk-order : (o : Order) (a b c : List (List ℕ)) (n : ℕ) → Shrunk n a → Shrunk n b → Shrunk n c → Shrunk n (by_order o a b c)
+shrunk-order : (o : Ordering) (a b c : List (List ℕ)) (n : ℕ) → Shrunk n a → Shrunk n b → Shrunk n c → Shrunk n (by_order o a b c)
 shrunk-order Less a b c n x y z = x
-shrunk-order Same a b c n x y z = y
-shrunk-order More a b c n x y z = z
+shrunk-order Equal a b c n x y z = y
+shrunk-order Greater a b c n x y z = z
 
 remove-shrunk : (k : List ℕ) (rs : List (List ℕ)) → Shrunk (length rs) (remove k rs)
 unfolding remove
@@ -109,10 +109,10 @@ module _ (k : List ℕ) (rs : List (List ℕ)) where
 -- ---- what each row has
 
 module _ (P : List ℕ → Type 0) where
-  each-order : (o : Order) (a b c : List (List ℕ)) → Each P a → Each P b → Each P c → Each P (by_order o a b c)
+  each-order : (o : Ordering) (a b c : List (List ℕ)) → Each P a → Each P b → Each P c → Each P (by_order o a b c)
   each-order Less a b c x y z = x
-  each-order Same a b c x y z = y
-  each-order More a b c x y z = z
+  each-order Equal a b c x y z = y
+  each-order Greater a b c x y z = z
 
   pub each-put : (r : List ℕ) (rs : List (List ℕ)) → P r → Each P rs → Each P (put r rs)
   unfolding put

@@ -7,7 +7,7 @@ use Prim.Native.Nat.{ℕ, ◌<◌}
 use native.Mathlib.Nat.{not-suc-le-zero}
 use lib.ListN.{length}
 use Rattle.lists.specs.Each.{Each}
-use Rattle.keys.specs.declared.Order.TheVariants.{Less}
+use Rattle.std.specs.declared.cmp.Ordering.TheVariants.{Less}
 use Rattle.passage.specs.Layout.{key_of}
 use Rattle.keys.specs.Keys.{cmp}
 use Rattle.keys.specs.Sorted.{rises_from, sorted_rows, get}

@@ -7,8 +7,8 @@ use native.Mathlib.Numerals.{add-one}
 use native.Mathlib.Omega.{arith}
 use lib.ListN.{length, get_or, take, drop, length-take, length-drop}
 use lib.Seq.{take_all, take-add, drop-drop, drop-cons}
-use Rattle.keys.specs.declared.Order.TheVariants.{Less, Same, More}
-use Rattle.keys.specs.declared.Found.TheVariants.{At, Missing}
+use Rattle.std.specs.declared.cmp.Ordering.TheVariants.{Less, Equal, Greater}
+use Rattle.std.specs.Prelude.{Ok, Err}
 use Rattle.passage.specs.Layout.{key_of}
 use Rattle.keys.specs.Keys.{cmp}
 use Rattle.keys.specs.Sorted.{sorted_rows, lookup_from, lookup}
@@ -41,7 +41,7 @@ module _ (rs : List (List ℕ)) (k : List ℕ) where
   unfolding lookup
   seek-start h = record { lo-hi = omega arith; hi-end = omega arith; rises = rw all h; agrees = rw all }
 
-  pub seek-end : (lo hi : ℕ) → Seek rs k lo hi → hi ≤ lo → Missing lo ≡ lookup k rs
+  pub seek-end : (lo hi : ℕ) → Seek rs k lo hi → hi ≤ lo → Err lo ≡ lookup k rs
   unfolding lookup_from
   seek-end lo hi s h =
       let e : hi - lo ≡ 0 = omega arith in
@@ -61,8 +61,8 @@ module _ (rs : List (List ℕ)) (k : List ℕ) (lo m hi : ℕ) (s : Seek rs k lo
   place : lo + length (span lo m rs) ≡ m
   place = let e = s.hi-end in simp (length-take, length-drop) (omega arith)
 
-  pub seek-here : cmp (key_of (get_or rs m [])) k ≡ Same → At m ≡ lookup k rs
-  seek-here e = sym (split-agrees ∙ lookup-here lo k (span lo m rs) (get_or rs m []) (span (m + 1) hi rs) split-rises e ∙ ap At place)
+  pub seek-here : cmp (key_of (get_or rs m [])) k ≡ Equal → Ok m ≡ lookup k rs
+  seek-here e = sym (split-agrees ∙ lookup-here lo k (span lo m rs) (get_or rs m []) (span (m + 1) hi rs) split-rises e ∙ ap Ok place)
 
   pub seek-up : cmp (key_of (get_or rs m [])) k ≡ Less → Seek rs k (m + 1) hi
   seek-up e =
@@ -76,7 +76,7 @@ module _ (rs : List (List ℕ)) (k : List ℕ) (lo m hi : ℕ) (s : Seek rs k lo
             ∙ ap (λ (i : ℕ). lookup_from i k (span (m + 1) hi rs)) p;
       }
 
-  pub seek-down : cmp (key_of (get_or rs m [])) k ≡ More → Seek rs k lo m
+  pub seek-down : cmp (key_of (get_or rs m [])) k ≡ Greater → Seek rs k lo m
   seek-down e = record {
     lo-hi = h;
     hi-end = let x = s.hi-end in omega arith;

@@ -11,7 +11,7 @@ use Rattle.lists.specs.Each.{Each}
 use Rattle.lists.specs.Text.{same}
 use Rattle.lists.proofs.TextLaws.{same-equal}
 use Rattle.passage.specs.Layout.{key_of}
-use Rattle.keys.specs.declared.Order.TheVariants.{Less}
+use Rattle.std.specs.declared.cmp.Ordering.TheVariants.{Less}
 use Rattle.keys.specs.Keys.{cmp}
 use Rattle.keys.specs.Sorted.{rises_from, sorted_rows, get}
 use Rattle.keys.specs.Replay.{Rule, taken_all, replayed}

@@ -9,8 +9,8 @@ use lib.ListN.{length, get_or}
 use mathlib.Core.Logic.{◌⊎◌, inl, inr}
 use lib.Dec.{ltb}
 use borrow.Author.Tests.{lt-ltb, le-ltb, ltb-true, ltb-false}
-use Rattle.keys.specs.declared.Order.{Order}
-use Rattle.keys.specs.declared.Order.TheVariants.{Less, Same, More}
+use Rattle.std.specs.declared.cmp.Ordering.{Ordering}
+use Rattle.std.specs.declared.cmp.Ordering.TheVariants.{Less, Equal, Greater}
 use Rattle.lists.specs.Part.{part}
 use Rattle.lists.specs.Text.{same}
 use Rattle.keys.specs.Keys.{cmp, by_byte}
@@ -29,7 +29,7 @@ module _ (a b : List ℕ) (p q n i : ℕ) (ha : p + i < length a) (hb : q + i < 
   unfolding cmp
   cmp_step = rw (part_step a p n i ha hi, part_step b q n i hb hi)
 
-pub cmp-done : (a b : List ℕ) (p q n i : ℕ) → n ≤ i → cmp (part p (n - i) a) (part q (n - i) b) ≡ Same
+pub cmp-done : (a b : List ℕ) (p q n i : ℕ) → n ≤ i → cmp (part p (n - i) a) (part q (n - i) b) ≡ Equal
 unfolding cmp
 cmp-done a b p q n i h = rw (part-done a p n i h, part-done b q n i h)
 
@@ -41,19 +41,19 @@ tri x y = go (ltb x y) refl (ltb y x) refl
     go false e true f = inr (inr (ltb-true y x f))
     go false e false f = let a : y ≤ x = ltb-false x y e in let b : x ≤ y = ltb-false y x f in inr (inl (omega arith))
 
-pub by_byte-lt : (x y : ℕ) (o : Order) → x < y → by_byte x y o ≡ Less
+pub by_byte-lt : (x y : ℕ) (o : Ordering) → x < y → by_byte x y o ≡ Less
 by_byte-lt x y o h = rw (lt-ltb x y h)
 
-pub by_byte-eq : (x y : ℕ) (o : Order) → x ≡ y → by_byte x y o ≡ o
+pub by_byte-eq : (x y : ℕ) (o : Ordering) → x ≡ y → by_byte x y o ≡ o
 by_byte-eq x y o h = let a : y ≤ x = omega arith in let b : x ≤ y = omega arith in rw (le-ltb x y a, le-ltb y x b)
 
-pub by_byte-gt : (x y : ℕ) (o : Order) → y < x → by_byte x y o ≡ More
+pub by_byte-gt : (x y : ℕ) (o : Ordering) → y < x → by_byte x y o ≡ Greater
 by_byte-gt x y o h = let a : y ≤ x = omega arith in rw (le-ltb x y a, lt-ltb y x h)
 
-abbrev pub flip : Order → Order
-flip Less = More
-flip Same = Same
-flip More = Less
+abbrev pub flip : Ordering → Ordering
+flip Less = Greater
+flip Equal = Equal
+flip Greater = Less
 
 pub cmp-flip : (a b : List ℕ) → cmp b a ≡ flip (cmp a b)
 unfolding cmp
@@ -67,22 +67,22 @@ cmp-flip (x ∷ xs) (y ∷ ys) = go (cmp-flip xs ys) (tri x y)
     go r (inr (inl h)) = by_byte-eq y x _ (sym h) ∙ r ∙ ap flip (sym (by_byte-eq x y _ h))
     go r (inr (inr h)) = by_byte-lt y x _ h ∙ ap flip (sym (by_byte-gt x y _ h))
 
-pub cmp-refl : (a : List ℕ) → cmp a a ≡ Same
+pub cmp-refl : (a : List ℕ) → cmp a a ≡ Equal
 unfolding cmp
 cmp-refl [] = refl
 cmp-refl (x ∷ xs) = by_byte-eq x x _ refl ∙ cmp-refl xs
 
-never : {A : Type 0} (o : Order) → o ≡ Less → o ≡ More → A
+never : {A : Type 0} (o : Ordering) → o ≡ Less → o ≡ Greater → A
 never o p q = let z : ◌≡◌ {A = ℕ} 0 1 = cc in absurd (omega arith)
 
-pub cmp-same : (a b : List ℕ) → cmp a b ≡ Same → a ≡ b
+pub cmp-same : (a b : List ℕ) → cmp a b ≡ Equal → a ≡ b
 unfolding cmp
 cmp-same [] [] e = refl
 cmp-same [] (y ∷ ys) e = let z : ◌≡◌ {A = ℕ} 0 1 = cc in absurd (omega arith)
 cmp-same (x ∷ xs) [] e = let z : ◌≡◌ {A = ℕ} 0 1 = cc in absurd (omega arith)
 cmp-same (x ∷ xs) (y ∷ ys) e = go (cmp-same xs ys) (tri x y)
   where
-    go : (cmp xs ys ≡ Same → xs ≡ ys) → (x < y) ⊎ ((x ≡ y) ⊎ (y < x)) → x ∷ xs ≡ y ∷ ys
+    go : (cmp xs ys ≡ Equal → xs ≡ ys) → (x < y) ⊎ ((x ≡ y) ⊎ (y < x)) → x ∷ xs ≡ y ∷ ys
     go ih (inl h) = let l = by_byte-lt x y (cmp xs ys) h in let z : ◌≡◌ {A = ℕ} 0 1 = cc in absurd (omega arith)
     go ih (inr (inl h)) = let r = ih (sym (by_byte-eq x y (cmp xs ys) h) ∙ e) in cc
     go ih (inr (inr h)) = let l = by_byte-gt x y (cmp xs ys) h in let z : ◌≡◌ {A = ℕ} 0 1 = cc in absurd (omega arith)
@@ -107,27 +107,27 @@ cmp-trans (x ∷ xs) (y ∷ ys) (z ∷ zs) e f = go (cmp-trans xs ys zs) (tri x 
     go ih (inr (inr h)) k = never _ e (by_byte-gt x y _ h)
 
 -- `same` and `cmp` agree on which lists are equal
-pub same-cmp : (a b : List ℕ) → same a b ≡ true → cmp a b ≡ Same
+pub same-cmp : (a b : List ℕ) → same a b ≡ true → cmp a b ≡ Equal
 same-cmp a b e = rw (same-equal a b e) (cmp-refl b)
 
-pub cmp-is-same : (a b : List ℕ) → cmp a b ≡ Same → same a b ≡ true
+pub cmp-is-same : (a b : List ℕ) → cmp a b ≡ Equal → same a b ≡ true
 cmp-is-same a b e = rw (cmp-same a b e) (same_refl b)
 
-pub flipped : (a b : List ℕ) (o : Order) → cmp a b ≡ o → cmp b a ≡ flip o
+pub flipped : (a b : List ℕ) (o : Ordering) → cmp a b ≡ o → cmp b a ≡ flip o
 flipped a b o e = cmp-flip a b ∙ ap flip e
 
 -- an order is one of three
-abbrev pub Cases : Order → Type 0
-Cases o = (o ≡ Less) ⊎ ((o ≡ Same) ⊎ (o ≡ More))
+abbrev pub Cases : Ordering → Type 0
+Cases o = (o ≡ Less) ⊎ ((o ≡ Equal) ⊎ (o ≡ Greater))
 
-pub cases : (o : Order) → Cases o
+pub cases : (o : Ordering) → Cases o
 cases Less = inl refl
-cases Same = inr (inl refl)
-cases More = inr (inr refl)
+cases Equal = inr (inl refl)
+cases Greater = inr (inr refl)
 
 -- and no two of them
-pub less-not-same : {A : Type 0} (o : Order) → o ≡ Less → o ≡ Same → A
+pub less-not-same : {A : Type 0} (o : Ordering) → o ≡ Less → o ≡ Equal → A
 less-not-same o p q = let z : ◌≡◌ {A = ℕ} 0 1 = cc in absurd (omega arith)
 
-pub more-not-same : {A : Type 0} (o : Order) → o ≡ More → o ≡ Same → A
+pub more-not-same : {A : Type 0} (o : Ordering) → o ≡ Greater → o ≡ Equal → A
 more-not-same o p q = let z : ◌≡◌ {A = ℕ} 0 1 = cc in absurd (omega arith)

@@ -15,7 +15,7 @@ use Rattle.lists.specs.Each.{Each}
 use Rattle.lists.specs.Text.{same}
 use Rattle.lists.proofs.TextLaws.{same-equal}
 use Rattle.passage.specs.Layout.{key_of}
-use Rattle.keys.specs.declared.Order.TheVariants.{Same}
+use Rattle.std.specs.declared.cmp.Ordering.TheVariants.{Equal}
 use Rattle.keys.specs.Keys.{cmp}
 use Rattle.keys.specs.Sorted.{sorted_rows, get, put}
 use Rattle.keys.specs.Replay.{Rule, taken, taken_all, replayed, becoming, reworked}
@@ -33,8 +33,8 @@ pub empty-or : (l : List ℕ) → (l ≡ []) ⊎ (l ≡ [] → ⊥)
 empty-or [] = inl refl
 empty-or (x ∷ l) = inr (cons-not x l)
 
--- two lists that `same` tells apart are not in the order Same
-pub not_same : (a b : List ℕ) → same a b ≡ false → cmp a b ≡ Same → ⊥
+-- two lists that `same` tells apart are not in the order Equal
+pub not_same : (a b : List ℕ) → same a b ≡ false → cmp a b ≡ Equal → ⊥
 not_same a b e f = let z : ◌≡◌ {A = Bool} true false = sym (cmp-is-same a b f) ∙ e in let y : ◌≡◌ {A = ℕ} 0 1 = cc in absurd (omega arith)
 
 -- r is no row, or the row of key k
@@ -133,7 +133,7 @@ module _ (rule : Rule) (P : List ℕ → Type 0) (keeps : (held u : List ℕ) �
       let r : List ℕ = rule (get (key_of u) rs) u in
       ap (λ (k : List ℕ). get k (put r rs)) (sym (made-key u rs p)) ∙ get-put r rs
 
-  pub get-taken-other : (k u : List ℕ) (rs : List (List ℕ)) → P u → (cmp (key_of u) k ≡ Same → ⊥) → get k (taken rule u rs) ≡ get k rs
+  pub get-taken-other : (k u : List ℕ) (rs : List (List ℕ)) → P u → (cmp (key_of u) k ≡ Equal → ⊥) → get k (taken rule u rs) ≡ get k rs
   unfolding taken
   get-taken-other k u rs p n = get-put-other k (rule (get (key_of u) rs) u) rs (λ e. n (ap (λ (j : List ℕ). cmp j k) (sym (made-key u rs p)) ∙ e))
 
@@ -211,7 +211,7 @@ get-place-here k [] rs h o = get-remove k rs h
 get-place-here k (b ∷ r) rs h (inl e) = cons-not b r e
 get-place-here k (b ∷ r) rs h (inr e) = ap (λ (j : List ℕ). get j (put (b ∷ r) rs)) (sym e) ∙ get-put (b ∷ r) rs
 
-pub get-place-other : (j k r : List ℕ) (rs : List (List ℕ)) → sorted_rows rs ≡ true → RowOf k r → (cmp k j ≡ Same → ⊥) → get j (becoming k r rs) ≡ get j rs
+pub get-place-other : (j k r : List ℕ) (rs : List (List ℕ)) → sorted_rows rs ≡ true → RowOf k r → (cmp k j ≡ Equal → ⊥) → get j (becoming k r rs) ≡ get j rs
 get-place-other j k [] rs h o n = get_remove_other j k rs h n
 get-place-other j k (b ∷ r) rs h (inl e) n = cons-not b r e
 get-place-other j k (b ∷ r) rs h (inr e) n = get-put-other j (b ∷ r) rs (λ s. n (ap (λ (i : List ℕ). cmp i j) (sym e) ∙ s))

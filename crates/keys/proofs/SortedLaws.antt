@@ -6,20 +6,19 @@ use Prim.Native.Nat.{ℕ, zero, suc, ◌+◌, ◌<◌}
 use native.Mathlib.Nat.{add-zero, add-suc, suc-add}
 use native.Mathlib.Omega.{arith}
 use lib.ListN.{length, get_or}
-use Rattle.keys.specs.declared.Order.{Order}
-use Rattle.keys.specs.declared.Order.TheVariants.{Less, Same, More}
-use Rattle.keys.specs.declared.Found.{Found}
-use Rattle.keys.specs.declared.Found.TheVariants.{At, Missing}
+use Rattle.std.specs.declared.cmp.Ordering.{Ordering}
+use Rattle.std.specs.declared.cmp.Ordering.TheVariants.{Less, Equal, Greater}
+use Rattle.std.specs.Prelude.{Result, Ok, Err}
 use Rattle.passage.specs.Layout.{key_of}
 use Rattle.keys.specs.Keys.{cmp, by_order}
 use Rattle.keys.specs.Sorted.{is_less, rises_from, sorted_rows, lookup_from}
 use Rattle.lists.proofs.LogicLaws.{and-pass}
 use Rattle.keys.proofs.KeyLaws.{cmp-trans, cmp-same}
 
-pub less-is : (o : Order) → is_less o ≡ true → o ≡ Less
+pub less-is : (o : Ordering) → is_less o ≡ true → o ≡ Less
 less-is Less e = refl
-less-is Same e = let z : ◌≡◌ {A = ℕ} 0 1 = cc in absurd (omega arith)
-less-is More e = let z : ◌≡◌ {A = ℕ} 0 1 = cc in absurd (omega arith)
+less-is Equal e = let z : ◌≡◌ {A = ℕ} 0 1 = cc in absurd (omega arith)
+less-is Greater e = let z : ◌≡◌ {A = ℕ} 0 1 = cc in absurd (omega arith)
 
 -- the first step of a rising list, and the rest
 pub rises-head : (r s : List ℕ) (rs : List (List ℕ)) → rises_from r (s ∷ rs) ≡ true → cmp (key_of r) (key_of s) ≡ Less
@@ -68,16 +67,16 @@ sorted-right [] y ys h = sorted_tail y ys h
 sorted-right (x ∷ xs) y ys h = sorted_tail y ys (rises-right x xs y ys h)
 
 -- a row above the key ends the search
-pub lookup-left : (i : ℕ) (k : List ℕ) (xs : List (List ℕ)) (y : List ℕ) (ys : List (List ℕ)) → cmp (key_of y) k ≡ More → lookup_from i k (xs ++ y ∷ ys) ≡ lookup_from i k xs
+pub lookup-left : (i : ℕ) (k : List ℕ) (xs : List (List ℕ)) (y : List ℕ) (ys : List (List ℕ)) → cmp (key_of y) k ≡ Greater → lookup_from i k (xs ++ y ∷ ys) ≡ lookup_from i k xs
 unfolding lookup_from
 lookup-left i k [] y ys e = rw e
-lookup-left i k (x ∷ xs) y ys e = ap (λ (f : Found). by_order (cmp (key_of x) k) f (At i) (Missing i)) (lookup-left (suc i) k xs y ys e)
+lookup-left i k (x ∷ xs) y ys e = ap (λ (f : Result ℕ ℕ). by_order (cmp (key_of x) k) f (Ok i) (Err i)) (lookup-left (suc i) k xs y ys e)
 
 lookup-less : (i : ℕ) (k x : List ℕ) (xs : List (List ℕ)) → cmp (key_of x) k ≡ Less → lookup_from i k (x ∷ xs) ≡ lookup_from (suc i) k xs
 unfolding lookup_from
 lookup-less i k x xs e = rw e
 
-lookup-same : (i : ℕ) (k x : List ℕ) (xs : List (List ℕ)) → cmp (key_of x) k ≡ Same → lookup_from i k (x ∷ xs) ≡ At i
+lookup-same : (i : ℕ) (k x : List ℕ) (xs : List (List ℕ)) → cmp (key_of x) k ≡ Equal → lookup_from i k (x ∷ xs) ≡ Ok i
 unfolding lookup_from
 lookup-same i k x xs e = rw e
 
@@ -94,8 +93,8 @@ pub lookup-right : (i : ℕ) (k : List ℕ) (xs : List (List ℕ)) (y : List ℕ
     → lookup_from i k (xs ++ y ∷ ys) ≡ lookup_from (suc (i + length xs)) k ys
 lookup-right i k xs y ys h e = lookup-pass i k xs y ys h (λ a f. cmp-trans a (key_of y) k f e) ∙ lookup-less (i + length xs) k y ys e
 
-pub lookup-here : (i : ℕ) (k : List ℕ) (xs : List (List ℕ)) (y : List ℕ) (ys : List (List ℕ)) → sorted_rows (xs ++ y ∷ ys) ≡ true → cmp (key_of y) k ≡ Same
-    → lookup_from i k (xs ++ y ∷ ys) ≡ At (i + length xs)
+pub lookup-here : (i : ℕ) (k : List ℕ) (xs : List (List ℕ)) (y : List ℕ) (ys : List (List ℕ)) → sorted_rows (xs ++ y ∷ ys) ≡ true → cmp (key_of y) k ≡ Equal
+    → lookup_from i k (xs ++ y ∷ ys) ≡ Ok (i + length xs)
 lookup-here i k xs y ys h e = lookup-pass i k xs y ys h (λ a f. rw (← (cmp-same (key_of y) k e)) f) ∙ lookup-same (i + length xs) k y ys e
 
 -- ---- neighbours

@@ -11,8 +11,7 @@ use Rattle.lists.specs.Rows.{rows_of}
 use Rattle.lists.proofs.PartLaws.{part-part}
 use Rattle.lists.proofs.RowLaws.{length-rows_of, row-at}
 use Rattle.passage.specs.Layout.{key_wide, key_of}
-use Rattle.keys.specs.declared.Found.{Found}
-use Rattle.keys.specs.declared.Found.TheVariants.{At, Missing}
+use Rattle.std.specs.Prelude.{Result, Ok, Err}
 use Rattle.keys.specs.Keys.{cmp, by_order}
 use Rattle.keys.specs.Sorted.{sorted_rows, lookup_from, lookup}
 use Rattle.keys.proofs.FindLaws.{Seek, seek-start}
@@ -44,7 +43,7 @@ module _ (f : List ℕ → List ℕ) (same : (r : List ℕ) → key_of (f r) ≡
   from-keys : (i : ℕ) (rs : List (List ℕ)) → lookup_from i k (map f rs) ≡ lookup_from i k rs
   unfolding lookup_from
   from-keys i [] = refl
-  from-keys i (r ∷ rs) = rw (same r) (ap (λ (g : Found). by_order (cmp (key_of r) k) g (At i) (Missing i)) (from-keys (suc i) rs))
+  from-keys i (r ∷ rs) = rw (same r) (ap (λ (g : Result ℕ ℕ). by_order (cmp (key_of r) k) g (Ok i) (Err i)) (from-keys (suc i) rs))
 
   pub lookup-keys : (rs : List (List ℕ)) → lookup k (map f rs) ≡ lookup k rs
   unfolding lookup

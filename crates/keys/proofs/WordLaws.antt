@@ -18,7 +18,7 @@ use Rattle.lists.proofs.EachLaws.{bytes-part}
 use Rattle.lists.proofs.PartLaws.{part-add, part_step, part-done, length_part}
 use Rattle.lists.proofs.NumberTurnLaws.{read-start, read-turn}
 use Rattle.lists.proofs.BigEndianLaws.{number_same, precedes-number}
-use Rattle.keys.specs.declared.Order.TheVariants.{Less, Same, More}
+use Rattle.std.specs.declared.cmp.Ordering.TheVariants.{Less, Equal, Greater}
 use Rattle.keys.specs.Keys.{cmp, by_byte}
 use Rattle.keys.specs.Sorted.{is_less}
 use Rattle.keys.proofs.KeyLaws.{tri, by_byte-eq, flipped}
@@ -70,7 +70,7 @@ precedes-less [] (y ∷ m) u v e p = absurd (omega arith)
 precedes-less (x ∷ l) [] u v e p = absurd (omega arith)
 precedes-less (x ∷ l) (y ∷ m) u v e p = go (ltb x y) (ltb y x) p (precedes-less l m u v (omega arith))
   where
-    go : (s t : Bool) → on s true (on t false (precedes l m)) ≡ true → (precedes l m ≡ true → cmp (l ++ u) (m ++ v) ≡ Less) → on s Less (on t More (cmp (l ++ u) (m ++ v))) ≡ Less
+    go : (s t : Bool) → on s true (on t false (precedes l m)) ≡ true → (precedes l m ≡ true → cmp (l ++ u) (m ++ v) ≡ Less) → on s Less (on t Greater (cmp (l ++ u) (m ++ v))) ≡ Less
     go true t h ih = refl
     go false true h ih = let z : ◌≡◌ {A = ℕ} 0 1 = cc in absurd (omega arith)
     go false false h ih = ih h
@@ -122,7 +122,7 @@ module _ (a b : List ℕ) (p q n i w : ℕ) (ha : p + n ≤ length a) (hb : q + 
       let k : number (front a p) < number (front b q) = omega arith in
       rw (split a p, split b q) (front_less (front a p) (front b q) (rest a p) (rest b q) wide in-a in_b k)
 
-  pub word_more : y < x → cmp (part (p + i) (n - i) a) (part (q + i) (n - i) b) ≡ More
+  pub word_more : y < x → cmp (part (p + i) (n - i) a) (part (q + i) (n - i) b) ≡ Greater
   word_more h =
       let k : number (front b q) < number (front a p) = omega arith in
       let e : cmp (part (q + i) (n - i) b) (part (p + i) (n - i) a) ≡ Less =
@@ -150,15 +150,15 @@ module _ (a b : List ℕ) (p q n i w : ℕ) (ha : p + n ≤ length a) (hb : q + 
 -- ---- the last byte
 
 pub last_byte : (a b : List ℕ) (p q n i j : ℕ) → p + n ≤ length a → q + n ≤ length b → i ≡ j → j + 1 ≡ n
-    → cmp (part (p + i) (n - i) a) (part (q + i) (n - i) b) ≡ by_byte (get_or a (p + j) 0) (get_or b (q + j) 0) Same
+    → cmp (part (p + i) (n - i) a) (part (q + i) (n - i) b) ≡ by_byte (get_or a (p + j) 0) (get_or b (q + j) 0) Equal
 unfolding cmp
 last_byte a b p q n i j h k e f =
     rw (e, part_step a p n j (omega arith) (omega arith), part_step b q n j (omega arith) (omega arith), part-done a (p + (j + 1)) n (j + 1) (omega arith), part-done b (q + (j + 1)) n (j + 1) (omega arith))
 
-last_less : (x y : ℕ) → is_less (by_byte x y Same) ≡ ltb x y
+last_less : (x y : ℕ) → is_less (by_byte x y Equal) ≡ ltb x y
 last_less x y = go (ltb x y) (ltb y x)
   where
-    go : (s t : Bool) → is_less (on s Less (on t More Same)) ≡ s
+    go : (s t : Bool) → is_less (on s Less (on t Greater Equal)) ≡ s
     go true t = refl
     go false true = refl
     go false false = refl

@@ -1,7 +1,7 @@
 -- What is claimed of the order of keys, for any bytes. Assumes nothing.
 use Rattle.std.specs.Prelude.{◌≡◌, true, List, ◌↔◌, ℕ}
 use Rattle.lists.specs.BigEndian.{precedes}
-use Rattle.keys.specs.declared.Order.TheVariants.{Less, Same, More}
+use Rattle.std.specs.declared.cmp.Ordering.TheVariants.{Less, Equal, Greater}
 use Rattle.keys.specs.Keys.{cmp}
 
 -- a key is less exactly where it stands before the other in byte order
@@ -10,11 +10,11 @@ LessExactly = (a b : List ℕ) → (cmp a b ≡ Less) ↔ (precedes a b ≡ true
 
 -- it is the same exactly where the bytes are equal
 abbrev pub SameExactly : Type 0
-SameExactly = (a b : List ℕ) → (cmp a b ≡ Same) ↔ (a ≡ b)
+SameExactly = (a b : List ℕ) → (cmp a b ≡ Equal) ↔ (a ≡ b)
 
 -- it is more exactly where the other is less
 abbrev pub MoreExactly : Type 0
-MoreExactly = (a b : List ℕ) → (cmp a b ≡ More) ↔ (cmp b a ≡ Less)
+MoreExactly = (a b : List ℕ) → (cmp a b ≡ Greater) ↔ (cmp b a ≡ Less)
 
 -- all of these
 abbrev pub All : Type 0

@@ -1,12 +1,10 @@
 -- Rows sorted by key: each begins with its key, and the keys rise strictly. Assumes nothing.
-use Rattle.std.specs.Prelude.{ℕ, suc, Bool, true, false, ◌&&◌, List, [], ◌∷◌}
+use Rattle.std.specs.Prelude.{ℕ, suc, Bool, true, false, ◌&&◌, List, [], ◌∷◌, Result, Ok, Err}
 use Rattle.passage.specs.Layout.{key_of}
-use Rattle.keys.specs.declared.Order.{Order}
-use Rattle.keys.specs.declared.Found.{Found}
-use Rattle.keys.specs.declared.Found.TheVariants.{At, Missing}
+use Rattle.std.specs.declared.cmp.Ordering.{Ordering}
 use Rattle.keys.specs.Keys.{cmp, by_order}
 
-abbrev pub is_less : Order → Bool
+abbrev pub is_less : Ordering → Bool
 is_less o = by_order o true false false
 
 -- the keys of rs rise strictly, the first above r's
@@ -21,12 +19,12 @@ sorted_rows [] = true
 sorted_rows (r ∷ rs) = rises_from r rs
 
 -- where key k stands among sorted rows, or where its row would be put, if the first row has the place i
-unfoldable pub lookup_from : ℕ → List ℕ → List (List ℕ) → Found
-lookup_from i k [] = Missing i
-lookup_from i k (r ∷ rs) = by_order (cmp (key_of r) k) (lookup_from (suc i) k rs) (At i) (Missing i)
+unfoldable pub lookup_from : ℕ → List ℕ → List (List ℕ) → Result ℕ ℕ
+lookup_from i k [] = Err i
+lookup_from i k (r ∷ rs) = by_order (cmp (key_of r) k) (lookup_from (suc i) k rs) (Ok i) (Err i)
 
--- where key k stands among sorted rows: `At i`, row i has it; `Missing i`, no row has it, and its row would be put before row i
-unfoldable pub lookup : List ℕ → List (List ℕ) → Found
+-- where key k stands among sorted rows: `Ok i`, row i has it; `Err i`, no row has it, and its row would be put before row i
+unfoldable pub lookup : List ℕ → List (List ℕ) → Result ℕ ℕ
 lookup k rs = lookup_from 0 k rs
 
 -- the row of key k among sorted rows; [], no bytes, says that there is none: every row begins with its key, so no row is empty

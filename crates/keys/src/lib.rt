@@ -7,22 +7,10 @@ ghost use Rattle.lists.specs.Rows.{rows_of};
 ghost use Rattle.lists.specs.BigEndian.{number};
 ghost use Rattle.passage.specs.Layout.{key_wide};
 ghost use Rattle.keys.specs.Keys.{cmp, by_byte};
-ghost use Rattle.keys.specs.declared.Order.TheVariants.{Same};
+ghost use Rattle.std.specs.declared.cmp.Ordering.TheVariants.{Equal};
 ghost use Rattle.keys.specs.Sorted.{is_less, sorted_rows, lookup};
 
-#[derive(Clone, Copy)]
-pub enum Order {
-    Less,
-    Same,
-    More,
-}
-
-// Where a key stands, or where its row would be put.
-#[derive(Clone, Copy)]
-pub enum Found {
-    At(usize),
-    Missing(usize),
-}
+use std::cmp::Ordering;
 
 // Keys are compared eight bytes at a time, and the last byte by itself.
 const WORDS: usize = passage::KEY_WIDE / 8;
@@ -44,20 +32,20 @@ fn word_at(bytes: &[u8], at: usize) -> u64
 }
 
 // The last bytes of two keys.
-fn compare_last(x: u8, y: u8) -> Order
-    ensures { result ≡ by_byte x y Same }
+fn compare_last(x: u8, y: u8) -> Ordering
+    ensures { result ≡ by_byte x y Equal }
 {
     if x < y {
-        return Order::Less;
+        return Ordering::Less;
     }
     if y < x {
-        return Order::More;
+        return Ordering::Greater;
     }
-    Order::Same
+    Ordering::Equal
 }
 
 // The key from `here` on in `left` against the one from `there` on in `right`, in byte order.
-pub fn compare_key(left: &[u8], here: usize, right: &[u8], there: usize) -> Order
+pub fn compare_key(left: &[u8], here: usize, right: &[u8], there: usize) -> Ordering
     requires { (here + key_wide ≤ length left.now) × (there + key_wide ≤ length right.now) }
     ensures { result ≡ cmp (part here key_wide left.now) (part there key_wide right.now) }
 {
@@ -66,10 +54,10 @@ pub fn compare_key(left: &[u8], here: usize, right: &[u8], there: usize) -> Orde
         let x = word_at(left, here + i * 8);
         let y = word_at(right, there + i * 8);
         if x < y {
-            return Order::Less;
+            return Ordering::Less;
         }
         if y < x {
-            return Order::More;
+            return Ordering::Greater;
         }
         i += 1;
     }
@@ -112,7 +100,7 @@ pub fn keys_rise(bytes: &[u8], width: usize, offset: usize, count: usize) -> boo
     true
 }
 
-// Where the key from `from` on in `key` stands among so many rows of `width` bytes, each with its key from `offset` on; or where its row would be put.
+// Where the key from `from` on in `key` stands among so many rows of `width` bytes, each with its key from `offset` on; or, as `Err`, where its row would be put.
 pub fn find_key(
     bytes: &[u8],
     width: usize,
@@ -120,7 +108,7 @@ pub fn find_key(
     count: usize,
     key: &[u8],
     from: usize,
-) -> Found
+) -> Result<usize, usize>
     requires width_in_bounds { (count * width ≤ length bytes.now) × (offset + key_wide ≤ width) × (from + key_wide ≤ length key.now) }
     requires bytes_value { sorted_rows (map (part offset (width - offset)) (rows_of width count bytes.now)) ≡ true }
     ensures { result ≡ lookup (part from key_wide key.now) (map (part offset (width - offset)) (rows_of width count bytes.now)) }
@@ -131,16 +119,16 @@ pub fn find_key(
         let mid = lo + (hi - lo) / 2;
         let o = compare_key(bytes, mid * width + offset, key, from);
         match o {
-            Order::Less => {
+            Ordering::Less => {
                 lo = mid + 1;
             }
-            Order::Same => {
-                return Found::At(mid);
+            Ordering::Equal => {
+                return Ok(mid);
             }
-            Order::More => {
+            Ordering::Greater => {
                 hi = mid;
             }
         }
     }
-    Found::Missing(lo)
+    Err(lo)
 }

@@ -15,8 +15,7 @@ use Rattle.passage.specs.Layout.{row_wide}
 use Rattle.keys.specs.Replay.{taken_all}
 use Rattle.table.specs.Rules.{table_sound, table_room}
 use Rattle.table.proofs.SoundLaws.{sound-within}
-use Rattle.messages_take.specs.declared.Fitted.{Fitted}
-use Rattle.messages_take.specs.declared.Fitted.TheVariants.{Count, TooMany}
+use Rattle.std.specs.Prelude.{Option, Some, None}
 use Rattle.messages_take.specs.inner.Fitting.{fitting, fitting_in}
 use Rattle.messages_take.proofs.FittingLaws.{count-told, too-many-told, in-yes, in-no}
 use Rattle.book.specs.Entries.{entry_wide, entries_of, updates_in}
@@ -53,19 +52,19 @@ module _ (bodies : List (List ℕ)) (sender : ℕ) (book table : List ℕ) (c : 
   book-short h r e = refuses BookShort (rw (lt-leb _ _ h)) refl r e
 
   -- the table's rows taken, or too many of them
-  module _ (most : ℕ) (m : most ≡ table_room table) (f : Fitted) (t : List ℕ)
+  module _ (most : ℕ) (m : most ≡ table_room table) (f : Option ℕ) (t : List ℕ)
       (p : (f ≡ fitting most (rows_taken bodies table c.rows)) × (t ≡ fitting_in c.rows most (rows_taken bodies table c.rows) table)) where
     abbrev rs : List (List ℕ)
     rs = rows_taken bodies table c.rows
 
-    pub table-short : c.used + length bodies * entry_wide ≤ book_room book → f ≡ TooMany → (r : Outcome) → r ≡ outcome_of TableShort c → Left r book t
+    pub table-short : c.used + length bodies * entry_wide ≤ book_room book → f ≡ None → (r : Outcome) → r ≡ outcome_of TableShort c → Left r book t
     unfolding room_for
     table-short h e r x =
         let over = too-many-told c.rows most rs table (sym p.0 ∙ e) in
         let k : leb (length rs) (table_room table) ≡ false = ap (leb (length rs)) (sym m) ∙ over in
         ap (leaves r book) (p.1 ∙ in-no c.rows most rs table over) ∙ refuses TableShort (rw (le-leb _ _ h, k)) refl r x
 
-    pub fits : (length bodies ≡ 0 → ⊥) → c.used + length bodies * entry_wide ≤ book_room book → (n : ℕ) → f ≡ Count n → (r : Outcome) (b : List ℕ) (k : ℕ) → k ≡ length bodies
+    pub fits : (length bodies ≡ 0 → ⊥) → c.used + length bodies * entry_wide ≤ book_room book → (n : ℕ) → f ≡ Some n → (r : Outcome) (b : List ℕ) (k : ℕ) → k ≡ length bodies
         → r ≡ outcome_of (Accepted (next_number (updates_in c.used book))) (counts_of (c.used + k * entry_wide) n)
         → b ≡ book_taking (next_in c.used book) bodies sender book c.used → Left r b t
     unfolding room_for table_taking

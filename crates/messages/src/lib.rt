@@ -178,7 +178,7 @@ pub fn take_rows(
     }
     let most = table::rows_room(table);
     match messages_take::take_fitting(table, held, staging, count, most) {
-        messages_take::Fitted::Count(rows) => write_rows(staging, count, sender, book, used, rows),
-        messages_take::Fitted::TooMany => calls::unchanged(Answer::TableShort, counts),
+        Some(rows) => write_rows(staging, count, sender, book, used, rows),
+        None => calls::unchanged(Answer::TableShort, counts),
     }
 }

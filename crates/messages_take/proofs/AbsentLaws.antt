@@ -16,7 +16,7 @@ use Rattle.lists.specs.Rows.{rows_of, Wide}
 use Rattle.lists.proofs.RowLaws.{length-rows_of, rows_of-start, rows_of-step}
 use Rattle.lists.proofs.WideLaws.{wide-rows_of}
 use Rattle.passage.specs.Layout.{key_wide, body_wide, row_wide, key_of}
-use Rattle.keys.specs.declared.Found.TheVariants.{At, Missing}
+use Rattle.std.specs.Prelude.{Ok, Err}
 use Rattle.keys.specs.Sorted.{lookup, get}
 use Rattle.keys.specs.Replay.{taken, taken_all}
 use Rattle.keys.proofs.CountLaws.{length-put-held}
@@ -76,12 +76,12 @@ few-fit s t n m most missing h l e k =
 -- ---- what a search tells of a key
 
 module _ (t s : List ℕ) (n at i : ℕ) (fits : n * row_wide ≤ length t) (there : at + body_wide ≤ length s) where
-  pub held-there : lookup (part at key_wide s) (rows_of row_wide n t) ≡ At i → one_if_none (get (key_of (part at body_wide s)) (rows_of row_wide n t)) ≡ 0
+  pub held-there : lookup (part at key_wide s) (rows_of row_wide n t) ≡ Ok i → one_if_none (get (key_of (part at body_wide s)) (rows_of row_wide n t)) ≡ 0
   held-there e =
       let l = held_whole t s n at i fits there e in
       rw (held-is t s n at i fits there e) (lacking-full (part (i * row_wide) row_wide t) (omega arith))
 
-  pub new-lacks : lookup (part at key_wide s) (rows_of row_wide n t) ≡ Missing i → one_if_none (get (key_of (part at body_wide s)) (rows_of row_wide n t)) ≡ 1
+  pub new-lacks : lookup (part at key_wide s) (rows_of row_wide n t) ≡ Err i → one_if_none (get (key_of (part at body_wide s)) (rows_of row_wide n t)) ≡ 1
   new-lacks e = ap one_if_none (new_none t s n at i fits there e)
 
 -- ---- counted in a loop

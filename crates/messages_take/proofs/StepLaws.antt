@@ -13,8 +13,7 @@ use Rattle.lists.proofs.OverLaws.{onto-fits}
 use Rattle.lists.proofs.RowLaws.{length-rows_of, row-at}
 use Rattle.lists.proofs.RowWriteLaws.{store-replace, length-insert_at}
 use Rattle.passage.specs.Layout.{key_wide, body_wide, row_wide, key_of}
-use Rattle.keys.specs.declared.Found.{Found}
-use Rattle.keys.specs.declared.Found.TheVariants.{At, Missing}
+use Rattle.std.specs.Prelude.{Result, Ok, Err}
 use Rattle.keys.specs.Sorted.{lookup, get, put}
 use Rattle.keys.specs.Replay.{taken}
 use Rattle.keys.proofs.PutLaws.{put_by, put-at, get_at, found_below, missing-within}
@@ -76,18 +75,18 @@ module _ (t s : List ℕ) (n at i : ℕ) (fits : n * row_wide ≤ length t) (bod
   key-there : part at key_wide s ≡ key_of u
   key-there = sym (part-part 0 key_wide at body_wide s (omega arith) ∙ ap (λ (m : ℕ). part m key_wide s) (add-zero at))
 
-  taken-by : (f : Found) → lookup (part at key_wide s) rs ≡ f → taken row_rule u rs ≡ put_by f (row_rule (get (key_of u) rs) u) rs
+  taken-by : (f : Result ℕ ℕ) → lookup (part at key_wide s) rs ≡ f → taken row_rule u rs ≡ put_by f (row_rule (get (key_of u) rs) u) rs
   unfolding taken
   taken-by f e =
       let k : key_of (row_rule (get (key_of u) rs) u) ≡ part at key_wide s = keeps (get (key_of u) rs) u wide (get-own (key_of u) rs) ∙ sym key-there in
       put-at (row_rule (get (key_of u) rs) u) rs f (rw k e)
 
-  module _ (e : lookup (part at key_wide s) rs ≡ At i) where
+  module _ (e : lookup (part at key_wide s) rs ≡ Ok i) where
     pub held_below : i < n
     held_below = found_below row_wide n i (part at key_wide s) t e
 
     pub held-is : get (key_of u) rs ≡ part (i * row_wide) row_wide t
-    held-is = get_at (key_of u) rs (At i) (rw (← key-there) e) ∙ row-at row_wide n i t held_below
+    held-is = get_at (key_of u) rs (Ok i) (rw (← key-there) e) ∙ row-at row_wide n i t held_below
 
     pub held_whole : length (part (i * row_wide) row_wide t) ≡ row_wide
     held_whole = let h = held_below in length_part (i * row_wide) row_wide t (omega arith)
@@ -99,7 +98,7 @@ module _ (t s : List ℕ) (n at i : ℕ) (fits : n * row_wide ≤ length t) (bod
         rw held-is (ap (λ (r : List ℕ). apply_row r u) (begun-held (part (i * row_wide) row_wide t) (omega arith)))
 
     taken-held : taken row_rule u rs ≡ set rs i (apply_row (part (i * row_wide) row_wide t) u)
-    taken-held = taken-by (At i) e ∙ ap (λ (r : List ℕ). set rs i r) rule-is
+    taken-held = taken-by (Ok i) e ∙ ap (λ (r : List ℕ). set rs i r) rule-is
 
     pub held-count : n ≡ length (taken row_rule u rs)
     held-count = sym (rw (taken-held, length-set) (length-rows_of row_wide n t))
@@ -110,15 +109,15 @@ module _ (t s : List ℕ) (n at i : ℕ) (fits : n * row_wide ≤ length t) (bod
         let l : length r ≡ row_wide = ap length (sym rule-is) ∙ whole (get (key_of u) rs) u wide (inr (ap length held-is ∙ held_whole)) in
         f ∙ store-replace row_wide n i t fits r l held_below ∙ ap (λ (qs : List (List ℕ)). store row_wide n qs t) (sym taken-held)
 
-  module _ (e : lookup (part at key_wide s) rs ≡ Missing i) where
+  module _ (e : lookup (part at key_wide s) rs ≡ Err i) where
     pub new-within : i ≤ n
     new-within = missing-within row_wide n i (part at key_wide s) t e
 
     pub new_none : get (key_of u) rs ≡ []
-    new_none = get_at (key_of u) rs (Missing i) (rw (← key-there) e)
+    new_none = get_at (key_of u) rs (Err i) (rw (← key-there) e)
 
     taken-new : taken row_rule u rs ≡ insert_at i (row_rule [] u) rs
-    taken-new = taken-by (Missing i) e ∙ ap (λ (h : List ℕ). insert_at i (row_rule h u) rs) new_none
+    taken-new = taken-by (Err i) e ∙ ap (λ (h : List ℕ). insert_at i (row_rule h u) rs) new_none
 
     pub new-count : n + 1 ≡ length (taken row_rule u rs)
     new-count = sym (rw taken-new (length-insert_at row_wide n i t fits (row_rule [] u) new-within))

@@ -29,7 +29,7 @@ fn take_found(
     count: usize,
     bodies: &[u8],
     from: usize,
-    found: keys::Found,
+    found: Result<usize, usize>,
 ) -> usize
     requires row_wide_in_bounds { (count * row_wide ≤ length table.old) × (from + body_wide ≤ length bodies.now) }
     requires found_value { found ≡ lookup (part from key_wide bodies.now) (rows_of row_wide count table.old) }
@@ -38,11 +38,11 @@ fn take_found(
     ensures table_after { table.new ≡ store row_wide count (taken row_rule (part from body_wide bodies.now) (rows_of row_wide count table.old)) table.old }
 {
     match found {
-        keys::Found::At(i) => {
+        Ok(i) => {
             update::apply_row(table, i * passage::ROW_WIDE, bodies, from);
             count
         }
-        keys::Found::Missing(i) => {
+        Err(i) => {
             insert_new(table, count, i, bodies, from);
             count + 1
         }
@@ -115,13 +115,6 @@ pub fn take_placed(
 
 // ---- only where their rows fit
 
-// How many rows there are once updates are taken, or that there would be too many.
-#[derive(Clone, Copy)]
-pub enum Fitted {
-    Count(usize),
-    TooMany,
-}
-
 // At most so many updates are taken at once: the rows of the longest dossier.
 pub const MOST_UPDATES: usize = 2427;
 
@@ -184,11 +177,11 @@ fn locate_all(
     while k < updates {
         let f = table::find(table, count, bodies, k * passage::BODY_WIDE);
         match f {
-            keys::Found::At(i) => {
+            Ok(i) => {
                 places[k] = i;
                 k += 1;
             }
-            keys::Found::Missing(i) => {
+            Err(i) => {
                 places[k] = i;
                 missing += 1;
                 k += 1;
@@ -226,7 +219,7 @@ fn take_tight(
     updates: usize,
     most: usize,
     places: &mut [usize],
-) -> Fitted
+) -> Option<usize>
     requires row_wide_in_bounds { (count * row_wide ≤ length table.old) × (updates * body_wide ≤ length bodies.now) × (count ≤ most) × (most ≤ most_rows) × (updates ≤ most_updates) }
     requires table_value { sorted_rows (rows_of row_wide count table.old) ≡ true }
     requires row_wide_in_bounds_2 { (most * row_wide ≤ length table.old) × (updates ≤ length places.old) }
@@ -235,19 +228,19 @@ fn take_tight(
 {
     let missing = locate_all(table, count, bodies, updates, places);
     if fits_with(table, count, bodies, updates, most, missing) {
-        return Fitted::Count(take_placed(table, count, bodies, updates, places));
+        return Some(take_placed(table, count, bodies, updates, places));
     }
-    Fitted::TooMany
+    None
 }
 
-// The updates are taken into the rows, if there are then at most `most`; else nothing is.
+// The updates are taken into the rows, if there are then at most `most`, and the new count is answered; else nothing is, for there would be too many.
 pub fn take_fitting(
     table: &mut [u8],
     count: usize,
     bodies: &[u8],
     updates: usize,
     most: usize,
-) -> Fitted
+) -> Option<usize>
     requires row_wide_in_bounds { (count * row_wide ≤ length table.old) × (updates * body_wide ≤ length bodies.now) × (count ≤ most) × (most ≤ most_rows) × (updates ≤ most_updates) }
     requires table_value { sorted_rows (rows_of row_wide count table.old) ≡ true }
     requires row_wide_in_bounds_2 { most * row_wide ≤ length table.old }
@@ -255,7 +248,7 @@ pub fn take_fitting(
     ensures table_after { table.new ≡ fitting_in count most (taken_all row_rule (rows_of body_wide updates bodies.now) (rows_of row_wide count table.old)) table.old }
 {
     if count + updates <= most {
-        return Fitted::Count(take_all(table, count, bodies, updates));
+        return Some(take_all(table, count, bodies, updates));
     }
     let mut places = [0usize; MOST_UPDATES];
     take_tight(table, count, bodies, updates, most, &mut places)

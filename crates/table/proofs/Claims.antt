@@ -13,7 +13,7 @@ use Rattle.lists.proofs.StoreLaws.{length-store, store-behind, store-freed}
 use Rattle.passage.specs.Layout.{row_wide, key_of}
 use Rattle.passage.specs.Ranges.{row_in_range}
 use Rattle.passage.proofs.RangeLaws.{row-facts, facts-row}
-use Rattle.keys.specs.declared.Found.TheVariants.{At, Missing}
+use Rattle.std.specs.Prelude.{Ok, Err}
 use Rattle.keys.specs.Sorted.{sorted_rows, lookup, put, remove}
 use Rattle.keys.proofs.SortedLaws.{sorted-pair, pairs-sorted}
 use Rattle.keys.proofs.KeyLaws.{cmp-refl, cmp-same}
@@ -63,18 +63,18 @@ room-exactly n t = (λ h. (le_trans h (room_most t), room-holds n t h), λ h. ro
 -- ---- where a key stands
 
 -- a row's key is found where the row stands
-here : (k : List ℕ) (rs : List (List ℕ)) → sorted_rows rs ≡ true → (i : ℕ) → i < length rs → key_of (get_or rs i []) ≡ k → lookup k rs ≡ At i
+here : (k : List ℕ) (rs : List (List ℕ)) → sorted_rows rs ≡ true → (i : ℕ) → i < length rs → key_of (get_or rs i []) ≡ k → lookup k rs ≡ Ok i
 here k rs h i l e = sym (seek-here rs k 0 i (length rs) (seek-start rs k h) (omega arith) l (rw e (cmp-refl k)))
 
 find-exactly : FindExactly
 find-exactly k rs h i = (
   λ e. (rw e at (lookup-within k rs), found-key k rs i e),
   here k rs h i,
-  λ e j l f. let p : At j ≡ Missing i = sym (here k rs h j l f) ∙ e in let z : ◌≡◌ {A = ℕ} 0 1 = cc in absurd (omega arith),
+  λ e j l f. let p : Ok j ≡ Err i = sym (here k rs h j l f) ∙ e in let z : ◌≡◌ {A = ℕ} 0 1 = cc in absurd (omega arith),
 )
 
 each-row-is-got : EachRowIsGot
-each-row-is-got rs h i l = get_at (key_of (get_or rs i [])) rs (At i) (here (key_of (get_or rs i [])) rs h i l refl)
+each-row-is-got rs h i l = get_at (key_of (get_or rs i [])) rs (Ok i) (here (key_of (get_or rs i [])) rs h i l refl)
 
 -- ---- rows put in and taken out
 

@@ -1,11 +1,10 @@
 -- The table's rules run on small examples. Assumes nothing.
-use Rattle.std.specs.Prelude.{◌≡◌, refl, true, false, List, [], ◌∷◌, ℕ, ◌+◌, ◌*◌, replicate}
+use Rattle.std.specs.Prelude.{◌≡◌, refl, true, false, List, [], ◌∷◌, ℕ, ◌+◌, ◌*◌, replicate, Ok, Err}
 use Rattle.lists.specs.Part.{part, onto}
 use Rattle.lists.specs.Rows.{rows_of, flat, store}
 use Rattle.passage.specs.Layout.{row_wide}
 use Rattle.keys.specs.Keys.{cmp}
 use Rattle.keys.specs.Sorted.{rises_from, sorted_rows, lookup_from, lookup, get, put, remove}
-use Rattle.keys.specs.declared.Found.TheVariants.{At, Missing}
 use Rattle.table.specs.Rules.{table_room, all_in_range, table_sound}
 
 -- three bytes are no room for a row; two rows and some bytes are room for two
@@ -26,7 +25,7 @@ sorted-case : (sorted_rows short ≡ true) × (sorted_rows ((3 ∷ []) ∷ (3 �
 unfolding sorted_rows rises_from cmp part short
 sorted-case = (refl, refl)
 
-lookup-case : (lookup (3 ∷ 0 ∷ []) short ≡ At 1) × (lookup (2 ∷ 9 ∷ []) short ≡ Missing 1)
+lookup-case : (lookup (3 ∷ 0 ∷ []) short ≡ Ok 1) × (lookup (2 ∷ 9 ∷ []) short ≡ Err 1)
 unfolding lookup lookup_from cmp part short
 lookup-case = (refl, refl)
 

@@ -1,13 +1,12 @@
 -- What is claimed of the table: of its soundness, of where a key stands, and of rows put in and taken out, for any rows and bytes. Assumes nothing.
-use Rattle.std.specs.Prelude.{◌≡◌, true, List, [], ◌↔◌, ℕ, ◌+◌, ◌*◌, ◌≤◌, ◌<◌, ◌-◌, length, get_or, drop, replicate}
+use Rattle.std.specs.Prelude.{◌≡◌, true, List, [], ◌↔◌, ℕ, ◌+◌, ◌*◌, ◌≤◌, ◌<◌, ◌-◌, length, get_or, drop, replicate, Ok, Err}
 use Rattle.lists.specs.Part.{part}
 use Rattle.lists.specs.Each.{Each}
 use Rattle.lists.specs.Rows.{store}
 use Rattle.passage.specs.Layout.{key_of, row_wide}
 use Rattle.passage.specs.Facts.{RowFacts}
-use Rattle.keys.specs.declared.Order.TheVariants.{Less}
+use Rattle.std.specs.declared.cmp.Ordering.TheVariants.{Less}
 use Rattle.keys.specs.Keys.{cmp}
-use Rattle.keys.specs.declared.Found.TheVariants.{At, Missing}
 use Rattle.keys.specs.Sorted.{sorted_rows, lookup, get, put, remove}
 use Rattle.table.specs.Rules.{table_room, table_sound, rows}
 
@@ -35,9 +34,9 @@ RoomExactly = (n : ℕ) (t : List ℕ) → (n ≤ table_room t) ↔ ((n ≤ 2048
 abbrev pub FindExactly : Type 0
 FindExactly =
     (k : List ℕ) (rs : List (List ℕ)) → sorted_rows rs ≡ true → (i : ℕ)
-    → (lookup k rs ≡ At i → (i < length rs) × (key_of (get_or rs i []) ≡ k))
-    × (i < length rs → key_of (get_or rs i []) ≡ k → lookup k rs ≡ At i)
-    × (lookup k rs ≡ Missing i → (j : ℕ) → j < length rs → key_of (get_or rs j []) ≡ k → ⊥)
+    → (lookup k rs ≡ Ok i → (i < length rs) × (key_of (get_or rs i []) ≡ k))
+    × (i < length rs → key_of (get_or rs i []) ≡ k → lookup k rs ≡ Ok i)
+    × (lookup k rs ≡ Err i → (j : ℕ) → j < length rs → key_of (get_or rs j []) ≡ k → ⊥)
 
 -- each row is got by its key
 abbrev pub EachRowIsGot : Type 0

@@ -10,6 +10,8 @@ ghost use Rattle.keys.specs.Sorted.{sorted_rows, lookup, remove};
 ghost use Rattle.lists.specs.Rows.{insert_at, remove_at, store};
 ghost use Rattle.passage.specs.inner.Roles.{all_common};
 
+use std::cmp::Ordering;
+
 // The most rows that a table has.
 pub const MOST_ROWS: usize = 2048;
 
@@ -62,8 +64,8 @@ pub fn table_is_sound(table: &[u8], count: usize) -> bool
 
 // ---- where a key stands
 
-// Where the key from `from` on in `key` stands among the first `count` rows, or where its row would be put.
-pub fn find(table: &[u8], count: usize, key: &[u8], from: usize) -> keys::Found
+// Where the key from `from` on in `key` stands among the first `count` rows, or, as `Err`, where its row would be put.
+pub fn find(table: &[u8], count: usize, key: &[u8], from: usize) -> Result<usize, usize>
     requires row_wide_in_bounds { (count * row_wide ≤ length table.now) × (from + key_wide ≤ length key.now) }
     requires table_value { sorted_rows (rows count table.now) ≡ true }
     ensures { result ≡ lookup (part from key_wide key.now) (rows count table.now) }
@@ -85,7 +87,13 @@ fn probe(lo: usize, hi: usize, wish: usize) -> usize
 }
 
 // The same as `find`, but it looks first at the place `hint`, then a little behind it: quick where the key stands there or soon after.
-pub fn find_near(table: &[u8], count: usize, key: &[u8], from: usize, hint: usize) -> keys::Found
+pub fn find_near(
+    table: &[u8],
+    count: usize,
+    key: &[u8],
+    from: usize,
+    hint: usize,
+) -> Result<usize, usize>
     requires row_wide_in_bounds { (count * row_wide ≤ length table.now) × (from + key_wide ≤ length key.now) }
     requires table_value { sorted_rows (rows count table.now) ≡ true }
     ensures { result ≡ lookup (part from key_wide key.now) (rows count table.now) }
@@ -99,21 +107,21 @@ pub fn find_near(table: &[u8], count: usize, key: &[u8], from: usize, hint: usiz
         let look = probe(low, high, wish);
         let o = keys::compare_key(table, look * passage::ROW_WIDE, key, from);
         match o {
-            keys::Order::Less => {
+            Ordering::Less => {
                 low = look + 1;
                 wish = look + leap;
                 leap = next;
                 next = count;
             }
-            keys::Order::Same => {
-                return keys::Found::At(look);
+            Ordering::Equal => {
+                return Ok(look);
             }
-            keys::Order::More => {
+            Ordering::Greater => {
                 high = look;
             }
         }
     }
-    keys::Found::Missing(low)
+    Err(low)
 }
 
 // ---- a row put in, replaced or taken out
@@ -156,10 +164,10 @@ pub fn remove_key(table: &mut [u8], count: usize, key: &[u8], from: usize) -> us
 {
     let f = find(table, count, key, from);
     match f {
-        keys::Found::At(i) => {
+        Ok(i) => {
             remove_row(table, count, i);
             count - 1
         }
-        keys::Found::Missing(_) => count,
+        Err(_) => count,
     }
 }

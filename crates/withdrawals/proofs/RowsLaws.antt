@@ -13,7 +13,7 @@ use Rattle.lists.specs.Text.{same}
 use Rattle.lists.specs.Part.{part}
 use Rattle.lists.proofs.PartLaws.{length_part}
 use Rattle.passage.specs.Layout.{row_wide, key_of}
-use Rattle.keys.specs.declared.Order.TheVariants.{Less}
+use Rattle.std.specs.declared.cmp.Ordering.TheVariants.{Less}
 use Rattle.keys.specs.Keys.{cmp}
 use Rattle.keys.specs.Sorted.{sorted_rows, rises_from, get, put, remove}
 use Rattle.keys.specs.Replay.{becoming, reworked}

@@ -11,13 +11,13 @@ use Rattle.book.specs.Entries.{plan_wide, entry_wide, plan_count, updates_in}
 use Rattle.book.specs.Rules.{book_sound, marked_withdrawn}
 use Rattle.book.proofs.SplitLaws.{sound-split, length-updates}
 use Rattle.book.proofs.MarkLaws.{marks-alone}
-use Rattle.book_find.specs.declared.Held.TheVariants.{At}
+use Rattle.std.specs.Prelude.{Some}
 use Rattle.book_find.specs.inner.Held.{held_as}
 use Rattle.book_find.proofs.HeldLaws.{held-is, found-message}
 use Rattle.calls.specs.Withdraw.{book_without}
 use Rattle.withdrawals.specs.inner.Steps.{MessageAt}
 
-module _ (n used : ℕ) (b : List ℕ) (sound : book_sound used b ≡ true) (i m : ℕ) (found : held_as n (updates_in used b) ≡ At i m) where
+module _ (n used : ℕ) (b : List ℕ) (sound : book_sound used b ≡ true) (i m : ℕ) (found : held_as n (updates_in used b) ≡ Some (i, m)) where
   abbrev us : List (List ℕ)
   us = updates_in used b
 

@@ -11,7 +11,6 @@ ghost use Rattle.calls.specs.Numbers.{withdraw_numbers};
 ghost use Rattle.withdrawals_replay.specs.inner.Slots.{slot_wide, slots_of};
 ghost use Rattle.withdrawals.specs.inner.Steps.{MessageAt, names_in, worked_out, room_leaves};
 
-use book_find::Held;
 use calls::{Answer, Counts, Outcome};
 
 // The message has so many entries from `at` on: 12, then 11, then what follows.
@@ -58,8 +57,8 @@ fn withdraw_sound(
     let used = counts.used;
     let h = book_find::find_message(book, used, number);
     match h {
-        Held::Nowhere => calls::unchanged(Answer::NoMessage, counts),
-        Held::At(i, count) => {
+        None => calls::unchanged(Answer::NoMessage, counts),
+        Some((i, count)) => {
             let at = book::count_plans(book, used) * book::PLAN_WIDE + i * book::ENTRY_WIDE;
             withdraw_found(number, sender, at, count, book, table, counts)
         }

@@ -16,8 +16,7 @@ use Rattle.lists.proofs.PartLaws.{length_part}
 use Rattle.lists.proofs.ReadLaws.{drop-behind}
 use Rattle.lists.proofs.RowLaws.{row-at, length-rows_of}
 use Rattle.passage.specs.Layout.{key_wide, body_wide, key_of}
-use Rattle.keys.specs.declared.Found.{Found}
-use Rattle.keys.specs.declared.Found.TheVariants.{At, Missing}
+use Rattle.std.specs.Prelude.{Result, Ok, Err}
 use Rattle.keys.specs.Sorted.{sorted_rows, lookup}
 use Rattle.keys.proofs.PutLaws.{lookup-within}
 use Rattle.update.specs.Rule.{row_rule}
@@ -46,34 +45,34 @@ module _ (c p : ℕ) (b d : List ℕ) (names : List (List ℕ)) (fits : c * slot
   abbrev u : List ℕ
   u = part p body_wide b
 
-  found_as : (f : Found) → f ≡ lookup (part p key_wide b) names → lookup (key_of u) (map slot_key (slots_of c d)) ≡ f
+  found_as : (f : Result ℕ ℕ) → f ≡ lookup (part p key_wide b) names → lookup (key_of u) (map slot_key (slots_of c d)) ≡ f
   found_as f e = rw (keys, plan-key-at p b) (sym e)
 
-  pub update-below : (i : ℕ) → At i ≡ lookup (part p key_wide b) names → i < c
+  pub update-below : (i : ℕ) → Ok i ≡ lookup (part p key_wide b) names → i < c
   update-below i e =
       let w = rw (sym e, ← keys) at (lookup-within (part p key_wide b) names) in
       let l : length (map slot_key (slots_of c d)) ≡ c = length-map (slots_of c d) slot_key ∙ length-rows_of slot_wide c d in
       omega arith
 
-  pub update-taken : (i : ℕ) (s : List ℕ) → At i ≡ lookup (part p key_wide b) names → s ≡ over (i * slot_wide) (1 ∷ row_rule (slot_row (part (i * slot_wide) slot_wide d)) u) d
+  pub update-taken : (i : ℕ) (s : List ℕ) → Ok i ≡ lookup (part p key_wide b) names → s ≡ over (i * slot_wide) (1 ∷ row_rule (slot_row (part (i * slot_wide) slot_wide d)) u) d
       → slots_of c s ≡ map (take_in u) (slots_of c d)
   update-taken i s e g =
       let h = update-below i e in
       let wide = rule-wide (slot_row (part (i * slot_wide) slot_wide d)) u (length_part p body_wide b body) in
       ap (slots_of c) g
       ∙ slots_set c i (1 ∷ row_rule (slot_row (part (i * slot_wide) slot_wide d)) u) d fits h (omega arith)
-      ∙ rw (← row-at slot_wide c i d h) (sym (take_found u (slots_of c d) (At i) (rw keys rises) (found_as (At i) e)))
+      ∙ rw (← row-at slot_wide c i d h) (sym (take_found u (slots_of c d) (Ok i) (rw keys rises) (found_as (Ok i) e)))
 
   -- what lies behind the slots stays
-  pub update-rest : (i : ℕ) (s : List ℕ) → At i ≡ lookup (part p key_wide b) names → s ≡ over (i * slot_wide) (1 ∷ row_rule (slot_row (part (i * slot_wide) slot_wide d)) u) d
+  pub update-rest : (i : ℕ) (s : List ℕ) → Ok i ≡ lookup (part p key_wide b) names → s ≡ over (i * slot_wide) (1 ∷ row_rule (slot_row (part (i * slot_wide) slot_wide d)) u) d
       → drop (c * slot_wide) s ≡ drop (c * slot_wide) d
   update-rest i s e g =
       let h = update-below i e in
       let wide = rule-wide (slot_row (part (i * slot_wide) slot_wide d)) u (length_part p body_wide b body) in
       ap (drop (c * slot_wide)) g ∙ drop-behind (c * slot_wide) (i * slot_wide) (1 ∷ row_rule (slot_row (part (i * slot_wide) slot_wide d)) u) d (omega arith)
 
-  pub update-missing : (i : ℕ) → Missing i ≡ lookup (part p key_wide b) names → slots_of c d ≡ map (take_in u) (slots_of c d)
-  update-missing i e = sym (take_found u (slots_of c d) (Missing i) (rw keys rises) (found_as (Missing i) e))
+  pub update-missing : (i : ℕ) → Err i ≡ lookup (part p key_wide b) names → slots_of c d ≡ map (take_in u) (slots_of c d)
+  update-missing i e = sym (take_found u (slots_of c d) (Err i) (rw keys rises) (found_as (Err i) e))
 
 -- ---- one entry: it is taken if it stands and is of another message
 

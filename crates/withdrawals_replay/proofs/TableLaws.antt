@@ -17,8 +17,7 @@ use Rattle.lists.proofs.StoreLaws.{store_same}
 use Rattle.lists.proofs.EachLaws.{each_at}
 use Rattle.lists.proofs.WideLaws.{wide-rows_of}
 use Rattle.passage.specs.Layout.{key_wide, row_wide}
-use Rattle.keys.specs.declared.Found.{Found}
-use Rattle.keys.specs.declared.Found.TheVariants.{At, Missing}
+use Rattle.std.specs.Prelude.{Result, Ok, Err}
 use Rattle.keys.specs.Sorted.{sorted_rows, lookup, get, put, remove}
 use Rattle.keys.proofs.PutLaws.{get_at, lookup-within}
 use Rattle.keys.proofs.CountLaws.{put-least, remove-most}
@@ -82,15 +81,15 @@ module _ (n at i : ℕ) (t s : List ℕ) (fits : n * row_wide ≤ length t) (the
   unfolding slot_row
   row-empty e = rw e
 
-  got : (f : Found) → f ≡ lookup (part (at + 1) key_wide s) (rows n t) → lookup (slot_key (slot at s)) (rows n t) ≡ f
+  got : (f : Result ℕ ℕ) → f ≡ lookup (part (at + 1) key_wide s) (rows n t) → lookup (slot_key (slot at s)) (rows n t) ≡ f
   got f e = rw (key-lies at s) (sym e)
 
-  module _ (e : At i ≡ lookup (part (at + 1) key_wide s) (rows n t)) where
+  module _ (e : Ok i ≡ lookup (part (at + 1) key_wide s) (rows n t)) where
     got-full : 0 < length (get (slot_key (slot at s)) (rows n t))
     got-full =
         let w = rw (sym e) at (lookup-within (part (at + 1) key_wide s) (rows n t)) in
         let l = each_at (λ (r : List ℕ). length r ≡ row_wide) (rows n t) i [] (wide-rows_of row_wide n t fits) w in
-        rw (get_at (slot_key (slot at s)) (rows n t) (At i) (got (At i) e)) (omega arith)
+        rw (get_at (slot_key (slot at s)) (rows n t) (Ok i) (got (Ok i) e)) (omega arith)
 
     pub weigh-both : get_or s at 0 ≡ 1 → 1 ≡ weighed
     weigh-both h = sym (some-weight (get (slot_key (slot at s)) (rows n t)) (slot_row (slot at s)) got-full (row-full (has_one at s h)))
@@ -98,9 +97,9 @@ module _ (n at i : ℕ) (t s : List ℕ) (fits : n * row_wide ≤ length t) (the
     pub weigh-gone : (get_or s at 0 ≡ 1 → ⊥) → 0 ≡ weighed
     weigh-gone h = rw (row-empty (has-none at s h)) (sym (gone-weight (get (slot_key (slot at s)) (rows n t)) got-full))
 
-  module _ (e : Missing i ≡ lookup (part (at + 1) key_wide s) (rows n t)) where
+  module _ (e : Err i ≡ lookup (part (at + 1) key_wide s) (rows n t)) where
     got-none : get (slot_key (slot at s)) (rows n t) ≡ []
-    got-none = get_at (slot_key (slot at s)) (rows n t) (Missing i) (got (Missing i) e)
+    got-none = get_at (slot_key (slot at s)) (rows n t) (Err i) (got (Err i) e)
 
     pub weigh-come : get_or s at 0 ≡ 1 → 2 ≡ weighed
     weigh-come h = rw got-none (sym (come-weight (slot_row (slot at s)) (row-full (has_one at s h))))

@@ -10,9 +10,8 @@ use Rattle.lists.specs.Logic.{on}
 use Rattle.lists.specs.Text.{same}
 use Rattle.lists.proofs.TextLaws.{same-equal, same_refl}
 use Rattle.passage.specs.Layout.{key_of}
-use Rattle.keys.specs.declared.Found.{Found}
-use Rattle.keys.specs.declared.Found.TheVariants.{At, Missing}
-use Rattle.keys.specs.declared.Order.TheVariants.{Less, Same}
+use Rattle.std.specs.Prelude.{Result, Ok, Err}
+use Rattle.std.specs.declared.cmp.Ordering.TheVariants.{Less, Equal}
 use Rattle.keys.specs.Keys.{cmp, by_order}
 use Rattle.keys.specs.Sorted.{sorted_rows, rises_from, lookup, lookup_from}
 use Rattle.keys.proofs.KeyLaws.{cmp-refl, cmp-same, cmp-trans, Cases, cases, less-not-same, more-not-same}
@@ -24,20 +23,20 @@ use Rattle.withdrawals_replay.specs.inner.Slots.{slot_key, slot_row}
 use Rattle.withdrawals_replay.specs.inner.Worked.{take_in}
 
 -- the slots by where the key is found
-abbrev pub take_by : Found → List ℕ → List (List ℕ) → List (List ℕ)
-take_by (At i) u ss = set ss i (1 ∷ row_rule (slot_row (get_or ss i [])) u)
-take_by (Missing i) u ss = ss
+abbrev pub take_by : Result ℕ ℕ → List ℕ → List (List ℕ) → List (List ℕ)
+take_by (Ok i) u ss = set ss i (1 ∷ row_rule (slot_row (get_or ss i [])) u)
+take_by (Err i) u ss = ss
 
-take_next : (f : Found) (u s : List ℕ) (ss : List (List ℕ)) → take_by (next f) u (s ∷ ss) ≡ s ∷ take_by f u ss
-take_next (At i) u s ss = refl
-take_next (Missing i) u s ss = refl
+take_next : (f : Result ℕ ℕ) (u s : List ℕ) (ss : List (List ℕ)) → take_by (next f) u (s ∷ ss) ≡ s ∷ take_by f u ss
+take_next (Ok i) u s ss = refl
+take_next (Err i) u s ss = refl
 
 module _ (u : List ℕ) where
-  take-here : (s : List ℕ) → cmp (slot_key s) (key_of u) ≡ Same → take_in u s ≡ 1 ∷ row_rule (slot_row s) u
+  take-here : (s : List ℕ) → cmp (slot_key s) (key_of u) ≡ Equal → take_in u s ≡ 1 ∷ row_rule (slot_row s) u
   unfolding take_in
   take-here s e = rw (cmp-same (slot_key s) (key_of u) e, same_refl (key_of u))
 
-  take-other : (s : List ℕ) → (cmp (slot_key s) (key_of u) ≡ Same → ⊥) → take_in u s ≡ s
+  take-other : (s : List ℕ) → (cmp (slot_key s) (key_of u) ≡ Equal → ⊥) → take_in u s ≡ s
   unfolding take_in
   take-other s n = go (same (key_of u) (slot_key s)) refl
     where
@@ -63,7 +62,7 @@ module _ (u : List ℕ) where
 
       go : map (take_in u) ss ≡ take_by (lookup_from 0 (key_of u) (map slot_key ss)) u ss
           → Cases (cmp (slot_key s) (key_of u))
-          → take_in u s ∷ map (take_in u) ss ≡ take_by (by_order (cmp (slot_key s) (key_of u)) (lookup_from 1 (key_of u) (map slot_key ss)) (At 0) (Missing 0)) u (s ∷ ss)
+          → take_in u s ∷ map (take_in u) ss ≡ take_by (by_order (cmp (slot_key s) (key_of u)) (lookup_from 1 (key_of u) (map slot_key ss)) (Ok 0) (Err 0)) u (s ∷ ss)
       go ih (inl e) =
           rw (e, take-other s (λ f. less-not-same (cmp (slot_key s) (key_of u)) e f), lookup-next 0 (key_of u) (map slot_key ss), take_next (lookup_from 0 (key_of u) (map slot_key ss)) u s ss) (ap (λ (l : List (List ℕ)). s ∷ l) ih)
       go ih (inr (inl e)) = rw (e, take-here s e) (ap (λ (l : List (List ℕ)). (1 ∷ row_rule (slot_row s) u) ∷ l) (take-above (slot_key s) ss rises (λ f. less-not-same (cmp (slot_key s) (key_of u)) (rw (own-part 1 s) at f) e)))
@@ -71,5 +70,5 @@ module _ (u : List ℕ) where
           rw (e, take-other s (λ f. more-not-same (cmp (slot_key s) (key_of u)) e f))
           (ap (λ (l : List (List ℕ)). s ∷ l) (take-above (slot_key s) ss rises (λ f. let z : ◌≡◌ {A = ℕ} 0 1 = cc (rw (own-part 1 s) at f) in omega arith)))
 
-  pub take_found : (ss : List (List ℕ)) (f : Found) → sorted_rows (map slot_key ss) ≡ true → lookup (key_of u) (map slot_key ss) ≡ f → map (take_in u) ss ≡ take_by f u ss
-  take_found ss f h e = take-lookup ss h ∙ ap (λ (g : Found). take_by g u ss) e
+  pub take_found : (ss : List (List ℕ)) (f : Result ℕ ℕ) → sorted_rows (map slot_key ss) ≡ true → lookup (key_of u) (map slot_key ss) ≡ f → map (take_in u) ss ≡ take_by f u ss
+  take_found ss f h e = take-lookup ss h ∙ ap (λ (g : Result ℕ ℕ). take_by g u ss) e

@@ -14,8 +14,6 @@ ghost use Rattle.book.specs.Entries.{plan_wide, entry_wide, plan_body_of};
 ghost use Rattle.withdrawals_replay.specs.inner.Slots.{slot_wide, most_slots, slots_of, slot_key, slot_row, remove_one, removals, put_one, puts, settled, weight, weights};
 ghost use Rattle.withdrawals_replay.specs.inner.Worked.{begun_slot, names_at, take_in, heard_in};
 
-use keys::Found;
-
 // A slot: one byte, 1 where there is a row; then the row, or else its key and zero bytes.
 pub const SLOT_WIDE: usize = 1 + passage::ROW_WIDE;
 
@@ -114,11 +112,11 @@ fn take_update(
         from,
     );
     match f {
-        Found::At(i) => {
+        Ok(i) => {
             take_into(slots, i * SLOT_WIDE, book, from);
             return;
         }
-        Found::Missing(_) => {
+        Err(_) => {
             return;
         }
     }
@@ -208,14 +206,14 @@ fn weigh(table: &[u8], count: usize, slots: &[u8], at: usize, near: &mut usize) 
     let has = slots[at];
     let f = table::find_near(table, count, slots, at + 1, *near);
     match f {
-        Found::At(place) => {
+        Ok(place) => {
             *near = place + 1;
             if has == 1 {
                 return 1;
             }
             return 0;
         }
-        Found::Missing(place) => {
+        Err(place) => {
             *near = place;
             if has == 1 {
                 return 2;
@@ -293,12 +291,12 @@ fn put_near(table: &mut [u8], count: usize, row: &[u8], near: &mut usize) -> usi
 {
     let f = table::find_near(table, count, row, 0, *near);
     match f {
-        Found::At(place) => {
+        Ok(place) => {
             *near = place + 1;
             table::replace_row(table, count, place, row);
             count
         }
-        Found::Missing(place) => {
+        Err(place) => {
             *near = place + 1;
             table::insert_row(table, count, place, row);
             count + 1

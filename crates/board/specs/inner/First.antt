@@ -1,15 +1,13 @@
 -- Where the rows of an owner begin. Assumes nothing.
-use Rattle.std.specs.Prelude.{ℕ, List, replicate}
+use Rattle.std.specs.Prelude.{ℕ, List, replicate, Result, Ok, Err}
 use Rattle.lists.specs.Part.{over}
 use Rattle.passage.specs.Layout.{key_wide}
-use Rattle.keys.specs.declared.Found.{Found}
-use Rattle.keys.specs.declared.Found.TheVariants.{At, Missing}
 use Rattle.keys.specs.Sorted.{lookup}
 
 -- the place of a key that was looked up, there or missing
-abbrev pub place_found : Found → ℕ
-place_found (At i) = i
-place_found (Missing i) = i
+abbrev pub place_found : Result ℕ ℕ → ℕ
+place_found (Ok i) = i
+place_found (Err i) = i
 
 -- the place of the least key that an owner, padded, can have
 unfoldable pub first_owned : List ℕ → List (List ℕ) → ℕ

@@ -6,7 +6,7 @@ use lib.ListN.{length, length-set, length-take, length-drop}
 use Rattle.lists.specs.Part.{part, over}
 use Rattle.lists.proofs.OverLaws.{over-nil, length_over}
 use Rattle.passage.specs.Layout.{key_wide, body_wide}
-use Rattle.keys.specs.declared.Found.TheVariants.{At}
+use Rattle.std.specs.Prelude.{Ok}
 use Rattle.keys.specs.Sorted.{lookup}
 use Rattle.book.specs.Entries.{plan_wide}
 use Rattle.book.specs.inner.Steps.{plan_body_at}
@@ -18,32 +18,32 @@ use Rattle.book_find.proofs.plan_row.Goals as goal
 
 pub overflow_mul-p : goal.overflow_mul-p
 overflow_mul-p c =
-    let found : At c.in-At.i ≡ lookup (part c.args.from key_wide c.args.key.now) (bodies c.args.plans c.args.book.now) = sym c.in-At.is ∙ c.find_plan-f.ensures in
-    let below : c.in-At.i < c.args.plans = found_below c.args.plans c.args.book.now _ c.requires.plan_wide_in_bounds.0 _ found in
+    let found : Ok c.in-Ok.i ≡ lookup (part c.args.from key_wide c.args.key.now) (bodies c.args.plans c.args.book.now) = sym c.in-Ok.is ∙ c.find_plan-f.ensures in
+    let below : c.in-Ok.i < c.args.plans = found_below c.args.plans c.args.book.now _ c.requires.plan_wide_in_bounds.0 _ found in
     let h = below in search rules
 
 pub overflow_add-p : goal.overflow_add-p
 overflow_add-p c =
-    let found : At c.in-At.i ≡ lookup (part c.args.from key_wide c.args.key.now) (bodies c.args.plans c.args.book.now) = sym c.in-At.is ∙ c.find_plan-f.ensures in
-    let below : c.in-At.i < c.args.plans = found_below c.args.plans c.args.book.now _ c.requires.plan_wide_in_bounds.0 _ found in
+    let found : Ok c.in-Ok.i ≡ lookup (part c.args.from key_wide c.args.key.now) (bodies c.args.plans c.args.book.now) = sym c.in-Ok.is ∙ c.find_plan-f.ensures in
+    let below : c.in-Ok.i < c.args.plans = found_below c.args.plans c.args.book.now _ c.requires.plan_wide_in_bounds.0 _ found in
     let h = below in search rules
 
-pub overflow_add-p-in-At : goal.overflow_add-p-in-At
-overflow_add-p-in-At c =
-    let found : At c.in-At.i ≡ lookup (part c.args.from key_wide c.args.key.now) (bodies c.args.plans c.args.book.now) = sym c.in-At.is ∙ c.find_plan-f.ensures in
-    let below : c.in-At.i < c.args.plans = found_below c.args.plans c.args.book.now _ c.requires.plan_wide_in_bounds.0 _ found in
+pub overflow_add-p-in-Ok : goal.overflow_add-p-in-Ok
+overflow_add-p-in-Ok c =
+    let found : Ok c.in-Ok.i ≡ lookup (part c.args.from key_wide c.args.key.now) (bodies c.args.plans c.args.book.now) = sym c.in-Ok.is ∙ c.find_plan-f.ensures in
+    let below : c.in-Ok.i < c.args.plans = found_below c.args.plans c.args.book.now _ c.requires.plan_wide_in_bounds.0 _ found in
     let h = below in search rules
 
 pub slice_bounds-copy_to-end : goal.slice_bounds-copy_to-end
 slice_bounds-copy_to-end c =
-    let found : At c.in-At.i ≡ lookup (part c.args.from key_wide c.args.key.now) (bodies c.args.plans c.args.book.now) = sym c.in-At.is ∙ c.find_plan-f.ensures in
-    let below : c.in-At.i < c.args.plans = found_below c.args.plans c.args.book.now _ c.requires.plan_wide_in_bounds.0 _ found in
+    let found : Ok c.in-Ok.i ≡ lookup (part c.args.from key_wide c.args.key.now) (bodies c.args.plans c.args.book.now) = sym c.in-Ok.is ∙ c.find_plan-f.ensures in
+    let below : c.in-Ok.i < c.args.plans = found_below c.args.plans c.args.book.now _ c.requires.plan_wide_in_bounds.0 _ found in
     let h = below in search rules
 
 pub copy_to-requires : goal.copy_to-requires
 copy_to-requires c =
-    let found : At c.in-At.i ≡ lookup (part c.args.from key_wide c.args.key.now) (bodies c.args.plans c.args.book.now) = sym c.in-At.is ∙ c.find_plan-f.ensures in
-    let below : c.in-At.i < c.args.plans = found_below c.args.plans c.args.book.now _ c.requires.plan_wide_in_bounds.0 _ found in
+    let found : Ok c.in-Ok.i ≡ lookup (part c.args.from key_wide c.args.key.now) (bodies c.args.plans c.args.book.now) = sym c.in-Ok.is ∙ c.find_plan-f.ensures in
+    let below : c.in-Ok.i < c.args.plans = found_below c.args.plans c.args.book.now _ c.requires.plan_wide_in_bounds.0 _ found in
     let h = below in simp (length-take, length-drop) (omega arith)
 
 pub bounds-out-at : goal.bounds-out-at
@@ -51,21 +51,21 @@ bounds-out-at c =
     let l = ap length c.copy_to.ensures ∙ length_over _ _ _ in
     omega arith
 
-pub shape_of-out-in-At : goal.shape_of-out-in-At
-shape_of-out-in-At c =
+pub shape_of-out-in-Ok : goal.shape_of-out-in-Ok
+shape_of-out-in-Ok c =
     length-set c.copy_to.new.bytes (c.args.at + body_wide) 0 ∙ ap length c.copy_to.ensures ∙ length_over c.args.at _ c.args.out.now
 
-pub returns-in-At : goal.returns-in-At
-returns-in-At c =
-    let found : At c.in-At.i ≡ lookup (part c.args.from key_wide c.args.key.now) (bodies c.args.plans c.args.book.now) = sym c.in-At.is ∙ c.find_plan-f.ensures in
-    let below : c.in-At.i < c.args.plans = found_below c.args.plans c.args.book.now _ c.requires.plan_wide_in_bounds.0 _ found in
-    let i = c.in-At.i in
+pub returns-in-Ok : goal.returns-in-Ok
+returns-in-Ok c =
+    let found : Ok c.in-Ok.i ≡ lookup (part c.args.from key_wide c.args.key.now) (bodies c.args.plans c.args.book.now) = sym c.in-Ok.is ∙ c.find_plan-f.ensures in
+    let below : c.in-Ok.i < c.args.plans = found_below c.args.plans c.args.book.now _ c.requires.plan_wide_in_bounds.0 _ found in
+    let i = c.in-Ok.i in
     let g = row-found c.args.plans c.args.book.now (part c.args.from key_wide c.args.key.now) c.requires.plan_wide_in_bounds.0 i found in
     let h = below in
     let e = c.copy_to.ensures ∙ ap (λ (r : List ℕ). over c.args.at r c.args.out.now) (lent-part (i * plan_wide + 1) body_wide c.args.book.now) in
     record { value = rw g (some-row (plan_body_at i c.args.book.now)); out_after = rw g (row_written c.args.at (i * plan_wide + 1) c.args.book.now c.args.out.now c.copy_to.new.bytes (omega arith) e) }
 
-pub returns-in-Missing : goal.returns-in-Missing
-returns-in-Missing c =
-    let g = row-missing c.args.plans c.args.book.now (part c.args.from key_wide c.args.key.now) c.requires.plan_wide_in_bounds.0 c.in-Missing.field-0 (sym c.in-Missing.is ∙ c.find_plan-f.ensures) in
+pub returns-in-Err : goal.returns-in-Err
+returns-in-Err c =
+    let g = row-missing c.args.plans c.args.book.now (part c.args.from key_wide c.args.key.now) c.requires.plan_wide_in_bounds.0 c.in-Err.field-0 (sym c.in-Err.is ∙ c.find_plan-f.ensures) in
     record { value = rw g; out_after = rw (g, over-nil) }

@@ -58,8 +58,8 @@ loop-lo-preserved-in-Less c =
     rw (key-keyed a.width a.offset a.count a.bytes.now mid (omega arith) c.requires.width_in_bounds.1) (sym c.compare_key-o.ensures) in
     (c.loop-lo.invariant.0, seek-up rs key lo mid hi c.loop-lo.invariant.1 (omega arith) (omega arith) (compared ∙ c.in-Less.is))
 
-pub returns-in-Same : goal.returns-in-Same
-returns-in-Same c =
+pub returns-in-Equal : goal.returns-in-Equal
+returns-in-Equal c =
     let middle : ℕ = let l = c.loop-lo in l.lo + (l.hi - l.lo) / 2 in
     let lo : ℕ = c.loop-lo.lo in
     let hi : ℕ = c.loop-lo.hi in
@@ -68,7 +68,7 @@ returns-in-Same c =
     let key : List ℕ = part c.args.from key_wide c.args.key.now in
     let compared : cmp (key_of (get_or rs mid [])) key ≡ c.compare_key-o.result = let a = c.args in
     rw (key-keyed a.width a.offset a.count a.bytes.now mid (omega arith) c.requires.width_in_bounds.1) (sym c.compare_key-o.ensures) in
-    seek-here rs key lo mid hi c.loop-lo.invariant.1 (omega arith) (omega arith) (compared ∙ c.in-Same.is)
+    seek-here rs key lo mid hi c.loop-lo.invariant.1 (omega arith) (omega arith) (compared ∙ c.in-Equal.is)
 
 pub loop-lo-preserved : goal.loop-lo-preserved
 loop-lo-preserved c =
@@ -80,7 +80,7 @@ loop-lo-preserved c =
     let key : List ℕ = part c.args.from key_wide c.args.key.now in
     let compared : cmp (key_of (get_or rs mid [])) key ≡ c.compare_key-o.result = let a = c.args in
     rw (key-keyed a.width a.offset a.count a.bytes.now mid (omega arith) c.requires.width_in_bounds.1) (sym c.compare_key-o.ensures) in
-    (omega arith, seek-down rs key lo mid hi c.loop-lo.invariant.1 (omega arith) (omega arith) (compared ∙ c.in-More.is))
+    (omega arith, seek-down rs key lo mid hi c.loop-lo.invariant.1 (omega arith) (omega arith) (compared ∙ c.in-Greater.is))
 
 pub returns : goal.returns
 returns c =

@@ -54,8 +54,8 @@ write_rows-requires c =
     let fit : a.counts.used + a.count * entry_wide ≤ book_room a.book.now = rw (← room) c.if-book_room-used.false in
     record { count_le_most_updates = c.requires.count_le_most_updates; book_value = c.requires.book_value.0; entry_wide_bound = fit }
 
-pub returns-in-Count : goal.returns-in-Count
-returns-in-Count c =
+pub returns-in-Some : goal.returns-in-Some
+returns-in-Some c =
     let bodies : List (List ℕ) = rows_of body_wide c.args.count c.args.staging.now in
     let a = c.args in
     let all = length-rows_of body_wide a.count a.staging.now in
@@ -63,12 +63,12 @@ returns-in-Count c =
     let fit : a.counts.used + length bodies * entry_wide ≤ book_room a.book.now = rw (← room, all) c.if-book_room-used.false in
     let some : length bodies ≡ 0 → ⊥ = λ e. c.if-count-eq0.false (sym all ∙ e) in
     let wrote = c.write_rows in
-    fits bodies a.sender a.book.now a.table.now a.counts _ c.rows_room-most.ensures c.take_fitting.result _ (c.take_fitting.ensures.value, c.take_fitting.ensures.table_after) some fit _ c.in-Count.is wrote.result _ a.count (sym all) wrote.ensures.outcome wrote.ensures.entries
+    fits bodies a.sender a.book.now a.table.now a.counts _ c.rows_room-most.ensures c.take_fitting.result _ (c.take_fitting.ensures.value, c.take_fitting.ensures.table_after) some fit _ c.in-Some.is wrote.result _ a.count (sym all) wrote.ensures.outcome wrote.ensures.entries
 
-pub returns-in-TooMany : goal.returns-in-TooMany
-returns-in-TooMany c =
+pub returns-in-None : goal.returns-in-None
+returns-in-None c =
     let bodies : List (List ℕ) = rows_of body_wide c.args.count c.args.staging.now in
     let a = c.args in
     let room = c.book_room.ensures in
     let fit : a.counts.used + length bodies * entry_wide ≤ book_room a.book.now = rw (← room, length-rows_of body_wide a.count a.staging.now) c.if-book_room-used.false in
-    table-short bodies a.sender a.book.now a.table.now a.counts _ c.rows_room-most.ensures c.take_fitting.result _ (c.take_fitting.ensures.value, c.take_fitting.ensures.table_after) fit c.in-TooMany.is c.unchanged-in-TooMany.result c.unchanged-in-TooMany.ensures
+    table-short bodies a.sender a.book.now a.table.now a.counts _ c.rows_room-most.ensures c.take_fitting.result _ (c.take_fitting.ensures.value, c.take_fitting.ensures.table_after) fit c.in-None.is c.unchanged-in-None.result c.unchanged-in-None.ensures

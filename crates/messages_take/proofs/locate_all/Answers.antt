@@ -17,14 +17,14 @@ pub find-f-requires : goal.find-f-requires
 find-f-requires c =
     record { row_wide_in_bounds = (c.requires.row_wide_in_bounds.0, omega arith); table_value = c.requires.table_value }
 
-pub loop-k-preserved-in-At : goal.loop-k-preserved-in-At
-loop-k-preserved-in-At c =
+pub loop-k-preserved-in-Ok : goal.loop-k-preserved-in-Ok
+loop-k-preserved-in-Ok c =
     let a = c.args in
     let l = c.loop-k in
-    let e = sym c.find-f.ensures ∙ c.in-At.is in
+    let e = sym c.find-f.ensures ∙ c.in-Ok.is in
     let there : l.k * body_wide + body_wide ≤ length a.bodies.now = omega arith in
     let got = held-there a.table.now a.bodies.now a.count (l.k * body_wide) _ c.requires.row_wide_in_bounds.0 there e in
-    (omega arith, length-set l.places l.k c.in-At.i ∙ l.invariant.1, looked-held (rows_of row_wide a.count a.table.now) a.updates a.bodies.now l.k l.missing c.loop-k-test.true l.invariant.2 got)
+    (omega arith, length-set l.places l.k c.in-Ok.i ∙ l.invariant.1, looked-held (rows_of row_wide a.count a.table.now) a.updates a.bodies.now l.k l.missing c.loop-k-test.true l.invariant.2 got)
 
 pub overflow_add-missing : goal.overflow_add-missing
 overflow_add-missing c =
@@ -36,10 +36,10 @@ pub loop-k-preserved : goal.loop-k-preserved
 loop-k-preserved c =
     let a = c.args in
     let l = c.loop-k in
-    let e = sym c.find-f.ensures ∙ c.in-Missing.is in
+    let e = sym c.find-f.ensures ∙ c.in-Err.is in
     let there : l.k * body_wide + body_wide ≤ length a.bodies.now = omega arith in
     let got = new-lacks a.table.now a.bodies.now a.count (l.k * body_wide) _ c.requires.row_wide_in_bounds.0 there e in
-    (omega arith, length-set l.places l.k c.in-Missing.i ∙ l.invariant.1, looked-new (rows_of row_wide a.count a.table.now) a.updates a.bodies.now l.k l.missing c.loop-k-test.true l.invariant.2 got)
+    (omega arith, length-set l.places l.k c.in-Err.i ∙ l.invariant.1, looked-new (rows_of row_wide a.count a.table.now) a.updates a.bodies.now l.k l.missing c.loop-k-test.true l.invariant.2 got)
 
 pub shape_of-places : goal.shape_of-places
 shape_of-places c = c.loop-k.invariant.1

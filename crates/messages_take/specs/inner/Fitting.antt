@@ -1,11 +1,9 @@
 -- Updates taken only where their rows fit: how many keys are missing at first, and what is answered and left. Assumes nothing.
-use Rattle.std.specs.Prelude.{ℕ, ◌+◌, List, [], ◌∷◌, leb, length}
+use Rattle.std.specs.Prelude.{ℕ, ◌+◌, List, [], ◌∷◌, leb, length, Option, Some, None}
 use Rattle.lists.specs.Logic.{on}
 use Rattle.lists.specs.Rows.{store}
 use Rattle.passage.specs.Layout.{row_wide, key_of}
 use Rattle.keys.specs.Sorted.{get}
-use Rattle.messages_take.specs.declared.Fitted.{Fitted}
-use Rattle.messages_take.specs.declared.Fitted.TheVariants.{Count, TooMany}
 
 -- at most so many updates are taken at once: the rows of the longest dossier
 abbrev pub most_updates : ℕ
@@ -22,8 +20,8 @@ absent [] rs = 0
 absent (u ∷ us) rs = one_if_none (get (key_of u) rs) + absent us rs
 
 -- the rows rs, if they are at most so many
-unfoldable pub fitting : ℕ → List (List ℕ) → Fitted
-fitting most rs = on (leb (length rs) most) (Count (length rs)) TooMany
+unfoldable pub fitting : ℕ → List (List ℕ) → Option ℕ
+fitting most rs = on (leb (length rs) most) (Some (length rs)) None
 
 -- the bytes t of a table of n rows, with the rows rs if they are at most so many
 unfoldable pub fitting_in : ℕ → ℕ → List (List ℕ) → List ℕ → List ℕ

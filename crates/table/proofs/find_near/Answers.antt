@@ -28,8 +28,8 @@ loop-low-preserved-in-Less c =
     let e = c.probe-look.ensures in
     (i.0, i.2, omega arith, seek-up (rows s.count s.table.now) key low look high i.3 e.0 e.1 (compared ∙ c.in-Less.is))
 
-pub returns-in-Same : goal.returns-in-Same
-returns-in-Same c =
+pub returns-in-Equal : goal.returns-in-Equal
+returns-in-Equal c =
     let low : ℕ = c.loop-low.low in
     let high : ℕ = c.loop-low.high in
     let look : ℕ = c.probe-look.result in
@@ -38,7 +38,7 @@ returns-in-Same c =
     rw (key-at s.count look s.table.now (omega arith)) (sym c.compare_key-o.ensures) in
     let s = c.args in
     let e = c.probe-look.ensures in
-    seek-here (rows s.count s.table.now) key low look high c.loop-low.invariant.3 e.0 e.1 (compared ∙ c.in-Same.is)
+    seek-here (rows s.count s.table.now) key low look high c.loop-low.invariant.3 e.0 e.1 (compared ∙ c.in-Equal.is)
 
 pub loop-low-preserved : goal.loop-low-preserved
 loop-low-preserved c =
@@ -51,7 +51,7 @@ loop-low-preserved c =
     let s = c.args in
     let i = c.loop-low.invariant in
     let e = c.probe-look.ensures in
-    (omega arith, i.1, i.2, seek-down (rows s.count s.table.now) key low look high i.3 e.0 e.1 (compared ∙ c.in-More.is))
+    (omega arith, i.1, i.2, seek-down (rows s.count s.table.now) key low look high i.3 e.0 e.1 (compared ∙ c.in-Greater.is))
 
 pub returns : goal.returns
 returns c =

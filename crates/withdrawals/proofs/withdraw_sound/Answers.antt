@@ -24,21 +24,21 @@ count_plans-requires c =
 
 pub overflow_mul-at : goal.overflow_mul-at
 overflow_mul-at c =
-    let found : let a = c.args in MessageAt a.number a.counts.used a.book.now (c.count_plans.result * plan_wide + c.in-At.i * entry_wide) c.in-At.count = let a = c.args in
+    let found : let a = c.args in MessageAt a.number a.counts.used a.book.now (c.count_plans.result * plan_wide + c.in-Some.i * entry_wide) c.in-Some.count = let a = c.args in
     let sound = (sound-parts a.book.now a.table.now a.counts c.requires).0 in
-    rw c.count_plans.ensures (stands a.number a.counts.used a.book.now sound c.in-At.i c.in-At.count (sym c.find_message-h.ensures ∙ c.in-At.is)) in
-    let fits : c.count_plans.result * plan_wide + c.in-At.i * entry_wide ≤ length c.args.book.now = let a = c.args in
+    rw c.count_plans.ensures (stands a.number a.counts.used a.book.now sound c.in-Some.i c.in-Some.count (sym c.find_message-h.ensures ∙ c.in-Some.is)) in
+    let fits : c.count_plans.result * plan_wide + c.in-Some.i * entry_wide ≤ length c.args.book.now = let a = c.args in
     let u = (used-within a.counts.used a.book.now (sound-facts a.counts.used a.book.now (sound-parts a.book.now a.table.now a.counts c.requires).0)).0 in
     let w = found.within in
     omega arith in
     omega (arith, fits)
 
-pub overflow_mul-at-in-At : goal.overflow_mul-at-in-At
-overflow_mul-at-in-At c =
-    let found : let a = c.args in MessageAt a.number a.counts.used a.book.now (c.count_plans.result * plan_wide + c.in-At.i * entry_wide) c.in-At.count = let a = c.args in
+pub overflow_mul-at-in-Some : goal.overflow_mul-at-in-Some
+overflow_mul-at-in-Some c =
+    let found : let a = c.args in MessageAt a.number a.counts.used a.book.now (c.count_plans.result * plan_wide + c.in-Some.i * entry_wide) c.in-Some.count = let a = c.args in
     let sound = (sound-parts a.book.now a.table.now a.counts c.requires).0 in
-    rw c.count_plans.ensures (stands a.number a.counts.used a.book.now sound c.in-At.i c.in-At.count (sym c.find_message-h.ensures ∙ c.in-At.is)) in
-    let fits : c.count_plans.result * plan_wide + c.in-At.i * entry_wide ≤ length c.args.book.now = let a = c.args in
+    rw c.count_plans.ensures (stands a.number a.counts.used a.book.now sound c.in-Some.i c.in-Some.count (sym c.find_message-h.ensures ∙ c.in-Some.is)) in
+    let fits : c.count_plans.result * plan_wide + c.in-Some.i * entry_wide ≤ length c.args.book.now = let a = c.args in
     let u = (used-within a.counts.used a.book.now (sound-facts a.counts.used a.book.now (sound-parts a.book.now a.table.now a.counts c.requires).0)).0 in
     let w = found.within in
     omega arith in
@@ -46,10 +46,10 @@ overflow_mul-at-in-At c =
 
 pub overflow_add-at : goal.overflow_add-at
 overflow_add-at c =
-    let found : let a = c.args in MessageAt a.number a.counts.used a.book.now (c.count_plans.result * plan_wide + c.in-At.i * entry_wide) c.in-At.count = let a = c.args in
+    let found : let a = c.args in MessageAt a.number a.counts.used a.book.now (c.count_plans.result * plan_wide + c.in-Some.i * entry_wide) c.in-Some.count = let a = c.args in
     let sound = (sound-parts a.book.now a.table.now a.counts c.requires).0 in
-    rw c.count_plans.ensures (stands a.number a.counts.used a.book.now sound c.in-At.i c.in-At.count (sym c.find_message-h.ensures ∙ c.in-At.is)) in
-    let fits : c.count_plans.result * plan_wide + c.in-At.i * entry_wide ≤ length c.args.book.now = let a = c.args in
+    rw c.count_plans.ensures (stands a.number a.counts.used a.book.now sound c.in-Some.i c.in-Some.count (sym c.find_message-h.ensures ∙ c.in-Some.is)) in
+    let fits : c.count_plans.result * plan_wide + c.in-Some.i * entry_wide ≤ length c.args.book.now = let a = c.args in
     let u = (used-within a.counts.used a.book.now (sound-facts a.counts.used a.book.now (sound-parts a.book.now a.table.now a.counts c.requires).0)).0 in
     let w = found.within in
     omega arith in
@@ -57,15 +57,15 @@ overflow_add-at c =
 
 pub withdraw_found-requires : goal.withdraw_found-requires
 withdraw_found-requires c =
-    let found : let a = c.args in MessageAt a.number a.counts.used a.book.now (c.count_plans.result * plan_wide + c.in-At.i * entry_wide) c.in-At.count = let a = c.args in
+    let found : let a = c.args in MessageAt a.number a.counts.used a.book.now (c.count_plans.result * plan_wide + c.in-Some.i * entry_wide) c.in-Some.count = let a = c.args in
     let sound = (sound-parts a.book.now a.table.now a.counts c.requires).0 in
-    rw c.count_plans.ensures (stands a.number a.counts.used a.book.now sound c.in-At.i c.in-At.count (sym c.find_message-h.ensures ∙ c.in-At.is)) in
+    rw c.count_plans.ensures (stands a.number a.counts.used a.book.now sound c.in-Some.i c.in-Some.count (sym c.find_message-h.ensures ∙ c.in-Some.is)) in
     record { counts_value = c.requires; message_at = found }
 
-pub returns-in-Nowhere : goal.returns-in-Nowhere
-returns-in-Nowhere c =
+pub returns-in-None : goal.returns-in-None
+returns-in-None c =
     let a = c.args in
     let sound = sound-parts a.book.now a.table.now a.counts c.requires in
     refused_all a.number a.sender a.book.now a.table.now a.counts NoMessage _
-    (not_there a.number a.sender a.book.now a.table.now a.counts c.requires (missing-message a.counts.used a.book.now a.number sound.0 (sym c.find_message-h.ensures ∙ c.in-Nowhere.is)))
+    (not_there a.number a.sender a.book.now a.table.now a.counts c.requires (missing-message a.counts.used a.book.now a.number sound.0 (sym c.find_message-h.ensures ∙ c.in-None.is)))
     refl c.unchanged.ensures

@@ -10,22 +10,22 @@ find_place-f-requires c =
 
 pub overflow_mul-i : goal.overflow_mul-i
 overflow_mul-i c =
-    let below : c.in-At.i < c.args.named = let a = c.args in
-    update-below a.named a.from a.book.now a.slots.now _ c.requires.body_wide_in_bounds.3 c.requires.body_wide_in_bounds.0 c.requires.order_value c.requires.slots_value _ (sym c.in-At.is ∙ c.find_place-f.ensures) in
+    let below : c.in-Ok.i < c.args.named = let a = c.args in
+    update-below a.named a.from a.book.now a.slots.now _ c.requires.body_wide_in_bounds.3 c.requires.body_wide_in_bounds.0 c.requires.order_value c.requires.slots_value _ (sym c.in-Ok.is ∙ c.find_place-f.ensures) in
     let h = below in
     omega arith
 
 pub take_into-requires : goal.take_into-requires
 take_into-requires c =
-    let below : c.in-At.i < c.args.named = let a = c.args in
-    update-below a.named a.from a.book.now a.slots.now _ c.requires.body_wide_in_bounds.3 c.requires.body_wide_in_bounds.0 c.requires.order_value c.requires.slots_value _ (sym c.in-At.is ∙ c.find_place-f.ensures) in
+    let below : c.in-Ok.i < c.args.named = let a = c.args in
+    update-below a.named a.from a.book.now a.slots.now _ c.requires.body_wide_in_bounds.3 c.requires.body_wide_in_bounds.0 c.requires.order_value c.requires.slots_value _ (sym c.in-Ok.is ∙ c.find_place-f.ensures) in
     let h = below in
     (omega arith, c.requires.body_wide_in_bounds.0)
 
-pub returns-in-At : goal.returns-in-At
-returns-in-At c =
+pub returns-in-Ok : goal.returns-in-Ok
+returns-in-Ok c =
     let a = c.args in
-    let found = sym c.in-At.is ∙ c.find_place-f.ensures in
+    let found = sym c.in-Ok.is ∙ c.find_place-f.ensures in
     record {
       taken =
           update-taken a.named a.from a.book.now a.slots.now _ c.requires.body_wide_in_bounds.3 c.requires.body_wide_in_bounds.0 c.requires.order_value c.requires.slots_value _ _ found c.take_into.ensures;
@@ -33,7 +33,7 @@ returns-in-At c =
           update-rest a.named a.from a.book.now a.slots.now _ c.requires.body_wide_in_bounds.3 c.requires.body_wide_in_bounds.0 c.requires.order_value c.requires.slots_value _ _ found c.take_into.ensures;
     }
 
-pub returns-in-Missing : goal.returns-in-Missing
-returns-in-Missing c =
+pub returns-in-Err : goal.returns-in-Err
+returns-in-Err c =
     let a = c.args in
-    record { taken = update-missing a.named a.from a.book.now a.slots.now _ c.requires.body_wide_in_bounds.3 c.requires.body_wide_in_bounds.0 c.requires.order_value c.requires.slots_value _ (sym c.in-Missing.is ∙ c.find_place-f.ensures); rest = refl }
+    record { taken = update-missing a.named a.from a.book.now a.slots.now _ c.requires.body_wide_in_bounds.3 c.requires.body_wide_in_bounds.0 c.requires.order_value c.requires.slots_value _ (sym c.in-Err.is ∙ c.find_place-f.ensures); rest = refl }

@@ -10,25 +10,25 @@ use Rattle.withdrawals_replay.proofs.weigh.Goals as goal
 pub overflow_add-near : goal.overflow_add-near
 overflow_add-near c =
     let a = c.args in
-    let h = found_below row_wide a.count _ (part (a.at + 1) key_wide a.slots.now) a.table.now (sym c.find_near-f.ensures ∙ c.in-At.is) in
+    let h = found_below row_wide a.count _ (part (a.at + 1) key_wide a.slots.now) a.table.now (sym c.find_near-f.ensures ∙ c.in-Ok.is) in
     search rules
 
 pub returns-then-has-eq1 : goal.returns-then-has-eq1
 returns-then-has-eq1 c =
     let a = c.args in
-    weigh-both a.count a.at _ a.table.now a.slots.now c.requires.row_wide_in_bounds.0 c.requires.row_wide_in_bounds.1 (sym c.in-At.is ∙ c.find_near-f.ensures) c.if-has-eq1.true
+    weigh-both a.count a.at _ a.table.now a.slots.now c.requires.row_wide_in_bounds.0 c.requires.row_wide_in_bounds.1 (sym c.in-Ok.is ∙ c.find_near-f.ensures) c.if-has-eq1.true
 
-pub returns-in-At : goal.returns-in-At
-returns-in-At c =
+pub returns-in-Ok : goal.returns-in-Ok
+returns-in-Ok c =
     let a = c.args in
-    weigh-gone a.count a.at _ a.table.now a.slots.now c.requires.row_wide_in_bounds.0 c.requires.row_wide_in_bounds.1 (sym c.in-At.is ∙ c.find_near-f.ensures) c.if-has-eq1.false
+    weigh-gone a.count a.at _ a.table.now a.slots.now c.requires.row_wide_in_bounds.0 c.requires.row_wide_in_bounds.1 (sym c.in-Ok.is ∙ c.find_near-f.ensures) c.if-has-eq1.false
 
 pub returns-then-has-eq1-2 : goal.returns-then-has-eq1-2
 returns-then-has-eq1-2 c =
     let a = c.args in
-    weigh-come a.count a.at _ a.table.now a.slots.now c.requires.row_wide_in_bounds.0 c.requires.row_wide_in_bounds.1 (sym c.in-Missing.is ∙ c.find_near-f.ensures) c.if-has-eq1-2.true
+    weigh-come a.count a.at _ a.table.now a.slots.now c.requires.row_wide_in_bounds.0 c.requires.row_wide_in_bounds.1 (sym c.in-Err.is ∙ c.find_near-f.ensures) c.if-has-eq1-2.true
 
-pub returns-in-Missing : goal.returns-in-Missing
-returns-in-Missing c =
+pub returns-in-Err : goal.returns-in-Err
+returns-in-Err c =
     let a = c.args in
-    weigh-neither a.count a.at _ a.table.now a.slots.now c.requires.row_wide_in_bounds.0 c.requires.row_wide_in_bounds.1 (sym c.in-Missing.is ∙ c.find_near-f.ensures) c.if-has-eq1-2.false
+    weigh-neither a.count a.at _ a.table.now a.slots.now c.requires.row_wide_in_bounds.0 c.requires.row_wide_in_bounds.1 (sym c.in-Err.is ∙ c.find_near-f.ensures) c.if-has-eq1-2.false
