@@ -1,16 +1,14 @@
 // Dates and moments.
-use crate::{parts, say};
-use clock::OperatingSeconds;
+use crate::parts;
 use field_types::{Number, Time};
-use std::io::Stdout;
+use std::io::{Print, Stdout};
 
 fn date(out: Stdout, n: u32) {
-    if clock::is_date(n) {
-        say::phrase(out, say::DAY);
-        say::small(out, clock::day_count(n));
+    let _ = if clock::is_date(n) {
+        print!(out; " day {}", clock::day_count(n))
     } else {
-        say::phrase(out, say::NO_DATE);
-    }
+        print!(out; " no date")
+    };
 }
 
 // A date as a number.
@@ -23,26 +21,17 @@ pub fn large(out: Stdout, vector: &[u8]) {
     date(out, parts::large(vector));
 }
 
-fn at(out: Stdout, d: u32, s: OperatingSeconds) {
-    if clock::is_date(d) {
-        if s.0 < 115200 {
-            let m = clock::moment(d, s);
-            say::small(out, m.0);
-        }
-    }
-}
-
-fn on(out: Stdout, d: u32, t: Time) {
-    match t {
-        Time::Is(s) => at(out, d, s),
-        Time::Wrong => say::phrase(out, say::NO_TIME),
-    }
-}
-
 // DATE^TIME: the moment on the clock.
 pub fn moment(out: Stdout, vector: &[u8]) {
-    match field_types::read_date(parts::head(vector)) {
-        Number::Is(d) => on(out, d, field_types::read_time(parts::tail(vector))),
-        Number::Wrong => say::phrase(out, say::NO_DATE),
+    let Number::Is(date) = field_types::read_date(parts::head(vector)) else {
+        let _ = out.print(" no date");
+        return;
+    };
+    let Time::Is(second) = field_types::read_time(parts::tail(vector)) else {
+        let _ = out.print(" no time");
+        return;
+    };
+    if clock::is_date(date) && second.0 < 115200 {
+        let _ = print!(out; " {}", clock::moment(date, second).0);
     }
 }

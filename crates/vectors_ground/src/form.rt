@@ -1,84 +1,72 @@
-// The verdict on a dossier's form, reached in two ways. It is a number here: a fault's offset, or FINE.
+// The verdict on a dossier's form, reached in two ways: where its fault is, or that it has none.
 use crate::{parts, say};
-use std::io::Stdout;
+use std::io::{Print, Stdout};
 use syntax::{Kind, Next, State, Verdict};
 
-const FINE: usize = 18446744073709551615;
-
 // The verdict of a reader that goes byte by byte.
-fn stepwise(d: &[u8]) -> usize {
-    let mut s = State::Open(Kind::Nothing);
-    let mut i: usize = 0;
-    while i < d.len() {
-        match syntax_bytewise::next_state(s, d[i]) {
-            Next::To(t) => {
-                s = t;
-            }
-            Next::Bad => {
-                return i;
-            }
+fn stepwise(dossier: &[u8]) -> Option<usize> {
+    let mut state = State::Open(Kind::Nothing);
+    for (place, byte) in dossier.iter().enumerate() {
+        match syntax_bytewise::next_state(state, *byte) {
+            Next::To(next) => state = next,
+            Next::Bad => return Some(place),
         }
-        i += 1;
     }
-    if syntax_bytewise::may_end(s) {
-        return FINE;
+    if syntax_bytewise::may_end(state) {
+        None
+    } else {
+        Some(dossier.len())
     }
-    i
 }
 
-fn straight(d: &[u8]) -> usize {
-    match syntax::check_syntax(d) {
-        Verdict::Fine => FINE,
-        Verdict::FaultAt(n) => n,
+fn straight(dossier: &[u8]) -> Option<usize> {
+    match syntax::check_syntax(dossier) {
+        Verdict::Fine => None,
+        Verdict::FaultAt(place) => Some(place),
     }
 }
 
 // The verdict; a word is printed only where the two ways differ.
-pub fn judged(out: Stdout, dossier: &[u8]) -> usize {
-    let v = straight(dossier);
-    if v != stepwise(dossier) {
-        say::phrase(out, say::DIFFER);
+pub fn judged(out: Stdout, dossier: &[u8]) -> Option<usize> {
+    let fault = straight(dossier);
+    if fault != stepwise(dossier) {
+        let _ = out.print(" DIFFER");
     }
-    v
+    fault
 }
 
-pub fn verdict(out: Stdout, value: usize) {
-    if value == FINE {
-        say::phrase(out, say::FINE);
-    } else {
-        say::phrase(out, say::FAULT_AT);
-        say::size(out, value);
-    }
+pub fn verdict(out: Stdout, fault: Option<usize>) {
+    let _ = match fault {
+        None => print!(out; " Fine"),
+        Some(place) => print!(out; " FaultAt {place}"),
+    };
 }
 
 // The same in a list: a fault's offset, or a dash.
-fn short(out: Stdout, v: usize) {
-    if v == FINE {
-        say::phrase(out, say::DASH);
-    } else {
-        say::size(out, v);
-    }
+fn short(out: Stdout, fault: Option<usize>) {
+    let _ = match fault {
+        None => print!(out; " -"),
+        Some(place) => print!(out; " {place}"),
+    };
 }
 
 // The verdict, and whether the two ways agree.
 pub fn told(out: Stdout, dossier: &[u8]) {
-    let v = straight(dossier);
-    verdict(out, v);
-    say::either(out, v == stepwise(dossier), say::AGREE, say::NOT_AGREE);
-}
-
-fn judgement(out: Stdout, d: &[u8], whole: bool) {
-    if whole {
-        told(out, d);
-    } else {
-        short(out, judged(out, d));
-    }
+    let fault = straight(dossier);
+    verdict(out, fault);
+    let agree = fault == stepwise(dossier);
+    let _ = out.print(if agree { ", agree" } else { ", DIFFER" });
 }
 
 // BEFORE^DOSSIER^AFTER: the verdict between two texts, whole or as in a list.
 pub fn between(out: Stdout, vector: &[u8], whole: bool) {
     let rest = parts::tail(vector);
+    let dossier = parts::head(rest);
     say::words(out, parts::head(vector));
-    judgement(out, parts::head(rest), whole);
+    if whole {
+        told(out, dossier);
+    } else {
+        short(out, judged(out, dossier));
+    }
     say::words(out, parts::tail(rest));
 }

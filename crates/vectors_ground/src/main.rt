@@ -10,11 +10,10 @@ mod parts;
 mod run;
 mod say;
 mod text;
-
-use std::io::{Stdin, Stdout};
-
 mod types;
 mod walk;
+
+use std::io::{Stdin, Stdout};
 
 // The buffers come as arrays of known size: so no proof has to count one through.
 fn start(mut from: Stdin, out: Stdout, input: &mut [u8; 60000], room: &mut [u8; 66000]) {

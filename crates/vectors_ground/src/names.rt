@@ -1,7 +1,7 @@
 // The search for columns, and escapes.
+use crate::say::Byte;
 use crate::{parts, say};
-use std::io::Stdout;
-use turbo_labels::Columns;
+use std::io::{Print, Stdout};
 
 // NAME^LABELS^LINE: the column, and the field there.
 pub fn lookup(out: Stdout, vector: &[u8]) {
@@ -17,45 +17,28 @@ pub fn lookup(out: Stdout, vector: &[u8]) {
     );
 }
 
-fn places(out: Stdout, p: &[usize; 20]) {
-    let mut i: usize = 0;
-    while i < 20 {
-        say::size(out, p[i]);
-        i += 1;
-    }
-}
-
-fn found(out: Stdout, c: Columns) {
-    if c.twice {
-        say::phrase(out, say::TWICE);
-    }
-    let p = c.places;
-    places(out, &p);
-}
-
 // WANTED^LABELS: whether a wanted name stands twice, and all twenty places.
 pub fn columns(out: Stdout, vector: &[u8]) {
     let wanted = parts::head(vector);
-    if turbo::count_fields(wanted) <= 20 {
-        found(out, turbo_labels::find_columns(wanted, parts::tail(vector)));
-    } else {
-        say::phrase(out, say::TOO_MANY);
+    if 20 < turbo::count_fields(wanted) {
+        let _ = out.print(" more than 20 names");
+        return;
     }
-}
-
-fn pair(out: Stdout, b: u8, e: u8) {
-    say::phrase(out, say::BLANK);
-    say::byte(out, b);
-    say::phrase(out, say::EQUALS);
-    say::byte(out, e);
+    let found = turbo_labels::find_columns(wanted, parts::tail(vector));
+    if found.twice {
+        let _ = out.print(" twice,");
+    }
+    for place in found.places {
+        say::size(out, place);
+    }
 }
 
 // A byte with the one that it stands for after a backslash, if any, and what follows as it is.
 pub fn escape(out: Stdout, vector: &[u8]) {
-    let b = script_text::at(vector, 0);
-    let e = turbo::escaped(b);
-    if e != 0 {
-        pair(out, b, e);
+    let byte = script_text::at(vector, 0);
+    let escaped = turbo::escaped(byte);
+    if escaped != 0 {
+        let _ = print!(out; " {}={}", Byte(byte), Byte(escaped));
     }
     say::words(out, script_text::after(vector, 0));
 }

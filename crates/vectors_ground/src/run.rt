@@ -1,7 +1,8 @@
 // The lines of the input: a group begins with `=`, the letter of its reader and its name, and its vectors follow, each printed with
 // what its reader answers.
+use crate::say::Quoted;
 use crate::{damage, days, form, moves, names, say, text, types, walk};
-use std::io::Stdout;
+use std::io::{Print, Stdout};
 
 // The readers by the letter of their group, in two: those over dossiers, lines and dates, and the others.
 fn answer(out: Stdout, r: u8, v: &[u8]) {
@@ -34,53 +35,37 @@ fn other(out: Stdout, r: u8, v: &[u8]) {
 }
 
 fn answered(out: Stdout, r: u8, v: &[u8]) {
-    say::quoted(out, v);
-    say::phrase(out, say::ARROW);
+    let _ = print!(out; "{} ->", Quoted(v));
     answer(out, r, v);
-    say::phrase(out, say::END);
+    let _ = out.println("");
 }
 
-// Those of E, A and e tell themselves what is printed around the answer.
-fn told(out: Stdout, r: u8, v: &[u8]) {
+// P prints every value; those of E, A and e tell themselves what is printed around the answer.
+fn told(out: Stdout, r: u8, line: &[u8], room: &mut [u8]) {
     match r {
-        b'E' => form::between(out, v, true),
-        b'A' => form::between(out, v, false),
-        b'e' => names::escape(out, v),
-        _ => answered(out, r, v),
-    }
-}
-
-fn vector(out: Stdout, r: u8, line: &[u8], room: &mut [u8]) {
-    if r == b'P' {
-        damage::values(out, line, room);
-    } else {
-        told(out, r, text::vector(line, 0, room));
+        b'P' => damage::values(out, line, room),
+        b'E' => form::between(out, text::vector(line, 0, room), true),
+        b'A' => form::between(out, text::vector(line, 0, room), false),
+        b'e' => names::escape(out, text::vector(line, 0, room)),
+        _ => answered(out, r, text::vector(line, 0, room)),
     }
 }
 
 // The start of a group; the letter of its reader.
-fn group(out: Stdout, line: &[u8]) -> u8 {
-    say::phrase(out, say::HEAD);
-    say::words(out, script_text::after(line, 2));
-    say::phrase(out, say::END);
-    script_text::at(line, 1)
+fn group(out: Stdout, head: &[u8]) -> u8 {
+    let _ = out.print("== ");
+    say::words(out, script_text::after(head, 1));
+    let _ = out.println("");
+    script_text::at(head, 0)
 }
 
-// A vector, or the start of a group; the letter of the reader from there on.
-fn one(out: Stdout, r: u8, line: &[u8], room: &mut [u8]) -> u8 {
-    if script_text::at(line, 0) == b'=' {
-        return group(out, line);
-    }
-    vector(out, r, line, room);
-    r
-}
-
+// Each vector, by the letter of the last group before it.
 pub fn each(out: Stdout, input: &[u8], room: &mut [u8]) {
-    let mut r: u8 = 0;
-    let mut rest = input;
-    while 0 < rest.len() {
-        r = one(out, r, script_text::first_line(rest), room);
-        let next = script_text::rest_after_line(rest);
-        rest = next;
+    let mut reader = 0;
+    for bytes in input.split_inclusive(|b| *b == b'\n') {
+        match script_text::first_line(bytes) {
+            [b'=', head @ ..] => reader = group(out, head),
+            line => told(out, reader, line, room),
+        }
     }
 }

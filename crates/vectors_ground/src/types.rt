@@ -1,7 +1,7 @@
 // Fields by their types.
 use crate::{parts, say};
 use field_types::{Number, Time};
-use std::io::Stdout;
+use std::io::{Print, Stdout};
 
 fn seconds(t: Time) -> Number {
     match t {
@@ -32,17 +32,12 @@ pub fn numbered(out: Stdout, letter: u8, vector: &[u8]) {
 pub fn text(out: Stdout, vector: &[u8]) {
     let t = texts::read_text(vector);
     if !t.ok {
-        say::phrase(out, say::WRONG);
+        let _ = out.print(" Wrong");
     }
-    let b = t.bytes;
-    say::text(out, &b);
+    say::text(out, &t.bytes);
 }
 
 pub fn range(out: Stdout, vector: &[u8]) {
-    say::either(
-        out,
-        field_types::in_stamp_range(parts::large(vector)),
-        say::IN_RANGE,
-        say::OUT_OF_RANGE,
-    );
+    let within = field_types::in_stamp_range(parts::large(vector));
+    let _ = out.print(if within { " in range" } else { " out of range" });
 }

@@ -1,8 +1,0 @@
-use Prim.Native.Nat.{◌≤◌}
-use Rattle.vectors_ground.proofs.walk.row.Given as goal
-
-abbrev pub invariant-loop-left : goal.invariant-loop-left
-invariant-loop-left l = l.left ≤ l.initial.left
-
-abbrev pub decreases-loop-left : goal.decreases-loop-left
-decreases-loop-left l = l.left
