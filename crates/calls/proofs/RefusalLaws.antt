@@ -6,9 +6,8 @@ use mathlib.Core.Bool.{Bool, true, false, ◌||◌}
 use mathlib.Core.List.{List, [], ◌∷◌}
 use lib.Dec.{eqb, leb, ltb}
 use lib.ListN.{length}
+use Rattle.std.specs.Prelude.{Result, Ok, Err, ⊤}
 use Rattle.lists.specs.Logic.{on}
-use Rattle.syntax.specs.declared.Verdict.{Verdict}
-use Rattle.syntax.specs.declared.Verdict.TheVariants as Verdicts
 use Rattle.syntax.specs.Machine.{fault}
 use Rattle.turbo_lines.specs.Lines.{lines, first_long}
 use Rattle.columns.specs.declared.Table.{Table}
@@ -123,9 +122,9 @@ module _ (t : Table) (free : (body : List ℕ) → may_send t [] 0 body ≡ true
   settled-free false true form line column rows = refl
   settled-free false false form line column rows = refl
 
-  by-syntax-free : (v : Verdict) (a : Reading) → owner_free a ≡ true → owner_free (on (faults v) (Readings.Syntax (fault_place v)) a) ≡ true
-  by-syntax-free Verdicts.Fine a h = h
-  by-syntax-free (Verdicts.FaultAt i) a h = refl
+  by-syntax-free : (v : Result ⊤ ℕ) (a : Reading) → owner_free a ≡ true → owner_free (on (faults v) (Readings.Syntax (fault_place v)) a) ≡ true
+  by-syntax-free (Ok u) a h = h
+  by-syntax-free (Err i) a h = refl
 
   long-free : (b : Bool) (l : ℕ) (a : Reading) → owner_free a ≡ true → owner_free (on b (Readings.Long l) a) ≡ true
   long-free true l a h = refl

@@ -1,7 +1,6 @@
 -- Document 01's cases P1 to P11, one statement each. `proofs/Paper.antt` proves them together. Assumes nothing.
-use Rattle.std.specs.Prelude.{ℕ, ◌≤◌, ◌≡◌, true, List, [], ◌∷◌, ◌++◌}
+use Rattle.std.specs.Prelude.{ℕ, ◌≤◌, ◌≡◌, true, List, [], ◌∷◌, ◌++◌, Err}
 use Rattle.lists.specs.Text.{bytes}
-use Rattle.syntax.specs.declared.Verdict.TheVariants.{FaultAt}
 use Rattle.syntax.specs.Machine.{fault}
 use Rattle.turbo.specs.Escape.{decode}
 use Rattle.field_types.specs.declared.Time.TheVariants as Times
@@ -33,7 +32,7 @@ P3 = stamp (bytes "2016-03-01T15:15:30+01:00") ≡ Is 1456841730
 
 -- P4: `a\pb\i` is `a|b\`; `\x` faults
 abbrev pub P4 : Type 0
-P4 = (decode (bytes "a\\pb\\i") ≡ bytes "a|b\\") × (fault (bytes "\\G\\x" ++ 13 ∷ 10 ∷ []) ≡ FaultAt 3)
+P4 = (decode (bytes "a\\pb\\i") ≡ bytes "a|b\\") × (fault (bytes "\\G\\x" ++ 13 ∷ 10 ∷ []) ≡ Err 3)
 
 -- P5: ARRIVED, 4, then DRIVING, 3, stays ARRIVED; PASSED, 5, then ARRIVED is ARRIVED
 abbrev pub P5 : Type 0

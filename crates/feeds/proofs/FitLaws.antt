@@ -8,6 +8,7 @@ use borrow.Author.Tests.{lt-ltb, ltb-true, leb-true, eqb-true}
 use lib.Dec.{eqb, leb, ltb}
 use lib.ListN.{length, take, drop, get_or, replicate, length-replicate}
 use lib.Seq.{take_at, drop_at}
+use Rattle.std.specs.Prelude.{Option, Some, None}
 use Rattle.lists.specs.Logic.{on}
 use Rattle.lists.specs.Part.{part}
 use Rattle.lists.proofs.OverLaws.{length_over}
@@ -17,8 +18,6 @@ use Rattle.syntax.specs.declared.Kind.{Kind}
 use Rattle.syntax.specs.declared.Kind.TheVariants.{Nothing, Group, Table, Rows}
 use Rattle.syntax.specs.declared.State as Machine
 use Rattle.syntax.specs.declared.State.TheVariants.{Open, Mark, First, Inside, FirstEsc, InsideEsc, Null, Ret}
-use Rattle.syntax.specs.declared.Next.{Next}
-use Rattle.syntax.specs.declared.Next.TheVariants.{To, Bad}
 use Rattle.syntax.specs.Machine.{step}
 use Rattle.turbo_lines.specs.Lines.{longest_line}
 use Rattle.columns.specs.declared.Table as Wanted
@@ -286,7 +285,7 @@ module _ (n : ℕ) (x : Fed) (good : Good n x) where
       }
 
   module _ (room : x.feed.at < 65536) where
-    faulted-good : Good n (taken [] 0 Bad x)
+    faulted-good : Good n (taken [] 0 None x)
     faulted-good =
         let q = m.size in
         record { fits = bytes_fit x.feed (x.feed.at + 1) x.feed.machine (x.feed.at + 1) x.feed.size good.fits (omega arith) (omega arith) (omega arith) (omega arith); line = good.line; staging = good.staging }
@@ -343,9 +342,9 @@ module _ (n : ℕ) (x : Fed) (good : Good n x) where
         (on-good (runs_over x.feed.size) n _ _ (skipped-good machine x.feed.lines.line (omega arith)) (read-good register machine (take (x.feed.size - 1) x.line)))
         (skipped-good machine x.feed.long (omega arith))
 
-    taken-good : (register : List ℕ) (b : ℕ) (t : Next) → Good n (taken register b t x)
-    taken-good register b (To machine) = on-good (eqb b 10) n _ _ (ended-good register machine) (held-good machine b)
-    taken-good register b Bad = faulted-good
+    taken-good : (register : List ℕ) (b : ℕ) (t : Option Machine.State) → Good n (taken register b t x)
+    taken-good register b (Some machine) = on-good (eqb b 10) n _ _ (ended-good register machine) (held-good machine b)
+    taken-good register b None = faulted-good
 
   byte-good : (register : List ℕ) (b : ℕ) → Good n (fed_byte register x b)
   unfolding fed_byte

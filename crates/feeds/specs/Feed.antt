@@ -1,10 +1,8 @@
 -- A dossier that comes in parts, byte by byte: what each byte changes in what is kept, in the unfinished line and in the staging area. Assumes nothing.
-use Rattle.std.specs.Prelude.{ℕ, ◌+◌, ◌-◌, ◌*◌, Bool, not, ◌&&◌, List, [], ◌∷◌, eqb, leb, ltb, length, take, replicate}
+use Rattle.std.specs.Prelude.{ℕ, ◌+◌, ◌-◌, ◌*◌, Bool, not, ◌&&◌, List, [], ◌∷◌, eqb, leb, ltb, length, take, replicate, Option, Some, None}
 use Rattle.lists.specs.Logic.{on}
 use Rattle.lists.specs.Part.{over}
 use Rattle.syntax.specs.declared.State as Machine
-use Rattle.syntax.specs.declared.Next.{Next}
-use Rattle.syntax.specs.declared.Next.TheVariants.{To, Bad}
 use Rattle.syntax.specs.Machine.{step}
 use Rattle.turbo_lines.specs.Lines.{longest_line}
 use Rattle.columns.specs.declared.Table.{Table}
@@ -132,9 +130,9 @@ abbrev pub held_on : Machine.State → ℕ → Fed → Fed
 held_on m b x = record { feed = lengthened m x.feed; line = over x.feed.size (b ∷ []) x.line; staging = x.staging }
 
 -- the byte b, behind which the machine stands at m, or which it does not take
-abbrev pub taken : List ℕ → ℕ → Next → Fed → Fed
-taken register b (To m) x = on (eqb b 10) (ended register m x) (held_on m b x)
-taken register b Bad x = record { feed = faulted x.feed; line = x.line; staging = x.staging }
+abbrev pub taken : List ℕ → ℕ → Option Machine.State → Fed → Fed
+taken register b (Some m) x = on (eqb b 10) (ended register m x) (held_on m b x)
+taken register b None x = record { feed = faulted x.feed; line = x.line; staging = x.staging }
 
 -- behind a fault, and behind the largest dossier, bytes are only counted
 abbrev pub is_open : Feed → Bool

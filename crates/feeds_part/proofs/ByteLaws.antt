@@ -8,16 +8,13 @@ use borrow.Author.Tests.{lt-ltb, le-ltb, eq-eqb, ne_eqb, ltb-true, ltb-false, le
 use lib.Dec.{eqb, leb, ltb}
 use lib.ListN.{length, take, drop, get_or, take-append-drop}
 use lib.Seq.{drop-cons, length-take-le}
+use Rattle.std.specs.Prelude.{Option, Some, None, Result, Ok, Err}
 use Rattle.lists.specs.Logic.{on}
 use Rattle.lists.specs.Part.{over}
 use Rattle.lists.proofs.OverLaws.{over-nil, over-then}
 use Rattle.lists.proofs.LogicLaws.{and-false, and-true}
 use Rattle.syntax.specs.declared.State as Machine
-use Rattle.syntax.specs.declared.Next.{Next}
-use Rattle.syntax.specs.declared.Next.TheVariants as Nexts
 use Rattle.syntax.specs.Machine.{step, follow}
-use Rattle.syntax_scan.specs.declared.Scanned.{Scanned}
-use Rattle.syntax_scan.specs.declared.Scanned.TheVariants.{To, Stuck}
 use Rattle.syntax_scan.specs.Scanned.{scanned, and_then}
 use Rattle.syntax_scan.proofs.ScannedLaws.{scanned-append, stuck-byte}
 use Rattle.turbo.specs.Split.{until, past}
@@ -28,19 +25,19 @@ use Rattle.feeds_part.specs.inner.Lines.{stands_at, moved_to, counted_by, fed_as
 
 -- ---- scans
 
-pub stuck-to : {t : Machine.State} {j : ℕ} → Stuck j ≡ To t → ⊥
+pub stuck-to : {t : Machine.State} {j : ℕ} → Err j ≡ Ok t → ⊥
 stuck-to e = let z : ◌≡◌ {A = ℕ} 0 1 = ap code e in omega arith
   where
-    code : Scanned → ℕ
-    code (Stuck k) = 0
-    code (To u) = 1
+    code : Result Machine.State ℕ → ℕ
+    code (Err k) = 0
+    code (Ok u) = 1
 
-to_same : (s t : Machine.State) → To s ≡ To t → s ≡ t
+to_same : (s t : Machine.State) → ◌≡◌ {A = Result Machine.State ℕ} (Ok s) (Ok t) → s ≡ t
 to_same s t e = ap state e
   where
-    state : Scanned → Machine.State
-    state (Stuck k) = s
-    state (To u) = u
+    state : Result Machine.State ℕ → Machine.State
+    state (Err k) = s
+    state (Ok u) = u
 
 -- ---- a byte
 
@@ -49,15 +46,15 @@ placed m x = fed_as (stands_at m x.feed) x.line x.staging
 
 module _ (register : List ℕ) (x : Fed) (b : ℕ) where
   module _ (e : x.feed.fault ≡ 0) (h : x.feed.at < largest) where
-    held-byte : (m : Machine.State) → step x.feed.machine b ≡ Nexts.To m → eqb b 10 ≡ false → fed_byte register x b ≡ held_on m b x
+    held-byte : (m : Machine.State) → step x.feed.machine b ≡ Some m → eqb b 10 ≡ false → fed_byte register x b ≡ held_on m b x
     unfolding fed_byte
     held-byte m s t = rw (lt-ltb x.feed.at largest h, eq-eqb x.feed.fault 0 e, s, t) refl
 
-    end-byte : (m : Machine.State) → step x.feed.machine b ≡ Nexts.To m → eqb b 10 ≡ true → fed_byte register x b ≡ ended register m x
+    end-byte : (m : Machine.State) → step x.feed.machine b ≡ Some m → eqb b 10 ≡ true → fed_byte register x b ≡ ended register m x
     unfolding fed_byte
     end-byte m s t = rw (lt-ltb x.feed.at largest h, eq-eqb x.feed.fault 0 e, s, t) refl
 
-    pub bad-byte : step x.feed.machine b ≡ Nexts.Bad → fed_byte register x b ≡ fed_as (faulted x.feed) x.line x.staging
+    pub bad-byte : step x.feed.machine b ≡ None → fed_byte register x b ≡ fed_as (faulted x.feed) x.line x.staging
     unfolding fed_byte
     bad-byte s = rw (lt-ltb x.feed.at largest h, eq-eqb x.feed.fault 0 e, s) refl
 
@@ -126,24 +123,24 @@ ended-fault register m x = ended-number register m x (λ y. y.feed.fault) x.feed
 pub record Ran (register : List ℕ) (x y : Fed) (u p : List ℕ) (t : Machine.State) : Type 0 where
   pub ghost : Machine.State
   pub offset : ℕ
-  pub left : scanned ghost p offset ≡ To t
+  pub left : scanned ghost p offset ≡ Ok t
   pub is : y ≡ fed register (ended register ghost (held_all u x)) p
 
-pub line-run : (register l : List ℕ) (x : Fed) (t : Machine.State) (i : ℕ) → x.feed.fault ≡ 0 → x.feed.at + length l ≤ largest → scanned x.feed.machine l i ≡ To t
+pub line-run : (register l : List ℕ) (x : Fed) (t : Machine.State) (i : ℕ) → x.feed.fault ≡ 0 → x.feed.at + length l ≤ largest → scanned x.feed.machine l i ≡ Ok t
     → length (until 10 l) < length l → Ran register x (fed register x l) (until 10 l) (past 10 l) t
 unfolding fed scanned until past
 line-run register [] x t i e h s k = absurd (omega arith)
 line-run register (b ∷ l) x t i e h s k = go (step x.feed.machine b) refl (eqb b 10) refl s k (λ y. line-run register l y t (i + 1))
   where
-    go : (n : Next) → step x.feed.machine b ≡ n → (c : Bool) → eqb b 10 ≡ c → follow n (λ u. scanned u l (i + 1)) (Stuck i) ≡ To t
+    go : (n : Option Machine.State) → step x.feed.machine b ≡ n → (c : Bool) → eqb b 10 ≡ c → follow n (λ u. scanned u l (i + 1)) (Err i) ≡ Ok t
         → length (on c [] (b ∷ until 10 l)) < suc (length l)
-        → ((y : Fed) → y.feed.fault ≡ 0 → y.feed.at + length l ≤ largest → scanned y.feed.machine l (i + 1) ≡ To t → length (until 10 l) < length l
+        → ((y : Fed) → y.feed.fault ≡ 0 → y.feed.at + length l ≤ largest → scanned y.feed.machine l (i + 1) ≡ Ok t → length (until 10 l) < length l
         → Ran register y (fed register y l) (until 10 l) (past 10 l) t)
         → Ran register x (fed register (fed_byte register x b) l) (on c [] (b ∷ until 10 l)) (on c l (past 10 l)) t
-    go Nexts.Bad q c d s k ih = absurd (stuck-to s)
-    go (Nexts.To m) q true d s k ih =
+    go None q c d s k ih = absurd (stuck-to s)
+    go (Some m) q true d s k ih =
         record { ghost = m; offset = i + 1; left = s; is = ap (λ (y : Fed). fed register y l) (end-byte register x b e (omega arith) m q d ∙ sym (ap (ended register m) (held_none x))) }
-    go (Nexts.To m) q false d s k ih =
+    go (Some m) q false d s k ih =
         let r = ih (held_on m b x) e (omega arith) s (omega arith) in
         record {
           ghost = r.ghost;
@@ -157,19 +154,19 @@ line-run register (b ∷ l) x t i e h s k = go (step x.feed.machine b) refl (eqb
 
 -- bytes of which none ends a line
 pub rest-run : (register l : List ℕ) (x : Fed) (t : Machine.State) (i : ℕ) → (0 < length l → (x.feed.fault ≡ 0) × (x.feed.at + length l ≤ largest))
-    → scanned x.feed.machine l i ≡ To t → length l ≤ length (until 10 l) → fed register x l ≡ placed t (held_all l x)
+    → scanned x.feed.machine l i ≡ Ok t → length l ≤ length (until 10 l) → fed register x l ≡ placed t (held_all l x)
 unfolding fed scanned until
 rest-run register [] x t i o s k = sym (ap (λ (m : Machine.State). placed m (held_all [] x)) (sym (to_same x.feed.machine t s)) ∙ held_none x)
 rest-run register (b ∷ l) x t i o s k = go (step x.feed.machine b) refl (eqb b 10) refl s k (λ y. rest-run register l y t (i + 1))
   where
-    go : (n : Next) → step x.feed.machine b ≡ n → (c : Bool) → eqb b 10 ≡ c → follow n (λ u. scanned u l (i + 1)) (Stuck i) ≡ To t
+    go : (n : Option Machine.State) → step x.feed.machine b ≡ n → (c : Bool) → eqb b 10 ≡ c → follow n (λ u. scanned u l (i + 1)) (Err i) ≡ Ok t
         → suc (length l) ≤ length (on c [] (b ∷ until 10 l))
-        → ((y : Fed) → (0 < length l → (y.feed.fault ≡ 0) × (y.feed.at + length l ≤ largest)) → scanned y.feed.machine l (i + 1) ≡ To t → length l ≤ length (until 10 l)
+        → ((y : Fed) → (0 < length l → (y.feed.fault ≡ 0) × (y.feed.at + length l ≤ largest)) → scanned y.feed.machine l (i + 1) ≡ Ok t → length l ≤ length (until 10 l)
         → fed register y l ≡ placed t (held_all l y))
         → fed register (fed_byte register x b) l ≡ placed t (held_all (b ∷ l) x)
-    go Nexts.Bad q c d s k ih = absurd (stuck-to s)
-    go (Nexts.To m) q true d s k ih = absurd (omega arith)
-    go (Nexts.To m) q false d s k ih =
+    go None q c d s k ih = absurd (stuck-to s)
+    go (Some m) q true d s k ih = absurd (omega arith)
+    go (Some m) q false d s k ih =
         let r = o (omega arith) in
         let a = r.1 in
         ap (λ (y : Fed). fed register y l) (held-byte register x b r.0 (omega arith) m q d)
@@ -262,24 +259,24 @@ fault-closed f = ap (λ (b : Bool). ltb (f.at + 1) largest && b) (ne_eqb (f.at +
 -- ---- the byte at fault
 
 -- the scan of the rest, from that byte on
-rest-stuck : (s : Machine.State) (d : List ℕ) (j : ℕ) (m : Machine.State) → scanned s d 0 ≡ Stuck j → scanned s (take j d) 0 ≡ To m → j < length d → scanned m (drop j d) j ≡ Stuck j
+rest-stuck : (s : Machine.State) (d : List ℕ) (j : ℕ) (m : Machine.State) → scanned s d 0 ≡ Err j → scanned s (take j d) 0 ≡ Ok m → j < length d → scanned m (drop j d) j ≡ Err j
 rest-stuck s d j m e f h =
     let n : 0 + length (take j d) ≡ j = omega (arith, length-take-le j d (omega arith)) in
     sym (ap (scanned m (drop j d)) n)
-    ∙ sym (ap (λ (r : Scanned). and_then r (λ u. scanned u (drop j d) (0 + length (take j d)))) f)
+    ∙ sym (ap (λ (r : Result Machine.State ℕ). and_then r (λ u. scanned u (drop j d) (0 + length (take j d)))) f)
     ∙ sym (scanned-append s (take j d) (drop j d) 0)
     ∙ ap (λ (l : List ℕ). scanned s l 0) (take-append-drop j d)
     ∙ e
 
-scanned-cons : (m : Machine.State) (b : ℕ) (l : List ℕ) (j : ℕ) → scanned m (b ∷ l) j ≡ follow (step m b) (λ u. scanned u l (j + 1)) (Stuck j)
+scanned-cons : (m : Machine.State) (b : ℕ) (l : List ℕ) (j : ℕ) → scanned m (b ∷ l) j ≡ follow (step m b) (λ u. scanned u l (j + 1)) (Err j)
 unfolding scanned
 scanned-cons m b l j = refl
 
-pub stuck-bad : (s : Machine.State) (d : List ℕ) (j : ℕ) (m : Machine.State) → scanned s d 0 ≡ Stuck j → scanned s (take j d) 0 ≡ To m → j < length d → step m (get_or d j 0) ≡ Nexts.Bad
+pub stuck-bad : (s : Machine.State) (d : List ℕ) (j : ℕ) (m : Machine.State) → scanned s d 0 ≡ Err j → scanned s (take j d) 0 ≡ Ok m → j < length d → step m (get_or d j 0) ≡ None
 stuck-bad s d j m e f h =
     go (step m (get_or d j 0)) refl
     (sym (scanned-cons m (get_or d j 0) (drop (suc j) d) j) ∙ sym (ap (λ (l : List ℕ). scanned m l j) (drop-cons d j 0 h)) ∙ rest-stuck s d j m e f h)
   where
-    go : (n : Next) → step m (get_or d j 0) ≡ n → follow n (λ u. scanned u (drop (suc j) d) (j + 1)) (Stuck j) ≡ Stuck j → step m (get_or d j 0) ≡ Nexts.Bad
-    go Nexts.Bad q r = q
-    go (Nexts.To u) q r = let k = (stuck-byte u (drop (suc j) d) (j + 1) j r).0 in absurd (omega arith)
+    go : (n : Option Machine.State) → step m (get_or d j 0) ≡ n → follow n (λ u. scanned u (drop (suc j) d) (j + 1)) (Err j) ≡ Err j → step m (get_or d j 0) ≡ None
+    go None q r = q
+    go (Some u) q r = let k = (stuck-byte u (drop (suc j) d) (j + 1) j r).0 in absurd (omega arith)

@@ -8,12 +8,12 @@ use borrow.Author.Tests.{le-leb, lt-leb, eq-eqb, ne_eqb, ltb-true, ltb-false}
 use lib.Dec.{eqb, leb, ltb}
 use lib.ListN.{length, take, length-replicate, length-drop}
 use lib.Seq.{length-take-le}
+use Rattle.std.specs.Prelude.{Ok}
 use Rattle.lists.specs.Logic.{on}
 use Rattle.lists.specs.Part.{over}
 use Rattle.lists.proofs.OverLaws.{over-nil, length_over}
 use Rattle.syntax.specs.declared.State as Machine
 use Rattle.syntax.specs.Machine.{step}
-use Rattle.syntax_scan.specs.declared.Scanned.TheVariants.{To}
 use Rattle.syntax_scan.specs.Scanned.{scanned}
 use Rattle.turbo.specs.Split.{until, past}
 use Rattle.turbo.proofs.SplitLaws.{past-drop}
@@ -231,10 +231,10 @@ pub record Left (register : List ℕ) (all : Fed) (t : Machine.State) (at first 
   pub bytes : f.at + length rest ≡ at
   pub fault : f.fault ≡ first
   pub free : 0 < length rest → (f.fault ≡ 0) × (f.at + length rest ≤ 65536)
-  pub left : scanned ghost rest offset ≡ To t
+  pub left : scanned ghost rest offset ≡ Ok t
   pub is : all ≡ fed register (placed ghost (lent f line staging)) rest
 
-pub left-start : (register : List ℕ) (t : Machine.State) (f : Feed) (line staging bytes : List ℕ) → length line ≡ 4096 → FeedFits f → scanned f.machine bytes 0 ≡ To t
+pub left-start : (register : List ℕ) (t : Machine.State) (f : Feed) (line staging bytes : List ℕ) → length line ≡ 4096 → FeedFits f → scanned f.machine bytes 0 ≡ Ok t
     → (0 < length bytes → (f.fault ≡ 0) × (f.at + length bytes ≤ 65536))
     → Left register (fed register (lent f line staging) bytes) t (f.at + length bytes) f.fault f line staging bytes
 left-start register t f line staging bytes room fits scan free =

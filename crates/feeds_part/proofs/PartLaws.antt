@@ -9,12 +9,11 @@ use borrow.Author.Tests.{ltb-true, ltb-false, lt-ltb, le-ltb, eqb-true, ne_eqb, 
 use lib.Dec.{eqb, ltb}
 use lib.ListN.{length, take, drop, get_or, take-append-drop, length-drop}
 use lib.Seq.{drop-cons, drop-length, length-take-le, get_or-take}
+use Rattle.std.specs.Prelude.{None, Ok, Err}
 use Rattle.lists.specs.Logic.{on}
 use Rattle.lists.proofs.LogicLaws.{and-pass, and-false}
 use Rattle.syntax.specs.declared.State as Machine
-use Rattle.syntax.specs.declared.Next.TheVariants as Nexts
 use Rattle.syntax.specs.Machine.{step}
-use Rattle.syntax_scan.specs.declared.Scanned.TheVariants.{To, Stuck}
 use Rattle.syntax_scan.specs.Scanned.{scanned}
 use Rattle.syntax_scan.proofs.ScannedLaws.{stuck-first}
 use Rattle.reader.specs.Rules.{largest}
@@ -124,19 +123,19 @@ module _ (part : List ℕ) (f : Feed) (k : ℕ) (opens : Opened (length part) f 
         ∙ ap (fed register x) (take-append-drop k part)
 
   -- the byte at j may not stand there
-  module _ (j : ℕ) (stuck : scanned f.machine (take k part) 0 ≡ Stuck j) where
+  module _ (j : ℕ) (stuck : scanned f.machine (take k part) 0 ≡ Err j) where
     pub stuck-within : j < k
     stuck-within = let h = (stuck-first f.machine (take k part) j stuck).0 in let l = front_length k (omega arith) in omega arith
 
     front_same : take j (take k part) ≡ take j part
     front_same = front-front j k part (let h = stuck-within in omega arith)
 
-    pub stuck-leads : (t : Machine.State) × (scanned f.machine (take j part) 0 ≡ To t)
+    pub stuck-leads : (t : Machine.State) × (scanned f.machine (take j part) 0 ≡ Ok t)
     stuck-leads =
         let r = (stuck-first f.machine (take k part) j stuck).1 in
         (r.0, ap (λ (l : List ℕ). scanned f.machine l 0) (sym front_same) ∙ r.1)
 
-    module _ (register : List ℕ) (x : Fed) (m : Machine.State) (leads : scanned f.machine (take j part) 0 ≡ To m) (g : Feed) (line staging : List ℕ)
+    module _ (register : List ℕ) (x : Fed) (m : Machine.State) (leads : scanned f.machine (take j part) 0 ≡ Ok m) (g : Feed) (line staging : List ℕ)
         (is : fed_as g line staging ≡ fed register x (take j part)) (at : g.at ≡ f.at + length (take j part)) (fault : g.fault ≡ f.fault) (machine : g.machine ≡ m) where
       pub stuck_at : g.at < 65536
       stuck_at =
@@ -145,7 +144,7 @@ module _ (part : List ℕ) (f : Feed) (k : ℕ) (opens : Opened (length part) f 
           let l = front_length j (omega arith) in
           omega arith
 
-      bad : step g.machine (get_or part j 0) ≡ Nexts.Bad
+      bad : step g.machine (get_or part j 0) ≡ None
       bad =
           let h = stuck-within in
           ap (λ (s : Machine.State). step s (get_or part j 0)) machine

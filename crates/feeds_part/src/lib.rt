@@ -1,11 +1,10 @@
 // A part of a dossier is fed: its bytes are scanned once, its lines read where they lie, and what is left of the last is held for the next part.
 #![tactic(auto)]
 
-ghost use Rattle.std.specs.Prelude.{◌≡◌, ◌+◌, ◌-◌, ◌≤◌, ◌<◌, ltb, length, take};
+ghost use Rattle.std.specs.Prelude.{◌≡◌, ◌+◌, ◌-◌, ◌≤◌, ◌<◌, ltb, length, take, Ok};
 ghost use Rattle.lists.specs.Logic.{on};
 ghost use Rattle.lists.specs.Part.{over};
 ghost use Rattle.syntax.specs.declared.State.{State};
-ghost use Rattle.syntax_scan.specs.declared.Scanned.TheVariants.{To};
 ghost use Rattle.syntax_scan.specs.Scanned.{scanned};
 ghost use Rattle.reader_step.specs.Step.{moved, line_staged};
 ghost use Rattle.feeds.specs.Feed.{no_bytes, message_of, faulted, line_ended, ended, fed};
@@ -17,7 +16,6 @@ ghost use Rattle.feeds_part.specs.inner.Lines.{stands_at, longer, fed_as, lent, 
 use columns::Table;
 use feeds::{Feed, Kept};
 use syntax::State;
-use syntax_scan::Scanned;
 
 // ---- small changes of what is kept
 
@@ -245,7 +243,7 @@ fn feed_lines(
     line: &mut [u8],
 ) -> Feed
     requires fits { (length line.old ≡ 4096) × FeedFits feed }
-    requires taken { (scanned feed.machine bytes.now 0 ≡ To machine) × (0 < length bytes.now → (feed.fault ≡ 0) × (feed.at + length bytes.now ≤ 65536)) }
+    requires taken { (scanned feed.machine bytes.now 0 ≡ Ok machine) × (0 < length bytes.now → (feed.fault ≡ 0) × (feed.at + length bytes.now ≤ 65536)) }
     ensures is { fed_as result line.new staging.new ≡ fed register.now (lent feed line.old staging.old) bytes.now }
     ensures counted { (result.at ≡ feed.at + length bytes.now) × (result.fault ≡ feed.fault) × (result.machine ≡ machine) }
 {
@@ -276,12 +274,12 @@ fn open_for(feed: Feed, many: usize) -> usize
 
 // Where bytes lead that lead somewhere. Only a part at fault is scanned once more.
 fn state_behind(machine: State, bytes: &[u8]) -> State
-    requires { (t : State) × (scanned machine bytes.now 0 ≡ To t) }
-    ensures { scanned machine bytes.now 0 ≡ To result }
+    requires { (t : State) × (scanned machine bytes.now 0 ≡ Ok t) }
+    ensures { scanned machine bytes.now 0 ≡ Ok result }
 {
     match syntax_scan::scan(machine, bytes) {
-        Scanned::To(t) => t,
-        Scanned::Stuck(_) => machine,
+        Ok(t) => t,
+        Err(_) => machine,
     }
 }
 
@@ -293,11 +291,11 @@ fn feed_bytes(feed: Feed, part: &[u8], register: &[u8], staging: &mut [u8], line
     let open = open_for(feed, part.len());
     let machine = feed.machine;
     match syntax_scan::scan(machine, &part[..open]) {
-        Scanned::To(m) => {
+        Ok(m) => {
             let f = feed_lines(feed, m, &part[..open], register, staging, line);
             count(f, part.len() - open)
         }
-        Scanned::Stuck(j) => {
+        Err(j) => {
             let m = state_behind(machine, &part[..j]);
             let f = feed_lines(feed, m, &part[..j], register, staging, line);
             count(at_fault(f), part.len() - (j + 1))

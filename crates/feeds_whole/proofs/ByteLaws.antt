@@ -7,15 +7,12 @@ use borrow.Author.Tests.{lt-ltb, le-ltb, leb-true, leb-false, ltb-false, eq-eqb,
 use lib.Dec.{eqb, leb, ltb}
 use lib.ListN.{length, take, drop, length-append, length-replicate}
 use lib.Seq.{length-take-le, take-append-le}
+use Rattle.std.specs.Prelude.{Option, Some, None, Result, Ok, Err, ⊤}
 use Rattle.lists.specs.Logic.{on}
 use Rattle.lists.specs.Part.{over}
 use Rattle.lists.proofs.LogicLaws.{and-false, and-true}
 use Rattle.lists.proofs.OverLaws.{over-nil, over-then, onto-fits}
 use Rattle.syntax.specs.declared.State as Machine
-use Rattle.syntax.specs.declared.Next.{Next}
-use Rattle.syntax.specs.declared.Next.TheVariants.{To, Bad}
-use Rattle.syntax.specs.declared.Verdict.{Verdict}
-use Rattle.syntax.specs.declared.Verdict.TheVariants.{Fine, FaultAt}
 use Rattle.syntax.specs.Machine.{step, follow, accepting, run}
 use Rattle.turbo_lines.specs.Lines.{longest_line, is_long}
 use Rattle.turbo_lines.specs.Ended.{without_return, ended_lines}
@@ -213,8 +210,8 @@ valid s [] = []
 valid s (b ∷ w) = follow (step s b) (λ t. b ∷ valid t w) []
 
 -- the verdict once the bytes end
-abbrev pub verdict_of : Feed → Verdict
-verdict_of f = on (eqb f.fault 0) (on (accepting f.machine) Fine (FaultAt f.at)) (FaultAt (f.fault - 1))
+abbrev pub verdict_of : Feed → Result ⊤ ℕ
+verdict_of f = on (eqb f.fault 0) (on (accepting f.machine) (Ok tt) (Err f.at)) (Err (f.fault - 1))
 
 -- y is x with the bytes w more, of which some are lines that end, the first of which has the bytes h already
 pub record After (register : List ℕ) (x y : Fed) (h w : List ℕ) : Type 0 where
@@ -229,7 +226,7 @@ unfolding valid ended_lines lines_on run
 after_none register x h e = record { core = refl; verdict = rw (eq-eqb x.feed.fault 0 e) refl; at = omega arith; sender = refl; form = refl }
 
 -- a byte that the machine takes
-lines_more : (register : List ℕ) (x y z : Fed) (t : Machine.State) (h k : List ℕ) (b : ℕ) (w : List ℕ) → Turned x y t k → step x.feed.machine b ≡ To t
+lines_more : (register : List ℕ) (x y z : Fed) (t : Machine.State) (h k : List ℕ) (b : ℕ) (w : List ℕ) → Turned x y t k → step x.feed.machine b ≡ Some t
     → lines_on (message_of x.feed) register x.feed.sender (core_of y) (ended_lines k (valid t w)) ≡ lines_on (message_of x.feed) register x.feed.sender (core_of x) (ended_lines h (b ∷ valid t w))
     → After register y z k w → After register x z h (b ∷ w)
 unfolding valid run
@@ -241,12 +238,12 @@ lines_more register x y z t h k b w now e more rest =
           ∙ ap (λ (n : ℕ). lines_on (message_of x.feed) register n (core_of y) (ended_lines k (valid y.feed.machine w))) now.sender
           ∙ ap (λ (s : Machine.State). lines_on (message_of x.feed) register x.feed.sender (core_of y) (ended_lines k (valid s w))) now.machine
           ∙ more
-          ∙ sym (ap (λ (n : Next). lines_on (message_of x.feed) register x.feed.sender (core_of x) (ended_lines h (follow n (λ u. b ∷ valid u w) []))) e);
+          ∙ sym (ap (λ (n : Option Machine.State). lines_on (message_of x.feed) register x.feed.sender (core_of x) (ended_lines h (follow n (λ u. b ∷ valid u w) []))) e);
       verdict =
           rest.verdict
           ∙ ap (λ (s : Machine.State). run s w y.feed.at) now.machine
           ∙ ap (run t w) now.at
-          ∙ sym (ap (λ (n : Next). follow n (λ u. run u w (x.feed.at + 1)) (FaultAt x.feed.at)) e);
+          ∙ sym (ap (λ (n : Option Machine.State). follow n (λ u. run u w (x.feed.at + 1)) (Err x.feed.at)) e);
       at = omega (arith, rest.at, now.at);
       sender = rest.sender ∙ now.sender;
       form = rest.form ∙ now.form;
@@ -265,25 +262,25 @@ unfolding ended_lines
 held_more register x t h b v e = rw (ne_eqb b 10 e) refl
 
 -- a byte that it does not take
-after-fault : (register : List ℕ) (x z : Fed) (h : List ℕ) (b : ℕ) (w : List ℕ) → step x.feed.machine b ≡ Bad → x.feed.at + suc (length w) ≤ largest
+after-fault : (register : List ℕ) (x z : Fed) (h : List ℕ) (b : ℕ) (w : List ℕ) → step x.feed.machine b ≡ None → x.feed.at + suc (length w) ≤ largest
     → Counted (record { feed = faulted x.feed; line = x.line; staging = x.staging }) z (length w) → After register x z h (b ∷ w)
 unfolding valid run ended_lines lines_on
 after-fault register x z h b w e few c =
     record {
-      core = c.core ∙ sym (ap (λ (n : Next). lines_on (message_of x.feed) register x.feed.sender (core_of x) (ended_lines h (follow n (λ u. b ∷ valid u w) []))) e);
+      core = c.core ∙ sym (ap (λ (n : Option Machine.State). lines_on (message_of x.feed) register x.feed.sender (core_of x) (ended_lines h (follow n (λ u. b ∷ valid u w) []))) e);
       verdict =
-          ap (λ (n : ℕ). on (eqb n 0) (on (accepting z.feed.machine) Fine (FaultAt z.feed.at)) (FaultAt (n - 1))) c.fault
-          ∙ fault-one x.feed.at (on (accepting z.feed.machine) Fine (FaultAt z.feed.at))
-          ∙ sym (ap (λ (n : Next). follow n (λ u. run u w (x.feed.at + 1)) (FaultAt x.feed.at)) e);
+          ap (λ (n : ℕ). on {A = Result ⊤ ℕ} (eqb n 0) (on (accepting z.feed.machine) (Ok tt) (Err z.feed.at)) (Err (n - 1))) c.fault
+          ∙ fault-one x.feed.at (on (accepting z.feed.machine) (Ok tt) (Err z.feed.at))
+          ∙ sym (ap (λ (n : Option Machine.State). follow n (λ u. run u w (x.feed.at + 1)) (Err x.feed.at)) e);
       at = let k = c.few (omega arith) in omega arith;
       sender = c.sender;
       form = c.form;
     }
   where
-    fault-one : (n : ℕ) (v : Verdict) → on (eqb (n + 1) 0) v (FaultAt (n + 1 - 1)) ≡ FaultAt n
-    fault-one n v = rw (ne_eqb (n + 1) 0 (λ z. omega arith)) (ap FaultAt (omega arith))
+    fault-one : (n : ℕ) (v : Result ⊤ ℕ) → on (eqb (n + 1) 0) v (Err (n + 1 - 1)) ≡ Err n
+    fault-one n v = rw (ne_eqb (n + 1) 0 (λ z. omega arith)) (ap Err (omega arith))
 
-open-byte : (register : List ℕ) (x : Fed) (b : ℕ) (n : Next) → x.feed.at < largest → x.feed.fault ≡ 0 → step x.feed.machine b ≡ n → fed_byte register x b ≡ taken register b n x
+open-byte : (register : List ℕ) (x : Fed) (b : ℕ) (n : Option Machine.State) → x.feed.at < largest → x.feed.fault ≡ 0 → step x.feed.machine b ≡ n → fed_byte register x b ≡ taken register b n x
 unfolding fed_byte
 open-byte register x b n h e s = rw (lt-ltb x.feed.at largest h, eq-eqb x.feed.fault 0 e, s) refl
 
@@ -295,21 +292,21 @@ unfolding fed
 fed-bytes register [] x h e few now = after_none register x h e
 fed-bytes register (b ∷ w) x h e few now = go (step x.feed.machine b) refl (eqb b 10) refl (λ y k. fed-bytes register w y k)
   where
-    go : (n : Next) → step x.feed.machine b ≡ n → (l : Bool) → eqb b 10 ≡ l
+    go : (n : Option Machine.State) → step x.feed.machine b ≡ n → (l : Bool) → eqb b 10 ≡ l
         → ((y : Fed) (k : List ℕ) → y.feed.fault ≡ 0 → y.feed.at + length w ≤ largest → Held y k → After register y (fed register y w) k w)
         → After register x (fed register (fed_byte register x b) w) h (b ∷ w)
-    go Bad s l t ih =
-        subst (λ (y : Fed). After register x (fed register y w) h (b ∷ w)) (sym (open-byte register x b Bad (omega arith) e s))
+    go None s l t ih =
+        subst (λ (y : Fed). After register x (fed register y w) h (b ∷ w)) (sym (open-byte register x b None (omega arith) e s))
         (after-fault register x (fed register (record { feed = faulted x.feed; line = x.line; staging = x.staging }) w) h b w s few
         (closed-bytes register w (record { feed = faulted x.feed; line = x.line; staging = x.staging }) (fault-closed x.feed)))
-    go (To m) s true t ih =
+    go (Some m) s true t ih =
         let turn = ended-turned register m x in
-        subst (λ (y : Fed). After register x (fed register y w) h (b ∷ w)) (sym (open-byte register x b (To m) (omega arith) e s ∙ ap (λ (c : Bool). on c (ended register m x) (held_on m b x)) t))
+        subst (λ (y : Fed). After register x (fed register y w) h (b ∷ w)) (sym (open-byte register x b (Some m) (omega arith) e s ∙ ap (λ (c : Bool). on c (ended register m x) (held_on m b x)) t))
         (lines_more register x (ended register m x) (fed register (ended register m x) w) m h [] b w turn s (ended-more register x m h b (valid m w) now (eqb-true b 10 t))
         (ih (ended register m x) [] (turn.fault ∙ e) (omega (arith, turn.at)) turn.held))
-    go (To m) s false t ih =
+    go (Some m) s false t ih =
         let turn = held-turned m b x h now in
-        subst (λ (y : Fed). After register x (fed register y w) h (b ∷ w)) (sym (open-byte register x b (To m) (omega arith) e s ∙ ap (λ (c : Bool). on c (ended register m x) (held_on m b x)) t))
+        subst (λ (y : Fed). After register x (fed register y w) h (b ∷ w)) (sym (open-byte register x b (Some m) (omega arith) e s ∙ ap (λ (c : Bool). on c (ended register m x) (held_on m b x)) t))
         (lines_more register x (held_on m b x) (fed register (held_on m b x) w) m h (h ++ b ∷ []) b w turn s (held_more register x m h b (valid m w) (eqb-false b 10 t))
         (ih (held_on m b x) (h ++ b ∷ []) (turn.fault ∙ e) (omega (arith, turn.at)) turn.held))
 

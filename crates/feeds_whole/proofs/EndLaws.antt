@@ -8,6 +8,7 @@ use borrow.Author.Tests.{lt-ltb, le-ltb, le-leb, leb-true, leb-false, ltb-true, 
 use lib.Dec.{eqb, leb, ltb}
 use lib.ListN.{length, take, length-take}
 use lib.Seq.{take_all, take-take}
+use Rattle.std.specs.Prelude.{Result, Ok, Err, ⊤}
 use Rattle.lists.specs.Logic.{on}
 use Rattle.lists.specs.Each.{Each}
 use Rattle.lists.specs.Part.{over}
@@ -17,8 +18,6 @@ use Rattle.lists.proofs.LogicLaws.{and-false, and-true}
 use Rattle.lists.proofs.OverLaws.{length_over, onto-fits}
 use Rattle.lists.proofs.RowLaws.{take-rows_of}
 use Rattle.lists.proofs.WideLaws.{length-flat, rows_of-flat}
-use Rattle.syntax.specs.declared.Verdict.{Verdict}
-use Rattle.syntax.specs.declared.Verdict.TheVariants as Verdicts
 use Rattle.syntax.specs.Machine.{accepting, fault}
 use Rattle.syntax.proofs.GrammarLaws.{formed}
 use Rattle.turbo_lines.specs.Lines.{lines, first_long, short_front}
@@ -113,11 +112,11 @@ rows-granted f register sender (row n ls l ∷ xs) = go (grants register sender 
 -- ---- the reading
 
 -- where the verdict is fine what comes next is the same
-verdict-same : (b a : Bool) (n at : ℕ) (v : Verdict) (x y : Reading) → on b (on a Verdicts.Fine (Verdicts.FaultAt at)) (Verdicts.FaultAt (n - 1)) ≡ v → (v ≡ Verdicts.Fine → x ≡ y)
+verdict-same : (b a : Bool) (n at : ℕ) (v : Result ⊤ ℕ) (x y : Reading) → on b (on a (Ok tt) (Err at)) (Err (n - 1)) ≡ v → (v ≡ Ok tt → x ≡ y)
     → on (not b) (Readings.Syntax (n - 1)) (on (not a) (Readings.Syntax at) x) ≡ on (faults v) (Readings.Syntax (fault_place v)) y
-verdict-same false a n at v x y e h = ap (λ (u : Verdict). on (faults u) (Readings.Syntax (fault_place u)) y) e
-verdict-same true false n at v x y e h = ap (λ (u : Verdict). on (faults u) (Readings.Syntax (fault_place u)) y) e
-verdict-same true true n at v x y e h = h (sym e) ∙ ap (λ (u : Verdict). on (faults u) (Readings.Syntax (fault_place u)) y) e
+verdict-same false a n at v x y e h = ap (λ (u : Result ⊤ ℕ). on (faults u) (Readings.Syntax (fault_place u)) y) e
+verdict-same true false n at v x y e h = ap (λ (u : Result ⊤ ℕ). on (faults u) (Readings.Syntax (fault_place u)) y) e
+verdict-same true true n at v x y e h = h (sym e) ∙ ap (λ (u : Result ⊤ ℕ). on (faults u) (Readings.Syntax (fault_place u)) y) e
 
 long-then : (long : ℕ) (x y : Reading) → (long ≡ 0 → x ≡ y) → unless_long long x ≡ unless_long long y
 long-then long x y h = go (eqb long 0) refl
@@ -217,7 +216,7 @@ module _ (register : List ℕ) (sender form : ℕ) (staging d : List ℕ) (y : F
       le-leb kept-rows most_rows (omega (arith, m, final.few))
 
   -- ---- a dossier without a fault of syntax
-  module _ (small : length d ≤ largest) (right : fault d ≡ Verdicts.Fine) where
+  module _ (small : length d ≤ largest) (right : fault d ≡ Ok tt) where
     lines_are : ls ≡ lines d
     lines_are = ap (ended_lines []) (front-fine d small right) ∙ ended-lines d (formed d right)
 

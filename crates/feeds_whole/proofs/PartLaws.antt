@@ -5,15 +5,15 @@ use mathlib.Core.Bool.{Bool, true, false}
 use mathlib.Core.List.{List, [], ◌∷◌, ◌++◌}
 use lib.Dec.{eqb}
 use lib.ListN.{length, take, replicate, length-append, length-replicate, length-take}
+use Rattle.std.specs.Prelude.{Option, Some, None}
 use Rattle.lists.specs.Logic.{on}
 use Rattle.lists.specs.Part.{over, onto}
 use Rattle.lists.specs.Rows.{flat}
 use Rattle.lists.proofs.OverLaws.{over-nil, length_over}
-use Rattle.syntax.specs.declared.Next.{Next}
-use Rattle.syntax.specs.declared.Next.TheVariants.{To, Bad}
 use Rattle.syntax.specs.Machine.{step}
 use Rattle.turbo_lines.specs.Lines.{longest_line}
 use Rattle.feeds.specs.declared.Feed.{Feed}
+use Rattle.syntax.specs.declared.State as Machine
 use Rattle.feeds.specs.Feed.{Fed, no_bytes, counted, ended, held_on, taken, is_open, fed_byte, fed}
 use Rattle.feeds.specs.Kept.{kept_of, feed_of, is_begun, new_feed, begun_by}
 use Rattle.feeds.specs.Feeding.{Feeding, feeding, fed_in, fed_out, feed_leaves}
@@ -40,9 +40,9 @@ held-byte : (register : List ℕ) (x : Fed) (b : ℕ) → HasLine x → HasLine 
 unfolding fed_byte
 held-byte register x b (h, now) = go (is_open x.feed) (step x.feed.machine b)
   where
-    go : (o : Bool) (n : Next) → HasLine (on o (taken register b n x) (record { feed = counted x.feed; line = x.line; staging = x.staging }))
-    go true (To m) = on-held (eqb b 10) (ended register m x) (held_on m b x) ([], (ended-turned register m x).held) (h ++ b ∷ [], (held-turned m b x h now).held)
-    go true Bad = (h, record { line = now.line; size = now.size })
+    go : (o : Bool) (n : Option Machine.State) → HasLine (on o (taken register b n x) (record { feed = counted x.feed; line = x.line; staging = x.staging }))
+    go true (Some m) = on-held (eqb b 10) (ended register m x) (held_on m b x) ([], (ended-turned register m x).held) (h ++ b ∷ [], (held-turned m b x h now).held)
+    go true None = (h, record { line = now.line; size = now.size })
     go false n = (h, record { line = now.line; size = now.size })
 
 held-fed : (register w : List ℕ) (x : Fed) → HasLine x → HasLine (fed register x w)

@@ -7,14 +7,11 @@ use borrow.Author.Tests.{eqb-true}
 use lib.Dec.{eqb}
 use lib.ListN.{length, take, length-append}
 use lib.Seq.{take-nil}
+use Rattle.std.specs.Prelude.{Option, Some, None, Result, Ok, Err, ⊤}
 use Rattle.lists.specs.Logic.{on}
 use Rattle.syntax.specs.declared.Kind.TheVariants as Kinds
 use Rattle.syntax.specs.declared.State as Machine
 use Rattle.syntax.specs.declared.State.TheVariants as States
-use Rattle.syntax.specs.declared.Next.{Next}
-use Rattle.syntax.specs.declared.Next.TheVariants.{To, Bad}
-use Rattle.syntax.specs.declared.Verdict.{Verdict}
-use Rattle.syntax.specs.declared.Verdict.TheVariants.{Fine, FaultAt}
 use Rattle.syntax.specs.Machine.{field_step, escape_step, first_escape_step, null_step, return_step, start_step, mark_step, step, follow, accepting, run}
 use Rattle.turbo_lines.specs.Lines.{is_long, short_front}
 use Rattle.columns.specs.declared.Form.{Form}
@@ -50,13 +47,13 @@ is_ret (States.InsideEsc k) = false
 is_ret (States.Null k) = false
 is_ret (States.Ret k) = true
 
-abbrev leads_to_ret : Next → Bool
-leads_to_ret (To t) = is_ret t
-leads_to_ret Bad = false
+abbrev leads_to_ret : Option Machine.State → Bool
+leads_to_ret (Some t) = is_ret t
+leads_to_ret None = false
 
-abbrev goes_on : Next → Bool
-goes_on (To t) = true
-goes_on Bad = false
+abbrev goes_on : Option Machine.State → Bool
+goes_on (Some t) = true
+goes_on None = false
 
 lf-only : (s : Machine.State) → (goes_on (step s 10) ≡ true → is_ret s ≡ true) × (leads_to_ret (step s 10) ≡ false)
 unfolding step start_step mark_step return_step null_step first_escape_step escape_step field_step
@@ -92,18 +89,18 @@ unfolding valid ended_lines
 ended-weigh [] s h r = omega arith
 ended-weigh (b ∷ w) s h r = go (step s b) refl (eqb b 10) refl (λ t k. ended-weigh w t k)
   where
-    go : (n : Next) → step s b ≡ n → (l : Bool) → eqb b 10 ≡ l
+    go : (n : Option Machine.State) → step s b ≡ n → (l : Bool) → eqb b 10 ≡ l
         → ((t : Machine.State) (k : List ℕ) → (is_ret t ≡ true → 1 ≤ length k) → weights (ended_lines k (valid t w)) ≤ length k + length w)
         → weights (ended_lines h (follow n (λ t. b ∷ valid t w) [])) ≤ length h + suc (length w)
-    go Bad e l q ih = none-weigh h (length w)
-    go (To t) e true q ih =
-        let z : step s 10 ≡ To t = ap (step s) (sym (eqb-true b 10 q)) ∙ e in
+    go None e l q ih = none-weigh h (length w)
+    go (Some t) e true q ih =
+        let z : step s 10 ≡ Some t = ap (step s) (sym (eqb-true b 10 q)) ∙ e in
         let k = lf-only s in
         let some : 1 ≤ length h = r (k.0 (ap goes_on z)) in
         let m : is_ret t ≡ false = sym (ap leads_to_ret z) ∙ k.1 in
         let few = ih t [] (λ y. absurd (let f : ◌≡◌ {A = ℕ} 0 1 = cc in omega arith)) in
         lf-weigh h b (valid t w) (length w) q some (omega (arith, few))
-    go (To t) e false q ih = on_line h b (valid t w) (length w) q (ih t (h ++ b ∷ []) (λ y. omega (arith, length-append h (b ∷ []))))
+    go (Some t) e false q ih = on_line h b (valid t w) (length w) q (ih t (h ++ b ∷ []) (λ y. omega (arith, length-append h (b ∷ []))))
 
 -- the rows of lines that the first bytes of a dossier end
 pub rows_few : (f : Form) (register : List ℕ) (sender : ℕ) (w : List ℕ) → length w ≤ 65536
@@ -117,26 +114,26 @@ rows_few f register sender w h =
 
 -- ---- the front that the machine takes, by its verdict
 
-run-behind : (w : List ℕ) (s : Machine.State) (i j : ℕ) → run s w i ≡ FaultAt j → i ≤ j
+run-behind : (w : List ℕ) (s : Machine.State) (i j : ℕ) → run s w i ≡ Err j → i ≤ j
 unfolding run
 run-behind [] s i j = go (accepting s)
   where
-    go : (b : Bool) → on b Fine (FaultAt i) ≡ FaultAt j → i ≤ j
+    go : (b : Bool) → on {A = Result ⊤ ℕ} b (Ok tt) (Err i) ≡ Err j → i ≤ j
     go true e = absurd (let f : ◌≡◌ {A = ℕ} 0 1 = cc in omega arith)
     go false e = let f : i ≡ j = cc in omega arith
 run-behind (b ∷ w) s i j = go (step s b) (λ t. run-behind w t (i + 1) j)
   where
-    go : (n : Next) → ((t : Machine.State) → run t w (i + 1) ≡ FaultAt j → i + 1 ≤ j) → follow n (λ t. run t w (i + 1)) (FaultAt i) ≡ FaultAt j → i ≤ j
-    go (To t) ih e = let k = ih t e in omega arith
-    go Bad ih e = let f : i ≡ j = cc in omega arith
+    go : (n : Option Machine.State) → ((t : Machine.State) → run t w (i + 1) ≡ Err j → i + 1 ≤ j) → follow n (λ t. run t w (i + 1)) (Err i) ≡ Err j → i ≤ j
+    go (Some t) ih e = let k = ih t e in omega arith
+    go None ih e = let f : i ≡ j = cc in omega arith
 
 -- the bytes before the place of a fault
-abbrev front : Verdict → ℕ → List ℕ → List ℕ
+abbrev front : Result ⊤ ℕ → ℕ → List ℕ → List ℕ
 front v i w = on (faults v) (take (fault_place v - i) w) w
 
-front-more : (v : Verdict) (i b : ℕ) (w : List ℕ) → ((j : ℕ) → v ≡ FaultAt j → i + 1 ≤ j) → b ∷ front v (i + 1) w ≡ front v i (b ∷ w)
-front-more Fine i b w h = refl
-front-more (FaultAt j) i b w h =
+front-more : (v : Result ⊤ ℕ) (i b : ℕ) (w : List ℕ) → ((j : ℕ) → v ≡ Err j → i + 1 ≤ j) → b ∷ front v (i + 1) w ≡ front v i (b ∷ w)
+front-more (Ok u) i b w h = refl
+front-more (Err j) i b w h =
     let k = h j refl in
     let e : j - i ≡ suc (j - (i + 1)) = omega arith in
     ap (λ (n : ℕ). take n (b ∷ w)) (sym e)
@@ -145,12 +142,12 @@ pub valid-front : (w : List ℕ) (s : Machine.State) (i : ℕ) → valid s w ≡
 unfolding valid run
 valid-front [] s i = go (run s [] i)
   where
-    go : (v : Verdict) → [] ≡ front v i []
-    go Fine = refl
-    go (FaultAt j) = sym (take-nil (j - i))
+    go : (v : Result ⊤ ℕ) → [] ≡ front v i []
+    go (Ok u) = refl
+    go (Err j) = sym (take-nil (j - i))
 valid-front (b ∷ w) s i = go (step s b) (λ t. valid-front w t (i + 1))
   where
-    go : (n : Next) → ((t : Machine.State) → valid t w ≡ front (run t w (i + 1)) (i + 1) w)
-        → follow n (λ t. b ∷ valid t w) [] ≡ front (follow n (λ t. run t w (i + 1)) (FaultAt i)) i (b ∷ w)
-    go (To t) ih = ap (λ (l : List ℕ). b ∷ l) (ih t) ∙ front-more (run t w (i + 1)) i b w (λ j e. run-behind w t (i + 1) j e)
-    go Bad ih = let e : 0 ≡ i - i = omega arith in ap (λ (n : ℕ). take n (b ∷ w)) e
+    go : (n : Option Machine.State) → ((t : Machine.State) → valid t w ≡ front (run t w (i + 1)) (i + 1) w)
+        → follow n (λ t. b ∷ valid t w) [] ≡ front (follow n (λ t. run t w (i + 1)) (Err i)) i (b ∷ w)
+    go (Some t) ih = ap (λ (l : List ℕ). b ∷ l) (ih t) ∙ front-more (run t w (i + 1)) i b w (λ j e. run-behind w t (i + 1) j e)
+    go None ih = let e : 0 ≡ i - i = omega arith in ap (λ (n : ℕ). take n (b ∷ w)) e

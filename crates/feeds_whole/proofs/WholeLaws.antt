@@ -7,12 +7,11 @@ use borrow.Author.Tests.{le-ltb, ltb-true, ltb-false}
 use lib.Dec.{eqb, ltb}
 use lib.ListN.{length, take, drop, length-drop, take-append-drop}
 use lib.Seq.{length-take-le, take_all}
+use Rattle.std.specs.Prelude.{Result, Ok, Err, ⊤}
 use Rattle.lists.specs.Logic.{on}
 use Rattle.lists.proofs.OverLaws.{over-nil}
 use Rattle.syntax.specs.declared.Kind.TheVariants as Kinds
 use Rattle.syntax.specs.declared.State.TheVariants as States
-use Rattle.syntax.specs.declared.Verdict.{Verdict}
-use Rattle.syntax.specs.declared.Verdict.TheVariants.{Fine, FaultAt}
 use Rattle.syntax.specs.Machine.{run, fault}
 use Rattle.reader.specs.Rules.{largest, faults, fault_place}
 use Rattle.feeds.specs.Feed.{Fed, no_bytes, is_open, fed}
@@ -45,9 +44,9 @@ pub valid-is : (w : List ℕ) → valid (States.Open Kinds.Nothing) w ≡ on (fa
 unfolding fault
 valid-is w = valid-front w (States.Open Kinds.Nothing) 0 ∙ go (run (States.Open Kinds.Nothing) w 0)
   where
-    go : (v : Verdict) → on (faults v) (take (fault_place v - 0) w) w ≡ on (faults v) (take (fault_place v) w) w
-    go Fine = refl
-    go (FaultAt j) = let e : j - 0 ≡ j = omega arith in ap (λ (n : ℕ). take n w) e
+    go : (v : Result ⊤ ℕ) → on (faults v) (take (fault_place v - 0) w) w ≡ on (faults v) (take (fault_place v) w) w
+    go (Ok u) = refl
+    go (Err j) = let e : j - 0 ≡ j = omega arith in ap (λ (n : ℕ). take n w) e
 
 front-is : (d : List ℕ) → valid_front d ≡ valid (States.Open Kinds.Nothing) (take largest d)
 unfolding valid_front
@@ -57,8 +56,8 @@ front-short : (d : List ℕ) → length d ≤ largest → valid_front d ≡ vali
 front-short d h = front-is d ∙ ap (valid (States.Open Kinds.Nothing)) (take_all largest d h)
 
 -- the whole of a dossier without a fault
-pub front-fine : (d : List ℕ) → length d ≤ largest → fault d ≡ Fine → valid_front d ≡ d
-front-fine d h e = front-short d h ∙ valid-is d ∙ ap (λ (v : Verdict). on (faults v) (take (fault_place v) d) d) e
+pub front-fine : (d : List ℕ) → length d ≤ largest → fault d ≡ Ok tt → valid_front d ≡ d
+front-fine d h e = front-short d h ∙ valid-is d ∙ ap (λ (v : Result ⊤ ℕ). on (faults v) (take (fault_place v) d) d) e
 
 -- whatever the dossier, they are at most 65,536
 pub front-few : (d : List ℕ) → (w : List ℕ) × (length w ≤ largest) × (valid_front d ≡ valid (States.Open Kinds.Nothing) w)

@@ -7,12 +7,11 @@ use mathlib.Core.Logic.{◌↔◌}
 use borrow.Author.Tests.{eqb-true, ltb-false, le-ltb}
 use lib.Dec.{eqb, ltb}
 use lib.ListN.{length}
+use Rattle.std.specs.Prelude.{Result, Ok, Err, ⊤}
 use Rattle.lists.specs.Logic.{on}
 use Rattle.lists.specs.Part.{part}
 use Rattle.lists.specs.Each.{Each}
 use Rattle.lists.proofs.OverLaws.{length_over}
-use Rattle.syntax.specs.declared.Verdict.{Verdict}
-use Rattle.syntax.specs.declared.Verdict.TheVariants as Verdicts
 use Rattle.syntax.specs.Machine.{fault}
 use Rattle.grammar.specs.Grammar.{WellFormed}
 use Rattle.syntax.proofs.GrammarLaws.{fine, formed}
@@ -66,18 +65,18 @@ module _ (t : Table) (register : List ℕ) (sender : ℕ) (d : List ℕ) where
 
   -- what is looked at before the items
   abbrev Looked : ℕ → Type 0
-  Looked n = (length d ≤ largest) × (fault d ≡ Verdicts.Fine) × Each Short (lines d) × (answer_to t register sender its ≡ Rows n)
+  Looked n = (length d ≤ largest) × (fault d ≡ Ok tt) × Each Short (lines d) × (answer_to t register sender its ≡ Rows n)
 
   pub reading-looked : (n : ℕ) → reading_of t register sender d ≡ Rows n → Looked n
   unfolding reading_of
   reading-looked n = go (ltb largest (length d)) (fault d) (eqb (first_long 1 (lines d)) 0) refl refl refl
     where
-      go : (b : Bool) (v : Verdict) (x : Bool) → ltb largest (length d) ≡ b → fault d ≡ v → eqb (first_long 1 (lines d)) 0 ≡ x
+      go : (b : Bool) (v : Result ⊤ ℕ) (x : Bool) → ltb largest (length d) ≡ b → fault d ≡ v → eqb (first_long 1 (lines d)) 0 ≡ x
           → on b TooLong (on (faults v) (Syntax (fault_place v)) (on (not x) (Long (first_long 1 (lines d))) (answer_to t register sender its))) ≡ Rows n → Looked n
       go true v x p q r e = absurd (let z : ◌≡◌ {A = ℕ} 0 1 = cc in omega arith)
-      go false Verdicts.Fine true p q r e = (ltb-false _ _ p, q, none-long 1 (lines d) (omega arith) (eqb-true _ _ r), e)
-      go false Verdicts.Fine false p q r e = absurd (let z : ◌≡◌ {A = ℕ} 0 1 = cc in omega arith)
-      go false (Verdicts.FaultAt i) x p q r e = absurd (let z : ◌≡◌ {A = ℕ} 0 1 = cc in omega arith)
+      go false (Ok u) true p q r e = (ltb-false _ _ p, q, none-long 1 (lines d) (omega arith) (eqb-true _ _ r), e)
+      go false (Ok u) false p q r e = absurd (let z : ◌≡◌ {A = ℕ} 0 1 = cc in omega arith)
+      go false (Err i) x p q r e = absurd (let z : ◌≡◌ {A = ℕ} 0 1 = cc in omega arith)
 
   accepted-back : length d ≤ largest → WellFormed d → Each Short (lines d) → Each (λ (x : Item). form_bad t x ≡ false) its → Each (λ (x : Item). wrong_at t x ≡ 0) its → Each (λ (x : Item). owner_bad t register sender x ≡ false) its
       → reading_of t register sender d ≡ Rows (length (data_rows t its))

@@ -5,8 +5,8 @@ use mathlib.Core.List.{List}
 use borrow.Author.Tests.{lt-ltb, le-ltb}
 use lib.Dec.{ltb}
 use lib.ListN.{length}
+use Rattle.std.specs.Prelude.{Ok, Err}
 use Rattle.lists.specs.Logic.{on}
-use Rattle.syntax.specs.declared.Verdict.TheVariants.{Fine, FaultAt}
 use Rattle.syntax.specs.Machine.{fault}
 use Rattle.turbo_lines.specs.Lines.{lines, first_long}
 use Rattle.columns.specs.declared.Table.{Table}
@@ -49,11 +49,11 @@ module _ (t : Table) (register : List ℕ) (sender : ℕ) (d st : List ℕ) wher
   look-long h = rw (lt-ltb _ _ h) (refl, refl)
 
   module _ (small : length d ≤ largest) where
-    pub look-syntax : (i : ℕ) → fault d ≡ FaultAt i → (Syntax i ≡ reading_of t register sender d) × (st ≡ staged_by t register sender d st)
+    pub look-syntax : (i : ℕ) → fault d ≡ Err i → (Syntax i ≡ reading_of t register sender d) × (st ≡ staged_by t register sender d st)
     unfolding reading_of staged_by
     look-syntax i e = rw (le-ltb _ _ small, e) (refl, refl)
 
-    pub look-lines : fault d ≡ Fine
+    pub look-lines : fault d ≡ Ok tt
         → (lines_answer t register sender d ≡ reading_of t register sender d) × (laid t (rows_up_to t register sender (short_items t d)) st ≡ staged_by t register sender d st)
     unfolding reading_of staged_by
     look-lines e = rw (le-ltb _ _ small, e) (refl, refl)

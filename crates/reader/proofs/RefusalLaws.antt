@@ -8,11 +8,10 @@ use mathlib.Core.Logic.{◌↔◌}
 use borrow.Author.Tests.{eq-eqb, ne_eqb, eqb-true, eqb-false, ltb-true, ltb-false, lt-ltb, le-ltb}
 use lib.Dec.{eqb, ltb}
 use lib.ListN.{length}
+use Rattle.std.specs.Prelude.{Result, Ok, Err, ⊤}
 use Rattle.lists.specs.Logic.{on}
 use Rattle.lists.specs.Text.{same}
 use Rattle.lists.specs.Each.{Each}
-use Rattle.syntax.specs.declared.Verdict.{Verdict}
-use Rattle.syntax.specs.declared.Verdict.TheVariants.{Fine, FaultAt}
 use Rattle.syntax.specs.Machine.{fault}
 use Rattle.grammar.specs.Grammar.{WellFormed}
 use Rattle.syntax.proofs.GrammarLaws.{fine, formed}
@@ -178,11 +177,11 @@ module _ (t : Table) (register : List ℕ) (sender : ℕ) (d : List ℕ) where
   -- what each answer tells of the first lines
   abbrev Tells : Reading → Type 0
   Tells TooLong = largest < length d
-  Tells (Syntax i) = Small × (fault d ≡ FaultAt i)
-  Tells (Long l) = Small × (fault d ≡ Fine) × (long ≡ l) × (1 ≤ l)
-  Tells (Form l) = Small × (fault d ≡ Fine) × (long ≡ 0) × (form ≡ l) × (1 ≤ l)
-  Tells (Field l c) = Small × (fault d ≡ Fine) × (long ≡ 0) × (form ≡ 0) × (wrong ≡ l) × (1 ≤ l) × (first_column t its ≡ c)
-  Tells (Owner l) = Small × (fault d ≡ Fine) × (long ≡ 0) × (form ≡ 0) × (wrong ≡ 0) × (owner ≡ l) × (1 ≤ l)
+  Tells (Syntax i) = Small × (fault d ≡ Err i)
+  Tells (Long l) = Small × (fault d ≡ Ok tt) × (long ≡ l) × (1 ≤ l)
+  Tells (Form l) = Small × (fault d ≡ Ok tt) × (long ≡ 0) × (form ≡ l) × (1 ≤ l)
+  Tells (Field l c) = Small × (fault d ≡ Ok tt) × (long ≡ 0) × (form ≡ 0) × (wrong ≡ l) × (1 ≤ l) × (first_column t its ≡ c)
+  Tells (Owner l) = Small × (fault d ≡ Ok tt) × (long ≡ 0) × (form ≡ 0) × (wrong ≡ 0) × (owner ≡ l) × (1 ≤ l)
   Tells (Rows n) = Unit {0}
 
   line-there : (n : ℕ) → eqb n 0 ≡ false → 1 ≤ n
@@ -192,15 +191,15 @@ module _ (t : Table) (register : List ℕ) (sender : ℕ) (d : List ℕ) where
   unfolding reading_of answer_to
   tells = go (ltb largest (length d)) (fault d) (eqb long 0) (eqb form 0) (eqb wrong 0) (eqb owner 0) refl refl refl refl refl refl
     where
-      go : (b : Bool) (v : Verdict) (u x y z : Bool) → ltb largest (length d) ≡ b → fault d ≡ v → eqb long 0 ≡ u → eqb form 0 ≡ x → eqb wrong 0 ≡ y → eqb owner 0 ≡ z
+      go : (b : Bool) (v : Result ⊤ ℕ) (u x y z : Bool) → ltb largest (length d) ≡ b → fault d ≡ v → eqb long 0 ≡ u → eqb form 0 ≡ x → eqb wrong 0 ≡ y → eqb owner 0 ≡ z
           → Tells (on b TooLong (on (faults v) (Syntax (fault_place v)) (on (not u) (Long long) (on (not x) (Form form) (on (not y) (Field wrong (first_column t its)) (on (not z) (Owner owner) (Rows (length (data_rows t its)))))))))
       go true v u x y z p q k a b c = ltb-true _ _ p
-      go false (FaultAt i) u x y z p q k a b c = (ltb-false _ _ p, q)
-      go false Fine false x y z p q k a b c = (ltb-false _ _ p, q, refl, line-there _ k)
-      go false Fine true false y z p q k a b c = (ltb-false _ _ p, q, eqb-true _ _ k, refl, line-there _ a)
-      go false Fine true true false z p q k a b c = (ltb-false _ _ p, q, eqb-true _ _ k, eqb-true _ _ a, refl, line-there _ b, refl)
-      go false Fine true true true false p q k a b c = (ltb-false _ _ p, q, eqb-true _ _ k, eqb-true _ _ a, eqb-true _ _ b, refl, line-there _ c)
-      go false Fine true true true true p q k a b c = tt
+      go false (Err i) u x y z p q k a b c = (ltb-false _ _ p, q)
+      go false (Ok u) false x y z p q k a b c = (ltb-false _ _ p, q, refl, line-there _ k)
+      go false (Ok u) true false y z p q k a b c = (ltb-false _ _ p, q, eqb-true _ _ k, refl, line-there _ a)
+      go false (Ok u) true true false z p q k a b c = (ltb-false _ _ p, q, eqb-true _ _ k, eqb-true _ _ a, refl, line-there _ b, refl)
+      go false (Ok u) true true true false p q k a b c = (ltb-false _ _ p, q, eqb-true _ _ k, eqb-true _ _ a, eqb-true _ _ b, refl, line-there _ c)
+      go false (Ok u) true true true true p q k a b c = tt
 
   told : (r : Reading) → reading_of t register sender d ≡ r → Tells r
   told r e = subst Tells e tells

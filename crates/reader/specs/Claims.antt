@@ -1,9 +1,8 @@
 -- What is certain of a reader's answer. `proofs/Claims.antt` proves `All`. Assumes nothing.
-use Rattle.std.specs.Prelude.{ℕ, ◌+◌, ◌*◌, ◌≤◌, ◌<◌, ◌≡◌, true, false, List, [], ◌∷◌, ◌++◌, ◌↔◌, length}
+use Rattle.std.specs.Prelude.{ℕ, ◌+◌, ◌*◌, ◌≤◌, ◌<◌, ◌≡◌, true, false, List, [], ◌∷◌, ◌++◌, ◌↔◌, length, Err}
 use Rattle.lists.specs.Each.{Each}
 use Rattle.lists.specs.Rows.{rows_of}
 use Rattle.grammar.specs.Grammar.{WellFormed}
-use Rattle.syntax.specs.declared.Verdict.TheVariants.{FaultAt}
 use Rattle.syntax.specs.Machine.{fault}
 use Rattle.turbo.specs.Split.{until, fields}
 use Rattle.turbo_lines.specs.declared.Mark.TheVariants as Marks
@@ -149,7 +148,7 @@ TooLongExactly = (t : Table) (register : List ℕ) (sender : ℕ) (d : List ℕ)
 abbrev pub SyntaxExactly : Type 0
 SyntaxExactly =
     (t : Table) (register : List ℕ) (sender : ℕ) (d : List ℕ) (i : ℕ)
-    → (reading_of t register sender d ≡ Syntax i) ↔ ((length d ≤ 65536) × (fault d ≡ FaultAt i))
+    → (reading_of t register sender d ≡ Syntax i) ↔ ((length d ≤ 65536) × (fault d ≡ Err i))
 
 -- 15 exactly where the dossier is within its size and well formed, at the first line of more than 4,096 bytes with its CR LF, of whatever table or of none
 abbrev pub LongExactly : Type 0

@@ -1,8 +1,6 @@
 -- What a reader answers, as document 01's table says, with line 15 behind line 3: of the lines 2 to 6 and 15 the first that holds, each looked for over the whole dossier. Assumes nothing.
-use Rattle.std.specs.Prelude.{ℕ, Bool, true, false, not, List, [], ◌∷◌, eqb, ltb, length}
+use Rattle.std.specs.Prelude.{ℕ, Bool, true, false, not, List, [], ◌∷◌, eqb, ltb, length, Result, Ok, Err, ⊤}
 use Rattle.lists.specs.Logic.{on, first_held}
-use Rattle.syntax.specs.declared.Verdict.{Verdict}
-use Rattle.syntax.specs.declared.Verdict.TheVariants as Verdicts
 use Rattle.syntax.specs.Machine.{fault}
 use Rattle.turbo.specs.Split.{fields}
 use Rattle.turbo_lines.specs.Lines.{lines, first_long}
@@ -65,13 +63,13 @@ abbrev pub items_of : Table → List ℕ → List Item
 items_of t d = items t outside 1 (lines d)
 
 -- whether the bytes fault, and where
-abbrev pub faults : Verdict → Bool
-faults Verdicts.Fine = false
-faults (Verdicts.FaultAt i) = true
+abbrev pub faults : Result ⊤ ℕ → Bool
+faults (Ok u) = false
+faults (Err i) = true
 
-abbrev pub fault_place : Verdict → ℕ
-fault_place Verdicts.Fine = 0
-fault_place (Verdicts.FaultAt i) = i
+abbrev pub fault_place : Result ⊤ ℕ → ℕ
+fault_place (Ok u) = 0
+fault_place (Err i) = i
 
 -- there is such a line
 abbrev pub is_line : ℕ → Bool

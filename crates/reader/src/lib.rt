@@ -11,7 +11,6 @@ ghost use Rattle.reader.specs.inner.Settled.{answered_by, unless_long, lines_ans
 
 use columns::Table;
 use reader_step::State;
-use syntax::Verdict;
 
 // What a reader answers: refusals 2 to 6 and 15 with their places, or how many rows the dossier has.
 #[derive(Clone, Copy)]
@@ -89,8 +88,8 @@ fn read(table: Table, dossier: &[u8], register: &[u8], sender: u8, staging: &mut
         return Reading::TooLong;
     }
     match syntax::check_syntax(dossier) {
-        Verdict::FaultAt(i) => Reading::Syntax(i),
-        Verdict::Fine => read_lines(table, dossier, register, sender, staging),
+        Err(i) => Reading::Syntax(i),
+        Ok(()) => read_lines(table, dossier, register, sender, staging),
     }
 }
 

@@ -4,13 +4,11 @@ use mathlib.Core.Path.{◌≡◌, refl, sym, ap, ◌∙◌}
 use mathlib.Core.Bool.{Bool, true, false}
 use mathlib.Core.List.{List, [], ◌∷◌, ◌++◌}
 use lib.ListN.{length, take}
+use Rattle.std.specs.Prelude.{Option, Some, None, Result, Ok, Err, ⊤}
 use Rattle.syntax.specs.declared.Kind.{Kind}
 use Rattle.syntax.specs.declared.Kind.TheVariants.{Nothing, Group, Table, Rows}
 use Rattle.syntax.specs.declared.State.{State}
 use Rattle.syntax.specs.declared.State.TheVariants.{Open, Mark, First, Inside, FirstEsc, InsideEsc, Null, Ret}
-use Rattle.syntax.specs.declared.Next.{Next}
-use Rattle.syntax.specs.declared.Next.TheVariants.{To, Bad}
-use Rattle.syntax.specs.declared.Verdict.TheVariants.{Fine, FaultAt}
 use Rattle.lists.specs.Each.{Bytes}
 use Rattle.lists.specs.Logic.{on}
 use Rattle.syntax.specs.Machine.{follow, field_step, escape_step, first_escape_step, null_step, return_step, start_step, mark_step, step, accepting, run, fault}
@@ -41,14 +39,14 @@ finish (InsideEsc k) = 110 ∷ 13 ∷ 10 ∷ close k
 finish (Null k) = 13 ∷ 10 ∷ close k
 finish (Ret k) = 10 ∷ close k
 
-close-fine : (k : Kind) (i : ℕ) → run (Open k) (close k) i ≡ Fine
+close-fine : (k : Kind) (i : ℕ) → run (Open k) (close k) i ≡ Ok tt
 unfolding close run step field_step return_step start_step mark_step accepting
 close-fine Nothing i = refl
 close-fine Group i = refl
 close-fine Table i = refl
 close-fine Rows i = refl
 
-finish-fine : (s : State) (i : ℕ) → run s (finish s) i ≡ Fine
+finish-fine : (s : State) (i : ℕ) → run s (finish s) i ≡ Ok tt
 unfolding close finish run step field_step escape_step first_escape_step null_step return_step start_step mark_step accepting
 finish-fine (Open k) i = close-fine k i
 finish-fine (Mark Nothing) i = refl
@@ -90,50 +88,50 @@ record Came (s : State) (d : List ℕ) (i j : ℕ) : Type 0 where
   inside : m ≤ length d
   t : State
   reached : (e : List ℕ) → run s (take m d ++ e) i ≡ run t e j
-  stuck : (e : List ℕ) → m < length d → run s (take (suc m) d ++ e) i ≡ FaultAt j
+  stuck : (e : List ℕ) → m < length d → run s (take (suc m) d ++ e) i ≡ Err j
 
-came : (d : List ℕ) (s : State) (i j : ℕ) → run s d i ≡ FaultAt j → Came s d i j
+came : (d : List ℕ) (s : State) (i j : ℕ) → run s d i ≡ Err j → Came s d i j
 unfolding run
 came [] s i j h = go (accepting s) h
   where
-    go : (a : Bool) → on a Fine (FaultAt i) ≡ FaultAt j → Came s [] i j
+    go : (a : Bool) → on {A = Result ⊤ ℕ} a (Ok tt) (Err i) ≡ Err j → Came s [] i j
     go true e = let z : ◌≡◌ {A = ℕ} 0 1 = cc in absurd (omega arith)
     go false e =
         let q : i ≡ j = cc in
         record { m = 0; place = omega arith; inside = omega arith; t = s; reached = λ x. ap (λ (n : ℕ). run s x n) q; stuck = λ x w. absurd (omega arith) }
 came (b ∷ d) s i j h = go (step s b) refl h (λ t. came d t (i + 1) j)
   where
-    go : (n : Next) → step s b ≡ n → follow n (λ t. run t d (i + 1)) (FaultAt i) ≡ FaultAt j → ((t : State) → run t d (i + 1) ≡ FaultAt j → Came t d (i + 1) j) → Came s (b ∷ d) i j
-    go Bad e g ih =
+    go : (n : Option State) → step s b ≡ n → follow n (λ t. run t d (i + 1)) (Err i) ≡ Err j → ((t : State) → run t d (i + 1) ≡ Err j → Came t d (i + 1) j) → Came s (b ∷ d) i j
+    go None e g ih =
         let q : i ≡ j = cc in
         record { m = 0; place = omega arith; inside = omega arith; t = s; reached = λ x. ap (λ (n : ℕ). run s x n) q; stuck = λ x w. rw e g }
-    go (To u) e g ih =
+    go (Some u) e g ih =
         let c : Came u d (i + 1) j = ih u g in
         let p = c.place in
         let w = c.inside in
         record { m = suc c.m; place = omega arith; inside = omega arith; t = c.t; reached = λ x. rw e (c.reached x); stuck = λ x y. rw e (c.stuck x (omega arith)) }
 
-at-start : (d : List ℕ) (j : ℕ) → fault d ≡ FaultAt j → (c : Came (Open Nothing) d 0 j) × (c.m ≡ j)
+at-start : (d : List ℕ) (j : ℕ) → fault d ≡ Err j → (c : Came (Open Nothing) d 0 j) × (c.m ≡ j)
 unfolding fault
 at-start d j h = let c : Came (Open Nothing) d 0 j = came d (Open Nothing) 0 j h in let p = c.place in (c, omega arith)
 
-pub within : (d : List ℕ) (j : ℕ) → fault d ≡ FaultAt j → j ≤ length d
+pub within : (d : List ℕ) (j : ℕ) → fault d ≡ Err j → j ≤ length d
 within d j h = let (c, q) = at-start d j h in let w = c.inside in omega arith
 
-pub viable : (d : List ℕ) (j : ℕ) → fault d ≡ FaultAt j → (e : List ℕ) × Bytes e × WellFormed (take j d ++ e)
+pub viable : (d : List ℕ) (j : ℕ) → fault d ≡ Err j → (e : List ℕ) × Bytes e × WellFormed (take j d ++ e)
 unfolding fault
 viable d j h =
     let (c, q) = at-start d j h in
     (finish c.t, finish-bytes c.t, formed _ (ap (λ (n : ℕ). run (Open Nothing) (take n d ++ finish c.t) 0) (sym q) ∙ c.reached (finish c.t) ∙ finish-fine c.t j))
 
-pub dead : (d : List ℕ) (j : ℕ) → fault d ≡ FaultAt j → j < length d → (e : List ℕ) → WellFormed (take (suc j) d ++ e) → ⊥
+pub dead : (d : List ℕ) (j : ℕ) → fault d ≡ Err j → j < length d → (e : List ℕ) → WellFormed (take (suc j) d ++ e) → ⊥
 unfolding fault
 dead d j h w e f =
     let (c, q) = at-start d j h in
-    let s : run (Open Nothing) (take (suc c.m) d ++ e) 0 ≡ FaultAt j = c.stuck e (omega arith) in
-    let g : run (Open Nothing) (take (suc j) d ++ e) 0 ≡ FaultAt j = rw q at s in
-    let o : run (Open Nothing) (take (suc j) d ++ e) 0 ≡ Fine = fine f in
+    let s : run (Open Nothing) (take (suc c.m) d ++ e) 0 ≡ Err j = c.stuck e (omega arith) in
+    let g : run (Open Nothing) (take (suc j) d ++ e) 0 ≡ Err j = rw q at s in
+    let o : run (Open Nothing) (take (suc j) d ++ e) 0 ≡ Ok tt = fine f in
     let z : ◌≡◌ {A = ℕ} 0 1 = cc in omega arith
 
-pub early : (d : List ℕ) (j : ℕ) → fault d ≡ FaultAt j → WellFormed d → ⊥
+pub early : (d : List ℕ) (j : ℕ) → fault d ≡ Err j → WellFormed d → ⊥
 early d j h f = let o = fine f in let z : ◌≡◌ {A = ℕ} 0 1 = cc in omega arith

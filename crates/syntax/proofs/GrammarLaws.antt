@@ -7,13 +7,11 @@ use mathlib.Core.List.{List, [], ◌∷◌, ◌++◌, append_assoc}
 use borrow.Author.Tests.{eqb-true, eqb-false, ltb-false, eq-eqb, ne_eqb, le-ltb}
 use Rattle.lists.specs.Logic.{on}
 use lib.Dec.{eqb, ltb}
+use Rattle.std.specs.Prelude.{Option, Some, None, Result, Ok, Err, ⊤}
 use Rattle.syntax.specs.declared.Kind.{Kind}
 use Rattle.syntax.specs.declared.Kind.TheVariants.{Nothing, Group, Table, Rows}
 use Rattle.syntax.specs.declared.State.{State}
 use Rattle.syntax.specs.declared.State.TheVariants.{Open, Mark, First, Inside, FirstEsc, InsideEsc, Null, Ret}
-use Rattle.syntax.specs.declared.Next.{Next}
-use Rattle.syntax.specs.declared.Next.TheVariants.{To, Bad}
-use Rattle.syntax.specs.declared.Verdict.TheVariants.{Fine, FaultAt}
 use Rattle.syntax.specs.Machine.{follow, field_step, escape_step, first_escape_step, null_step, return_step, start_step, mark_step, step, accepting, may_end, run, fault}
 use Rattle.grammar.specs.Grammar.{ended, headed, Plain, Esc, Text, Field, Fields, Tables, Lines, WellFormed}
 
@@ -22,31 +20,31 @@ use Rattle.grammar.specs.Grammar.{ended, headed, Plain, Esc, Text, Field, Fields
 
 -- the bytes l are read to a good end from s, at whatever offset
 abbrev Acc : State → List ℕ → Type 0
-Acc s l = (i : ℕ) → run s l i ≡ Fine
+Acc s l = (i : ℕ) → run s l i ≡ Ok tt
 
-acc-cons : (s t : State) (b : ℕ) (l : List ℕ) → step s b ≡ To t → Acc t l → Acc s (b ∷ l)
+acc-cons : (s t : State) (b : ℕ) (l : List ℕ) → step s b ≡ Some t → Acc t l → Acc s (b ∷ l)
 unfolding run
 acc-cons s t b l e h i = rw e (h (i + 1))
 
-plain_step : (e : State) (k : Kind) (b : ℕ) → Plain b → field_step e k b ≡ To (Inside k)
+plain_step : (e : State) (k : Kind) (b : ℕ) → Plain b → field_step e k b ≡ Some (Inside k)
 unfolding field_step
 plain_step e k b p = simp (ne_eqb _ _ p.no_slash, ne_eqb _ _ p.no-bar, ne_eqb b 13 (λ q. let h = p.above in omega arith), le-ltb b 32 p.above)
 
-esc-step : (k : Kind) (b : ℕ) → Esc b → escape_step k b ≡ To (Inside k)
+esc-step : (k : Kind) (b : ℕ) → Esc b → escape_step k b ≡ Some (Inside k)
 unfolding escape_step
 esc-step k b Esc.slash = refl
 esc-step k b Esc.lf = refl
 esc-step k b Esc.bar = refl
 esc-step k b Esc.cr = refl
 
-first-esc-step : (k : Kind) (b : ℕ) → Esc b → first_escape_step k b ≡ To (Inside k)
+first-esc-step : (k : Kind) (b : ℕ) → Esc b → first_escape_step k b ≡ Some (Inside k)
 unfolding escape_step first_escape_step
 first-esc-step k b Esc.slash = refl
 first-esc-step k b Esc.lf = refl
 first-esc-step k b Esc.bar = refl
 first-esc-step k b Esc.cr = refl
 
-mark-esc-step : (b : ℕ) → Esc b → mark_step Rows b ≡ To (Inside Rows)
+mark-esc-step : (b : ℕ) → Esc b → mark_step Rows b ≡ Some (Inside Rows)
 unfolding escape_step first_escape_step mark_step
 mark-esc-step b Esc.slash = refl
 mark-esc-step b Esc.lf = refl
@@ -105,7 +103,7 @@ data-acc (Fields.more {f = a} {l = m} f g) l h =
     (open-acc f (124 ∷ m ++ 13 ∷ 10 ∷ l) (bar-stop Rows (m ++ 13 ∷ 10 ∷ l) (line-acc g Rows l h)) (acc-cons _ _ 124 (m ++ 13 ∷ 10 ∷ l) refl (line-acc g Rows l h)))
 
 -- the `\T` and `\L` lines and what follows, from the kind of line before
-table-acc : (k : Kind) {t l : List ℕ} → step (Open k) 92 ≡ To (Mark k) → step (Mark k) 84 ≡ To (First Table) → Fields t → Fields l → (r : List ℕ) → Acc (Open Rows) r → Acc (Open k) (headed t l r)
+table-acc : (k : Kind) {t l : List ℕ} → step (Open k) 92 ≡ Some (Mark k) → step (Mark k) 84 ≡ Some (First Table) → Fields t → Fields l → (r : List ℕ) → Acc (Open Rows) r → Acc (Open k) (headed t l r)
 unfolding step start_step mark_step
 table-acc k p q t l r h =
     acc-cons _ _ 92 _ p
@@ -124,7 +122,7 @@ tables-acc Tables.none = λ i. refl
 tables-acc (Tables.table {r} t l d) = table-acc Group refl refl t l r (lines-acc d)
 
 -- what the grammar has, the machine takes
-pub fine : {d : List ℕ} → WellFormed d → fault d ≡ Fine
+pub fine : {d : List ℕ} → WellFormed d → fault d ≡ Ok tt
 unfolding fault step start_step mark_step
 fine (WellFormed.dossier {t} g ts) = acc-cons _ _ 92 _ refl (acc-cons _ _ 71 _ refl (line-acc g Group t (tables-acc ts))) 0
 
@@ -171,7 +169,7 @@ test b n = go (eqb b n) refl
     go true e = inl (eqb-true b n e)
     go false e = inr e
 
-no-fault : {A : Type 0} (i : ℕ) → FaultAt i ≡ Fine → A
+no-fault : {A : Type 0} (i : ℕ) → ◌≡◌ {A = Result ⊤ ℕ} (Err i) (Ok tt) → A
 no-fault i e = let z : ◌≡◌ {A = ℕ} 0 1 = cc in absurd (omega arith)
 
 -- what a byte of a field's text leads to
@@ -203,10 +201,10 @@ from-open l b (r-ret h) = lines_of _ (line-ret Rows l (Field.text Text.empty) h)
 from-open l b (r-plain p h) = lines_of _ (h (b ∷ []) (Text.plain p Text.empty))
 
 -- the bytes l after b, read from where a step leads
-abbrev Goes : List ℕ → ℕ → Next → Type 0
-Goes l i n = follow n (λ t. run t l (i + 1)) (FaultAt i) ≡ Fine
+abbrev Goes : List ℕ → ℕ → Option State → Type 0
+Goes l i n = follow n (λ t. run t l (i + 1)) (Err i) ≡ Ok tt
 
-module _ (l : List ℕ) (ih : (s : State) (i : ℕ) → run s l i ≡ Fine → Lang s l) where
+module _ (l : List ℕ) (ih : (s : State) (i : ℕ) → run s l i ≡ Ok tt → Lang s l) where
   read : (e : State) (k : Kind) (b i : ℕ) → Goes l i (field_step e k b) → Read l e k b
   unfolding field_step
   read e k b i h = slash (test b 92)
@@ -256,7 +254,7 @@ module _ (l : List ℕ) (ih : (s : State) (i : ℕ) → run s l i ≡ Fine → L
       go (inr x) = let r : Esc b × Lang (Inside k) l = read-esc k b i (simp x at h) in r.1 (92 ∷ b ∷ []) (Text.esc r.0 Text.empty)
 
   -- one byte n is wanted
-  only : (t : State) (b n i : ℕ) → Goes l i (on (eqb b n) (To t) Bad) → (b ≡ n) × Lang t l
+  only : (t : State) (b n i : ℕ) → Goes l i (on (eqb b n) (Some t) None) → (b ≡ n) × Lang t l
   only t b n i h = go (test b n)
     where
       go : (b ≡ n) ⊎ (eqb b n ≡ false) → (b ≡ n) × Lang t l
@@ -309,13 +307,13 @@ module _ (l : List ℕ) (ih : (s : State) (i : ℕ) → run s l i ≡ Fine → L
   step-lang (Null k) b i h = read-null k b i h
   step-lang (Ret k) b i h = let r = only (Open k) b 10 i h in (l, r.1, rw r.0 refl)
 
-open-end : (k : Kind) (i : ℕ) → on (may_end k) Fine (FaultAt i) ≡ Fine → After k []
+open-end : (k : Kind) (i : ℕ) → on {A = Result ⊤ ℕ} (may_end k) (Ok tt) (Err i) ≡ Ok tt → After k []
 open-end Nothing i h = no-fault i h
 open-end Group i h = Tables.none
 open-end Table i h = no-fault i h
 open-end Rows i h = Lines.end
 
-lang-end : (s : State) (i : ℕ) → on (accepting s) Fine (FaultAt i) ≡ Fine → Lang s []
+lang-end : (s : State) (i : ℕ) → on {A = Result ⊤ ℕ} (accepting s) (Ok tt) (Err i) ≡ Ok tt → Lang s []
 unfolding accepting
 lang-end (Open k) i h = open-end k i h
 lang-end (Mark k) i h = no-fault i h
@@ -326,12 +324,12 @@ lang-end (InsideEsc k) i h = no-fault i h
 lang-end (Null k) i h = no-fault i h
 lang-end (Ret k) i h = no-fault i h
 
-lang : (l : List ℕ) (s : State) (i : ℕ) → run s l i ≡ Fine → Lang s l
+lang : (l : List ℕ) (s : State) (i : ℕ) → run s l i ≡ Ok tt → Lang s l
 unfolding run
 lang [] s i h = lang-end s i h
 lang (b ∷ l) s i h = step-lang l (lang l) s b i h
 
 -- what the machine takes, the grammar has
-pub formed : (d : List ℕ) → fault d ≡ Fine → WellFormed d
+pub formed : (d : List ℕ) → fault d ≡ Ok tt → WellFormed d
 unfolding fault
 formed d h = lang d (Open Nothing) 0 h

@@ -7,13 +7,13 @@ use mathlib.Core.List.{List}
 use borrow.Author.Tests.{ne_eqb, lt-ltb, le-ltb}
 use lib.ListN.{length, get_or, drop}
 use lib.Dec.{eqb}
+use Rattle.std.specs.Prelude.{Some}
 use Rattle.lists.specs.Logic.{on}
 use Rattle.syntax.specs.inner.Quiet.{loud, quiet_for, fresh_at}
 use Rattle.syntax.proofs.QuietLaws.{not-loud, loud-here, quiet-skip}
 use Rattle.syntax.specs.declared.Kind.{Kind}
 use Rattle.syntax.specs.declared.State.{State}
 use Rattle.syntax.specs.declared.State.TheVariants.{First, Inside, FirstEsc, InsideEsc}
-use Rattle.syntax.specs.declared.Next.TheVariants.{To}
 use Rattle.syntax.specs.Machine.{field_step, step, run}
 use Rattle.syntax.specs.inner.Scan.{in_text}
 use Rattle.syntax.proofs.RunLaws.{run-to}
@@ -21,18 +21,18 @@ use Rattle.syntax.proofs.RunLaws.{run-to}
 -- The machine over runs of quiet bytes. Assumes nothing.
 
 -- the machine over a quiet byte of a field's text
-quiet-field : (e : State) (k : Kind) (b : ℕ) → loud b ≡ false → field_step e k b ≡ To (in_text (eqb b 124) k)
+quiet-field : (e : State) (k : Kind) (b : ℕ) → loud b ≡ false → field_step e k b ≡ Some (in_text (eqb b 124) k)
 unfolding field_step
 quiet-field e k b q =
     let p = not-loud b q in
     let h = p.0 in
     rw (ne_eqb b 92 p.1, ne_eqb b 13 (λ z. omega arith), le-ltb b 32 h) (go (eqb b 124))
   where
-    go : (t : Bool) → on t (To (First k)) (To (Inside k)) ≡ To (in_text t k)
+    go : (t : Bool) → on t (Some (First k)) (Some (Inside k)) ≡ Some (in_text t k)
     go true = refl
     go false = refl
 
-pub quiet_step : (f : Bool) (k : Kind) (b : ℕ) → loud b ≡ false → step (in_text f k) b ≡ To (in_text (eqb b 124) k)
+pub quiet_step : (f : Bool) (k : Kind) (b : ℕ) → loud b ≡ false → step (in_text f k) b ≡ Some (in_text (eqb b 124) k)
 unfolding step
 quiet_step true k b q = quiet-field (FirstEsc k) k b q
 quiet_step false k b q = quiet-field (InsideEsc k) k b q

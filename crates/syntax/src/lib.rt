@@ -32,28 +32,11 @@ pub enum State {
     Ret(Kind),
 }
 
-#[derive(Clone, Copy)]
-pub enum Next {
-    To(State),
-    Bad,
-}
-
-#[derive(Clone, Copy)]
-pub enum Verdict {
-    Fine,
-    FaultAt(usize),
-}
-
 // Whether the bytes may end after a line of this kind.
 pub fn ends_after(kind: Kind) -> bool
     ensures { result ≡ may_end kind }
 {
-    match kind {
-        Kind::Nothing => false,
-        Kind::Group => true,
-        Kind::Table => false,
-        Kind::Rows => true,
-    }
+    matches!(kind, Kind::Group | Kind::Rows)
 }
 
 // ---- runs of quiet bytes, skipped sixteen at a time
@@ -120,76 +103,67 @@ pub fn begins(dossier: &[u8], i: usize, j: usize, fresh: bool) -> bool
     fresh
 }
 
-// ---- the rest of a line
-
-// Where reading on leads: to a place, or no further than a byte.
-#[derive(Clone, Copy)]
-enum Reached {
-    On(usize),
-    Stuck(usize),
-}
+// ---- the rest of a line: where reading on leads, or the byte that it stops at
 
 // From `\0` at j, which begins a field: nothing else may stand in the field.
-fn null_end(dossier: &[u8], j: usize) -> Reached
+fn null_end(dossier: &[u8], j: usize) -> Result<usize, usize>
     requires { (j + 1 < length dossier.now) × (get_or dossier.now j 0 ≡ 92) × (get_or dossier.now (j + 1) 0 ≡ 48) }
     ensures ahead { Ahead j (length dossier.now) result }
     ensures leads { (k : Kind) → run (First k) (drop j dossier.now) j ≡ from_escape k dossier.now result }
 {
     let e = j + 2;
     if dossier.len() <= e {
-        return Reached::Stuck(e);
+        return Err(e);
     }
-    let b = dossier[e];
-    match b {
-        b'|' | b'\r' => Reached::On(e),
-        _ => Reached::Stuck(e),
+    match dossier[e] {
+        b'|' | b'\r' => Ok(e),
+        _ => Err(e),
     }
 }
 
 // From the backslash at j in a field's text; `fresh`: it begins the field.
-fn escape_end(dossier: &[u8], j: usize, fresh: bool) -> Reached
+fn escape_end(dossier: &[u8], j: usize, fresh: bool) -> Result<usize, usize>
     requires { (j < length dossier.now) × (get_or dossier.now j 0 ≡ 92) }
     ensures ahead { Ahead j (length dossier.now) result }
     ensures leads { (k : Kind) → run (in_text fresh k) (drop j dossier.now) j ≡ from_escape k dossier.now result }
 {
     let a = j + 1;
     if dossier.len() <= a {
-        return Reached::Stuck(a);
+        return Err(a);
     }
-    let b = dossier[a];
-    match b {
-        b'i' | b'n' | b'p' | b'r' => Reached::On(a + 1),
+    match dossier[a] {
+        b'i' | b'n' | b'p' | b'r' => Ok(a + 1),
         b'0' => {
             if fresh {
                 return null_end(dossier, j);
             }
-            Reached::Stuck(a)
+            Err(a)
         }
-        _ => Reached::Stuck(a),
+        _ => Err(a),
     }
 }
 
 // From a loud byte at j that is no backslash: CR LF, or a fault.
-fn ret_end(dossier: &[u8], j: usize) -> Reached
+fn ret_end(dossier: &[u8], j: usize) -> Result<usize, usize>
     requires { (j < length dossier.now) × (loud (get_or dossier.now j 0) ≡ true) × (get_or dossier.now j 0 ≡ 92 → ⊥) }
     ensures ahead { Ahead j (length dossier.now) result }
     ensures leads { (f : Bool) (k : Kind) → run (in_text f k) (drop j dossier.now) j ≡ from_line k dossier.now result }
 {
     if dossier[j] != b'\r' {
-        return Reached::Stuck(j);
+        return Err(j);
     }
     let a = j + 1;
     if dossier.len() <= a {
-        return Reached::Stuck(a);
+        return Err(a);
     }
     if dossier[a] != b'\n' {
-        return Reached::Stuck(a);
+        return Err(a);
     }
-    Reached::On(a + 1)
+    Ok(a + 1)
 }
 
 // From the first field of a line at i, past its CR LF.
-fn line_end(dossier: &[u8], i: usize) -> Reached
+fn line_end(dossier: &[u8], i: usize) -> Result<usize, usize>
     requires { i ≤ length dossier.now }
     ensures ahead { Ahead i (length dossier.now) result }
     ensures leads { (k : Kind) → run (First k) (drop i dossier.now) i ≡ from_line k dossier.now result }
@@ -200,79 +174,46 @@ fn line_end(dossier: &[u8], i: usize) -> Reached
         let j = quiet_end(dossier, p);
         fresh = begins(dossier, p, j, fresh);
         if dossier.len() <= j {
-            return Reached::Stuck(j);
+            return Err(j);
         }
         if dossier[j] != b'\\' {
             return ret_end(dossier, j);
         }
-        match escape_end(dossier, j, fresh) {
-            Reached::On(n) => {
-                p = n;
-                fresh = false;
-            }
-            Reached::Stuck(x) => {
-                return Reached::Stuck(x);
-            }
-        }
+        p = escape_end(dossier, j, fresh)?;
+        fresh = false;
     }
 }
 
-// ---- lines
-
-// A line's kind and the place of its first field, or of the line after it; or the byte that begins no line.
-#[derive(Clone, Copy)]
-enum Started {
-    In(Kind, usize),
-    Never(usize),
-}
+// ---- lines: a line's kind and the place of its first field, or of the line after it; or the byte that begins no line
 
 // The kind of a line that begins with a backslash and b at i, behind a line of kind k.
-fn marked_start(k: Kind, b: u8, i: usize) -> Started
+#[tactic(auto, unfolding(crate::specs::inner::Scan::marked_start))]
+fn marked_start(k: Kind, b: u8, i: usize) -> Result<(Kind, usize), usize>
     requires { i + 2 < 18446744073709551616 }
     ensures { result ≡ marked_start k b i }
 {
-    match k {
-        Kind::Nothing => {
-            if b == b'G' {
-                return Started::In(Kind::Group, i + 2);
-            }
-            Started::Never(i + 1)
-        }
-        Kind::Group => {
-            if b == b'T' {
-                return Started::In(Kind::Table, i + 2);
-            }
-            Started::Never(i + 1)
-        }
-        Kind::Table => {
-            if b == b'L' {
-                return Started::In(Kind::Rows, i + 2);
-            }
-            Started::Never(i + 1)
-        }
-        Kind::Rows => {
-            if b == b'T' {
-                return Started::In(Kind::Table, i + 2);
-            }
-            Started::In(Kind::Rows, i)
-        }
+    match (k, b) {
+        (Kind::Nothing, b'G') => Ok((Kind::Group, i + 2)),
+        (Kind::Group | Kind::Rows, b'T') => Ok((Kind::Table, i + 2)),
+        (Kind::Table, b'L') => Ok((Kind::Rows, i + 2)),
+        (Kind::Rows, _) => Ok((Kind::Rows, i)),
+        _ => Err(i + 1),
     }
 }
 
 // The kind of a line that begins with no backslash.
-fn plain_start(k: Kind, i: usize) -> Started
+#[tactic(auto, unfolding(crate::specs::inner::Scan::plain_start))]
+fn plain_start(k: Kind, i: usize) -> Result<(Kind, usize), usize>
     ensures { result ≡ plain_start k i }
 {
     match k {
-        Kind::Nothing => Started::Never(i),
-        Kind::Group => Started::Never(i),
-        Kind::Table => Started::Never(i),
-        Kind::Rows => Started::In(Kind::Rows, i),
+        Kind::Rows => Ok((Kind::Rows, i)),
+        Kind::Nothing | Kind::Group | Kind::Table => Err(i),
     }
 }
 
 // From the start of a line at i, behind a line of kind k, to the line's first field.
-fn line_start(k: Kind, dossier: &[u8], i: usize) -> Started
+fn line_start(k: Kind, dossier: &[u8], i: usize) -> Result<(Kind, usize), usize>
     requires { i < length dossier.now }
     ensures ahead { Begun i (length dossier.now) result }
     ensures leads { run (Open k) (drop i dossier.now) i ≡ from_start dossier.now result }
@@ -282,45 +223,35 @@ fn line_start(k: Kind, dossier: &[u8], i: usize) -> Started
     }
     let a = i + 1;
     if dossier.len() <= a {
-        return Started::Never(a);
+        return Err(a);
     }
     marked_start(k, dossier[a], i)
 }
 
 // From the start of a line at i to the start of the next.
-fn whole_line(k: Kind, dossier: &[u8], i: usize) -> Started
+fn whole_line(k: Kind, dossier: &[u8], i: usize) -> Result<(Kind, usize), usize>
     requires { i < length dossier.now }
     ensures ahead { Passed i (length dossier.now) result }
     ensures leads { run (Open k) (drop i dossier.now) i ≡ from_next dossier.now result }
 {
-    match line_start(k, dossier, i) {
-        Started::Never(x) => Started::Never(x),
-        Started::In(m, n) => match line_end(dossier, n) {
-            Reached::Stuck(x) => Started::Never(x),
-            Reached::On(e) => Started::In(m, e),
-        },
-    }
+    let (kind, first) = line_start(k, dossier, i)?;
+    let next = line_end(dossier, first)?;
+    Ok((kind, next))
 }
 
 // Whether the bytes are a well-formed dossier, or where they fault.
-pub fn check_syntax(dossier: &[u8]) -> Verdict
+pub fn check_syntax(dossier: &[u8]) -> Result<(), usize>
     ensures { result ≡ fault dossier.now }
 {
     let mut k = Kind::Nothing;
     let mut i = 0;
     while i < dossier.len() {
-        match whole_line(k, dossier, i) {
-            Started::In(m, n) => {
-                k = m;
-                i = n;
-            }
-            Started::Never(x) => {
-                return Verdict::FaultAt(x);
-            }
-        }
+        let (kind, next) = whole_line(k, dossier, i)?;
+        k = kind;
+        i = next;
     }
     if ends_after(k) {
-        return Verdict::Fine;
+        return Ok(());
     }
-    Verdict::FaultAt(i)
+    Err(i)
 }

@@ -4,124 +4,105 @@
 ghost use Rattle.std.specs.Prelude.{◌≡◌};
 ghost use Rattle.syntax.specs.Machine.{field_step, escape_step, first_escape_step, null_step, return_step, slash_step, start_step, mark_step, step, accepting};
 
-use syntax::{Kind, Next, State};
+use syntax::{Kind, State};
 
 // A byte of a field's text; `e` is where a backslash leads.
-fn read_field(e: State, k: Kind, b: u8) -> Next
+#[tactic(auto, unfolding(syntax::specs::Machine::field_step))]
+fn read_field(e: State, k: Kind, b: u8) -> Option<State>
     ensures { result ≡ field_step e k b }
 {
-    if b == b'\\' {
-        return Next::To(e);
+    match b {
+        b'\\' => Some(e),
+        b'|' => Some(State::First(k)),
+        b'\r' => Some(State::Ret(k)),
+        0..=31 => None,
+        _ => Some(State::Inside(k)),
     }
-    if b == b'|' {
-        return Next::To(State::First(k));
-    }
-    if b == b'\r' {
-        return Next::To(State::Ret(k));
-    }
-    if b < 32 {
-        return Next::Bad;
-    }
-    Next::To(State::Inside(k))
 }
 
 // The byte after a backslash in a field.
-fn read_escape(k: Kind, b: u8) -> Next
+#[tactic(auto, unfolding(syntax::specs::Machine::escape_step))]
+fn read_escape(k: Kind, b: u8) -> Option<State>
     ensures { result ≡ escape_step k b }
 {
     match b {
-        b'i' | b'n' | b'p' | b'r' => Next::To(State::Inside(k)),
-        _ => Next::Bad,
+        b'i' | b'n' | b'p' | b'r' => Some(State::Inside(k)),
+        _ => None,
     }
 }
 
 // The byte after a backslash that begins a field.
-fn read_first_escape(k: Kind, b: u8) -> Next
+#[tactic(auto, unfolding(syntax::specs::Machine::first_escape_step))]
+fn read_first_escape(k: Kind, b: u8) -> Option<State>
     ensures { result ≡ first_escape_step k b }
 {
-    if b == b'0' {
-        return Next::To(State::Null(k));
+    match b {
+        b'0' => Some(State::Null(k)),
+        _ => read_escape(k, b),
     }
-    read_escape(k, b)
 }
 
 // The byte after `\0`.
-fn read_nul(k: Kind, b: u8) -> Next
+#[tactic(auto, unfolding(syntax::specs::Machine::null_step))]
+fn read_nul(k: Kind, b: u8) -> Option<State>
     ensures { result ≡ null_step k b }
 {
     match b {
-        b'|' => Next::To(State::First(k)),
-        b'\r' => Next::To(State::Ret(k)),
-        _ => Next::Bad,
+        b'|' => Some(State::First(k)),
+        b'\r' => Some(State::Ret(k)),
+        _ => None,
     }
 }
 
 // The byte after CR.
-fn read_ret(k: Kind, b: u8) -> Next
+#[tactic(auto, unfolding(syntax::specs::Machine::return_step))]
+fn read_ret(k: Kind, b: u8) -> Option<State>
     ensures { result ≡ return_step k b }
 {
-    if b == b'\n' {
-        return Next::To(State::Open(k));
+    match b {
+        b'\n' => Some(State::Open(k)),
+        _ => None,
     }
-    Next::Bad
 }
 
 // The backslash of a mark.
-fn read_slash(k: Kind, b: u8) -> Next
+fn read_slash(k: Kind, b: u8) -> Option<State>
     ensures { result ≡ slash_step k b }
 {
-    if b == b'\\' {
-        return Next::To(State::Mark(k));
+    match b {
+        b'\\' => Some(State::Mark(k)),
+        _ => None,
     }
-    Next::Bad
 }
 
 // At a line's start.
-fn read_open(k: Kind, b: u8) -> Next
+#[tactic(auto, unfolding(syntax::specs::Machine::start_step))]
+fn read_open(k: Kind, b: u8) -> Option<State>
     ensures { result ≡ start_step k b }
 {
     match k {
-        Kind::Nothing => read_slash(Kind::Nothing, b),
-        Kind::Group => read_slash(Kind::Group, b),
-        Kind::Table => read_slash(Kind::Table, b),
         Kind::Rows => read_field(State::Mark(Kind::Rows), Kind::Rows, b),
+        Kind::Nothing | Kind::Group | Kind::Table => read_slash(k, b),
     }
 }
 
 // The byte after a backslash at a line's start.
-fn read_mark(k: Kind, b: u8) -> Next
+#[tactic(auto, unfolding(syntax::specs::Machine::mark_step))]
+fn read_mark(k: Kind, b: u8) -> Option<State>
     ensures { result ≡ mark_step k b }
 {
-    match k {
-        Kind::Nothing => {
-            if b == b'G' {
-                return Next::To(State::First(Kind::Group));
-            }
-            Next::Bad
-        }
-        Kind::Group => {
-            if b == b'T' {
-                return Next::To(State::First(Kind::Table));
-            }
-            Next::Bad
-        }
-        Kind::Table => {
-            if b == b'L' {
-                return Next::To(State::First(Kind::Rows));
-            }
-            Next::Bad
-        }
-        Kind::Rows => {
-            if b == b'T' {
-                return Next::To(State::First(Kind::Table));
-            }
-            read_first_escape(Kind::Rows, b)
-        }
+    match (k, b) {
+        (Kind::Nothing, b'G') => Some(State::First(Kind::Group)),
+        (Kind::Group | Kind::Rows, b'T') => Some(State::First(Kind::Table)),
+        (Kind::Table, b'L') => Some(State::First(Kind::Rows)),
+        (Kind::Rows, _) => read_first_escape(Kind::Rows, b),
+        _ => None,
     }
 }
 
 // One byte more.
-pub fn next_state(state: State, byte: u8) -> Next
+#[tactic(auto, unfolding(syntax::specs::Machine::step))]
+pub fn next_state(state: State, byte: u8) -> Option<State>
     ensures { result ≡ step state byte }
 {
     match state {
@@ -137,17 +118,12 @@ pub fn next_state(state: State, byte: u8) -> Next
 }
 
 // Whether the bytes may end here.
+#[tactic(auto, unfolding(syntax::specs::Machine::accepting))]
 pub fn may_end(state: State) -> bool
     ensures { result ≡ accepting state }
 {
     match state {
         State::Open(k) => syntax::ends_after(k),
-        State::Mark(_) => false,
-        State::First(_) => false,
-        State::Inside(_) => false,
-        State::FirstEsc(_) => false,
-        State::InsideEsc(_) => false,
-        State::Null(_) => false,
-        State::Ret(_) => false,
+        _ => false,
     }
 }

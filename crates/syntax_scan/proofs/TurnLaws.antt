@@ -6,17 +6,15 @@ use native.Mathlib.Omega.{arith}
 use mathlib.Core.Path.{◌≡◌, refl, sym, ap, ◌∙◌}
 use mathlib.Core.Bool.{Bool, true, false, ◌&&◌}
 use mathlib.Core.List.{List}
-use borrow.Author.Tests.{eqb-true, lt-ltb, le-ltb}
-use lib.Dec.{eqb}
+use borrow.Author.Tests.{lt-ltb, le-ltb}
 use lib.ListN.{length, get_or, drop, drop_of_length-le}
 use lib.Seq.{drop-cons}
+use Rattle.std.specs.Prelude.{Option, Some, None, Result, Ok, Err}
 use Rattle.lists.proofs.LogicLaws.{and-pass}
 use Rattle.syntax.specs.declared.Kind.{Kind}
 use Rattle.syntax.specs.declared.Kind.TheVariants.{Rows}
 use Rattle.syntax.specs.declared.State.{State}
 use Rattle.syntax.specs.declared.State.TheVariants.{Open, First, FirstEsc, Null}
-use Rattle.syntax.specs.declared.Next.{Next}
-use Rattle.syntax.specs.declared.Next.TheVariants as Nexts
 use Rattle.syntax.specs.Machine.{field_step, first_escape_step, null_step, step}
 use Rattle.syntax.specs.inner.Quiet.{loud, quiet_for, fresh_at}
 use Rattle.syntax.specs.inner.Scan.{in_text}
@@ -24,24 +22,21 @@ use Rattle.syntax.proofs.EndLaws.{rows_alike}
 use Rattle.syntax.proofs.QuietLaws.{loud-here, quiet-skip, quiet-within}
 use Rattle.syntax.proofs.LineLaws.{quiet-place}
 use Rattle.syntax.proofs.ScanLaws.{quiet_step}
-use Rattle.syntax_scan.specs.declared.Scanned.TheVariants.{To, Stuck}
-use Rattle.syntax_scan.specs.declared.Turn.{Turn}
-use Rattle.syntax_scan.specs.declared.Turn.TheVariants.{On, At}
 use Rattle.syntax_scan.specs.Scanned.{scanned}
 use Rattle.syntax_scan.specs.inner.Turn.{NullField, Passed, from_turn}
 
 -- ---- a byte
 
-module _ (s : State) (d : List ℕ) (i : ℕ) (here : i < length d) {n : Next} (e : n ≡ step s (get_or d i 0)) where
-  pub byte-on : (t : State) → n ≡ Nexts.To t → scanned s (drop i d) i ≡ scanned t (drop (i + 1) d) (i + 1)
+module _ (s : State) (d : List ℕ) (i : ℕ) (here : i < length d) {n : Option State} (e : n ≡ step s (get_or d i 0)) where
+  pub byte-on : (t : State) → n ≡ Some t → scanned s (drop i d) i ≡ scanned t (drop (i + 1) d) (i + 1)
   unfolding scanned
   byte-on t q = rw (drop-cons d i 0 here) (rw (sym e ∙ q) (ap (λ (m : ℕ). scanned t (drop m d) (i + 1)) (sym (add-one i))))
 
-  pub byte-stuck : n ≡ Nexts.Bad → scanned s (drop i d) i ≡ Stuck i
+  pub byte-stuck : n ≡ None → scanned s (drop i d) i ≡ Err i
   unfolding scanned
   byte-stuck q = rw (drop-cons d i 0 here) (rw (sym e ∙ q))
 
-pub bytes-end : (s : State) (d : List ℕ) (i : ℕ) → length d ≤ i → scanned s (drop i d) i ≡ To s
+pub bytes-end : (s : State) (d : List ℕ) (i : ℕ) → length d ≤ i → scanned s (drop i d) i ≡ Ok s
 unfolding scanned
 bytes-end s d i h = rw (drop_of_length-le d h)
 
@@ -67,25 +62,15 @@ quiet-scan f k d i (suc n) h w =
 
 -- ---- `\0` as a whole field
 
--- as the code finds it
-pub null-told : (d : List ℕ) (i : ℕ) → 3 ≤ length d - i → (eqb (get_or d i 0) 92 && eqb (get_or d (i + 1) 0) 48) && eqb (get_or d (i + 2) 0) 124 ≡ true → NullField d i
-null-told d i h e =
-    let a = and-pass (eqb (get_or d i 0) 92 && eqb (get_or d (i + 1) 0) 48) (eqb (get_or d (i + 2) 0) 124) e in
-    let b = and-pass (eqb (get_or d i 0) 92) (eqb (get_or d (i + 1) 0) 48) a.0 in
-    (omega arith, eqb-true _ _ b.0, eqb-true _ _ b.1, eqb-true _ _ a.1)
-
-pub null-short : (d : List ℕ) (i : ℕ) → false ≡ true → NullField d i
-null-short d i e = absurd (let z : ◌≡◌ {A = ℕ} 0 1 = cc in omega arith)
-
-null-slash : (k : Kind) → step (First k) 92 ≡ Nexts.To (FirstEsc k)
+null-slash : (k : Kind) → step (First k) 92 ≡ Some (FirstEsc k)
 unfolding step field_step
 null-slash k = refl
 
-null-zero : (k : Kind) → step (FirstEsc k) 48 ≡ Nexts.To (Null k)
+null-zero : (k : Kind) → step (FirstEsc k) 48 ≡ Some (Null k)
 unfolding step first_escape_step
 null-zero k = refl
 
-null-bar : (k : Kind) → step (Null k) 124 ≡ Nexts.To (First k)
+null-bar : (k : Kind) → step (Null k) 124 ≡ Some (First k)
 unfolding step null_step
 null-bar k = refl
 
@@ -116,11 +101,11 @@ module _ (d : List ℕ) (i : ℕ) (here : i < length d) (f : Bool) (k : Kind) {j
       ∙ ap (λ (t : State). scanned t (drop j d) j) (sym (q ∙ ap (λ (x : Bool). in_text x k) b))
 
   -- the bytes end there
-  pub text-ends : length d ≤ j → Passed i (length d) (On s j) × (scanned (in_text f k) (drop i d) i ≡ from_turn d (On s j))
+  pub text-ends : length d ≤ j → Passed i (length d) (Ok (s, j)) × (scanned (in_text f k) (drop i d) i ≡ from_turn d (Ok (s, j)))
   text-ends h = ((omega arith, (quiet-place d i j (omega arith) m).1), at-end)
 
   -- a field `\0` stands there
-  pub text-null : {t : Bool} → (t ≡ true → NullField d j) → g && t ≡ true → Passed i (length d) (On (First k) (j + 3)) × (scanned (in_text f k) (drop i d) i ≡ from_turn d (On (First k) (j + 3)))
+  pub text-null : {t : Bool} → (t ≡ true → NullField d j) → g && t ≡ true → Passed i (length d) (Ok (First k, j + 3)) × (scanned (in_text f k) (drop i d) i ≡ from_turn d (Ok (First k, j + 3)))
   text-null {t} h e =
       let a = and-pass g t e in
       let n = h a.1 in
@@ -128,18 +113,9 @@ module _ (d : List ℕ) (i : ℕ) (here : i < length d) (f : Bool) (k : Kind) {j
       ((omega (arith, n.0), omega (arith, n.0)), at-end ∙ ap (λ (x : State). scanned x (drop j d) j) (q ∙ ap (λ (x : Bool). in_text x k) a.0) ∙ null-scan k d j n)
 
   -- or another byte
-  pub text-on : (r : Turn) → Passed j (length d) r → scanned s (drop j d) j ≡ from_turn d r → Passed i (length d) r × (scanned (in_text f k) (drop i d) i ≡ from_turn d r)
+  pub text-on : (r : Result (State × ℕ) ℕ) → Passed j (length d) r → scanned s (drop j d) j ≡ from_turn d r → Passed i (length d) r × (scanned (in_text f k) (drop i d) i ≡ from_turn d r)
   text-on r p h = (further r p, at-end ∙ h)
     where
-      further : (r : Turn) → Passed j (length d) r → Passed i (length d) r
-      further (On t n) (x, y) = let l = (quiet-place d i j (omega arith) m).0 in (omega arith, y)
-      further (At n) x = x
-
--- ---- the loop
-
-module _ (s : State) (d : List ℕ) (i : ℕ) (r : Turn) (p : Passed i (length d) r) (e : scanned s (drop i d) i ≡ from_turn d r) (s₀ : State) (so_far : scanned s (drop i d) i ≡ scanned s₀ d 0) where
-  pub turn_on : (t : State) (n : ℕ) → r ≡ On t n → (i < n) × (n ≤ length d) × (scanned t (drop n d) n ≡ scanned s₀ d 0)
-  turn_on t n q = let c : Passed i (length d) (On t n) = rw q at p in (c.0, c.1, sym (e ∙ ap (from_turn d) q) ∙ so_far)
-
-  pub turn-stuck : (j : ℕ) → r ≡ At j → Stuck j ≡ scanned s₀ d 0
-  turn-stuck j q = sym (e ∙ ap (from_turn d) q) ∙ so_far
+      further : (r : Result (State × ℕ) ℕ) → Passed j (length d) r → Passed i (length d) r
+      further (Ok (t, n)) (x, y) = let l = (quiet-place d i j (omega arith) m).0 in (omega arith, y)
+      further (Err n) x = x

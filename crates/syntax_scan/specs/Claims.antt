@@ -1,10 +1,9 @@
 -- What is certain of dossiers read in parts: the cutting is free, and the verdict is that of the whole. `proofs/Claims.antt` proves `All`. Assumes nothing.
-use Rattle.std.specs.Prelude.{ℕ, ◌+◌, ◌<◌, ◌≡◌, List, ◌++◌, length, take}
+use Rattle.std.specs.Prelude.{ℕ, ◌+◌, ◌<◌, ◌≡◌, List, ◌++◌, length, take, Ok, Err}
 use Rattle.syntax.specs.declared.Kind.TheVariants.{Nothing}
 use Rattle.syntax.specs.declared.State.{State}
 use Rattle.syntax.specs.declared.State.TheVariants.{Open}
 use Rattle.syntax.specs.Machine.{fault}
-use Rattle.syntax_scan.specs.declared.Scanned.TheVariants.{To, Stuck}
 use Rattle.syntax_scan.specs.Scanned.{scanned, and_then, later, verdict_at}
 
 -- a scan of two parts is a scan of the first, then of the second from where the first led
@@ -21,7 +20,7 @@ VerdictIsTheScans = (d : List ℕ) → fault d ≡ verdict_at (scanned (Open Not
 
 -- a scan is stuck at one of its bytes, and those before it lead somewhere
 abbrev pub StuckAtAByte : Type 0
-StuckAtAByte = (s : State) (d : List ℕ) (j : ℕ) → scanned s d 0 ≡ Stuck j → (j < length d) × ((t : State) × (scanned s (take j d) 0 ≡ To t))
+StuckAtAByte = (s : State) (d : List ℕ) (j : ℕ) → scanned s d 0 ≡ Err j → (j < length d) × ((t : State) × (scanned s (take j d) 0 ≡ Ok t))
 
 abbrev pub All : Type 0
 All = PartByPart × CountedFrom × VerdictIsTheScans × StuckAtAByte

@@ -7,21 +7,7 @@ ghost use Rattle.syntax.specs.inner.Scan.{in_text};
 ghost use Rattle.syntax_scan.specs.Scanned.{scanned};
 ghost use Rattle.syntax_scan.specs.inner.Turn.{NullField, Passed, from_turn};
 
-use syntax::{Kind, Next, State};
-
-// To the state behind the bytes, or stuck at the first that may not stand there.
-#[derive(Clone, Copy)]
-pub enum Scanned {
-    To(State),
-    Stuck(usize),
-}
-
-// Where a turn leads: to a state before a place, or no further than a byte.
-#[derive(Clone, Copy)]
-enum Turn {
-    On(State, usize),
-    At(usize),
-}
+use syntax::{Kind, State};
 
 // In a field's text; `fresh`: at its first byte.
 fn text_state(fresh: bool, kind: Kind) -> State
@@ -33,16 +19,17 @@ fn text_state(fresh: bool, kind: Kind) -> State
     State::Inside(kind)
 }
 
+// ---- turns: each leads to a state before a place, or no further than a byte
+
 // One byte.
-fn pass_byte(state: State, bytes: &[u8], i: usize) -> Turn
+fn pass_byte(state: State, bytes: &[u8], i: usize) -> Result<(State, usize), usize>
     requires { i < length bytes.now }
     ensures ahead { Passed i (length bytes.now) result }
     ensures leads { scanned state (drop i bytes.now) i ≡ from_turn bytes.now result }
 {
-    let next = i + 1;
     match syntax_bytewise::next_state(state, bytes[i]) {
-        Next::To(t) => Turn::On(t, next),
-        Next::Bad => Turn::At(i),
+        Some(next) => Ok((next, i + 1)),
+        None => Err(i),
     }
 }
 
@@ -51,14 +38,11 @@ fn null_at(bytes: &[u8], i: usize) -> bool
     requires { i ≤ length bytes.now }
     ensures { result ≡ true → NullField bytes.now i }
 {
-    if bytes.len() - i < 3 {
-        return false;
-    }
-    (bytes[i] == b'\\') & (bytes[i + 1] == b'0') & (bytes[i + 2] == b'|')
+    matches!(&bytes[i..], [b'\\', b'0', b'|', ..])
 }
 
 // A run of quiet bytes in a field's text, and what ends it: a field `\0`, or another loud byte.
-fn pass_text(kind: Kind, fresh: bool, bytes: &[u8], i: usize) -> Turn
+fn pass_text(kind: Kind, fresh: bool, bytes: &[u8], i: usize) -> Result<(State, usize), usize>
     requires { i < length bytes.now }
     ensures ahead { Passed i (length bytes.now) result }
     ensures leads { scanned (in_text fresh kind) (drop i bytes.now) i ≡ from_turn bytes.now result }
@@ -67,33 +51,28 @@ fn pass_text(kind: Kind, fresh: bool, bytes: &[u8], i: usize) -> Turn
     let begun = syntax::begins(bytes, i, j, fresh);
     let state = text_state(begun, kind);
     if bytes.len() <= j {
-        return Turn::On(state, j);
+        return Ok((state, j));
     }
     if begun & null_at(bytes, j) {
-        return Turn::On(State::First(kind), j + 3);
+        return Ok((State::First(kind), j + 3));
     }
     pass_byte(state, bytes, j)
 }
 
 // At a line's start behind one of this kind. A data line that begins with no backslash is text from there.
-fn pass_start(kind: Kind, bytes: &[u8], i: usize) -> Turn
+fn pass_start(kind: Kind, bytes: &[u8], i: usize) -> Result<(State, usize), usize>
     requires { i < length bytes.now }
     ensures ahead { Passed i (length bytes.now) result }
     ensures leads { scanned (Open kind) (drop i bytes.now) i ≡ from_turn bytes.now result }
 {
     match kind {
-        Kind::Rows => {
-            if bytes[i] == b'\\' {
-                return pass_byte(State::Open(Kind::Rows), bytes, i);
-            }
-            pass_text(Kind::Rows, true, bytes, i)
-        }
+        Kind::Rows if bytes[i] != b'\\' => pass_text(Kind::Rows, true, bytes, i),
         _ => pass_byte(State::Open(kind), bytes, i),
     }
 }
 
 // As far as the state allows at once.
-fn advance(state: State, bytes: &[u8], i: usize) -> Turn
+fn advance(state: State, bytes: &[u8], i: usize) -> Result<(State, usize), usize>
     requires { i < length bytes.now }
     ensures ahead { Passed i (length bytes.now) result }
     ensures leads { scanned state (drop i bytes.now) i ≡ from_turn bytes.now result }
@@ -107,21 +86,15 @@ fn advance(state: State, bytes: &[u8], i: usize) -> Turn
 }
 
 // Where the bytes of a part lead from the state on, or the first that may not stand there.
-pub fn scan(state: State, bytes: &[u8]) -> Scanned
+pub fn scan(state: State, bytes: &[u8]) -> Result<State, usize>
     ensures { result ≡ scanned state bytes.now 0 }
 {
     let mut s = state;
-    let mut i: usize = 0;
+    let mut i = 0;
     while i < bytes.len() {
-        match advance(s, bytes, i) {
-            Turn::On(t, n) => {
-                s = t;
-                i = n;
-            }
-            Turn::At(j) => {
-                return Scanned::Stuck(j);
-            }
-        }
+        let (next, end) = advance(s, bytes, i)?;
+        s = next;
+        i = end;
     }
-    Scanned::To(s)
+    Ok(s)
 }

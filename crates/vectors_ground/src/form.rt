@@ -1,15 +1,15 @@
 // The verdict on a dossier's form, reached in two ways: where its fault is, or that it has none.
 use crate::{parts, say};
 use std::io::{Print, Stdout};
-use syntax::{Kind, Next, State, Verdict};
+use syntax::{Kind, State};
 
 // The verdict of a reader that goes byte by byte.
 fn stepwise(dossier: &[u8]) -> Option<usize> {
     let mut state = State::Open(Kind::Nothing);
     for (place, byte) in dossier.iter().enumerate() {
         match syntax_bytewise::next_state(state, *byte) {
-            Next::To(next) => state = next,
-            Next::Bad => return Some(place),
+            Some(next) => state = next,
+            None => return Some(place),
         }
     }
     if syntax_bytewise::may_end(state) {
@@ -20,10 +20,7 @@ fn stepwise(dossier: &[u8]) -> Option<usize> {
 }
 
 fn straight(dossier: &[u8]) -> Option<usize> {
-    match syntax::check_syntax(dossier) {
-        Verdict::Fine => None,
-        Verdict::FaultAt(place) => Some(place),
-    }
+    syntax::check_syntax(dossier).err()
 }
 
 // The verdict; a word is printed only where the two ways differ.

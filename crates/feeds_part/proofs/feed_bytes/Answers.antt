@@ -13,7 +13,7 @@ pub slice_bounds-feed_lines-end : goal.slice_bounds-feed_lines-end
 slice_bounds-feed_lines-end c = let a = c.args in let o = c.open_for-open in let part = a.part.now in let q = opened (length part) a.feed o.result o.ensures in sym (length-take-le _ part q.most)
 
 pub feed_lines-f-requires : goal.feed_lines-f-requires
-feed_lines-f-requires c = let a = c.args in let o = c.open_for-open in let part = a.part.now in let q = opened (length part) a.feed o.result o.ensures in record { fits = (c.requires.0, c.requires.1); taken = (sym c.scan.ensures ∙ c.in-To.is, front-room part a.feed o.result q o.result (omega arith)) }
+feed_lines-f-requires c = let a = c.args in let o = c.open_for-open in let part = a.part.now in let q = opened (length part) a.feed o.result o.ensures in record { fits = (c.requires.0, c.requires.1); taken = (sym c.scan.ensures ∙ c.in-Ok.is, front-room part a.feed o.result q o.result (omega arith)) }
 
 pub overflow_sub-part : goal.overflow_sub-part
 overflow_sub-part c = let a = c.args in let o = c.open_for-open in let part = a.part.now in let q = opened (length part) a.feed o.result o.ensures in omega (arith, q.most)
@@ -22,35 +22,35 @@ pub count-requires : goal.count-requires
 count-requires c = let a = c.args in let o = c.open_for-open in let part = a.part.now in let q = opened (length part) a.feed o.result o.ensures in let f = c.feed_lines-f in front_at part a.feed o.result q f.result f.ensures.counted.0 c.requires.1
 
 pub slice_bounds-state_behind-end : goal.slice_bounds-state_behind-end
-slice_bounds-state_behind-end c = let a = c.args in let o = c.open_for-open in let part = a.part.now in let q = opened (length part) a.feed o.result o.ensures in sym (length-take-le _ part (omega (arith, q.most, stuck-within part a.feed o.result q c.in-Stuck.j (sym c.scan.ensures ∙ c.in-Stuck.is))))
+slice_bounds-state_behind-end c = let a = c.args in let o = c.open_for-open in let part = a.part.now in let q = opened (length part) a.feed o.result o.ensures in sym (length-take-le _ part (omega (arith, q.most, stuck-within part a.feed o.result q c.in-Err.j (sym c.scan.ensures ∙ c.in-Err.is))))
 
 pub state_behind-m-requires : goal.state_behind-m-requires
-state_behind-m-requires c = let a = c.args in let o = c.open_for-open in let part = a.part.now in let q = opened (length part) a.feed o.result o.ensures in stuck-leads part a.feed o.result q c.in-Stuck.j (sym c.scan.ensures ∙ c.in-Stuck.is)
+state_behind-m-requires c = let a = c.args in let o = c.open_for-open in let part = a.part.now in let q = opened (length part) a.feed o.result o.ensures in stuck-leads part a.feed o.result q c.in-Err.j (sym c.scan.ensures ∙ c.in-Err.is)
 
-pub slice_bounds-feed_lines-end-in-Stuck : goal.slice_bounds-feed_lines-end-in-Stuck
-slice_bounds-feed_lines-end-in-Stuck c = let a = c.args in let o = c.open_for-open in let part = a.part.now in let q = opened (length part) a.feed o.result o.ensures in sym (length-take-le _ part (omega (arith, q.most, stuck-within part a.feed o.result q c.in-Stuck.j (sym c.scan.ensures ∙ c.in-Stuck.is))))
+pub slice_bounds-feed_lines-end-in-Err : goal.slice_bounds-feed_lines-end-in-Err
+slice_bounds-feed_lines-end-in-Err c = let a = c.args in let o = c.open_for-open in let part = a.part.now in let q = opened (length part) a.feed o.result o.ensures in sym (length-take-le _ part (omega (arith, q.most, stuck-within part a.feed o.result q c.in-Err.j (sym c.scan.ensures ∙ c.in-Err.is))))
 
-pub feed_lines-f-requires-in-Stuck : goal.feed_lines-f-requires-in-Stuck
-feed_lines-f-requires-in-Stuck c = let a = c.args in let o = c.open_for-open in let part = a.part.now in let q = opened (length part) a.feed o.result o.ensures in record { fits = (c.requires.0, c.requires.1); taken = (c.state_behind-m.ensures, front-room part a.feed o.result q c.in-Stuck.j (omega (arith, stuck-within part a.feed o.result q c.in-Stuck.j (sym c.scan.ensures ∙ c.in-Stuck.is)))) }
+pub feed_lines-f-requires-in-Err : goal.feed_lines-f-requires-in-Err
+feed_lines-f-requires-in-Err c = let a = c.args in let o = c.open_for-open in let part = a.part.now in let q = opened (length part) a.feed o.result o.ensures in record { fits = (c.requires.0, c.requires.1); taken = (c.state_behind-m.ensures, front-room part a.feed o.result q c.in-Err.j (omega (arith, stuck-within part a.feed o.result q c.in-Err.j (sym c.scan.ensures ∙ c.in-Err.is)))) }
 
 pub at_fault-requires : goal.at_fault-requires
-at_fault-requires c = let a = c.args in let o = c.open_for-open in let part = a.part.now in let q = opened (length part) a.feed o.result o.ensures in let f = c.feed_lines-f-in-Stuck in let m = c.state_behind-m in stuck_at part a.feed o.result q c.in-Stuck.j (sym c.scan.ensures ∙ c.in-Stuck.is) a.register.now (lent a.feed a.line.now a.staging.now) m.result m.ensures f.result f.new.line f.new.staging f.ensures.is f.ensures.counted.0 f.ensures.counted.1 f.ensures.counted.2
+at_fault-requires c = let a = c.args in let o = c.open_for-open in let part = a.part.now in let q = opened (length part) a.feed o.result o.ensures in let f = c.feed_lines-f-in-Err in let m = c.state_behind-m in stuck_at part a.feed o.result q c.in-Err.j (sym c.scan.ensures ∙ c.in-Err.is) a.register.now (lent a.feed a.line.now a.staging.now) m.result m.ensures f.result f.new.line f.new.staging f.ensures.is f.ensures.counted.0 f.ensures.counted.1 f.ensures.counted.2
 
 pub overflow_add-j : goal.overflow_add-j
-overflow_add-j c = let a = c.args in let o = c.open_for-open in let part = a.part.now in let q = opened (length part) a.feed o.result o.ensures in omega (arith, stuck-within part a.feed o.result q c.in-Stuck.j (sym c.scan.ensures ∙ c.in-Stuck.is), q.most)
+overflow_add-j c = let a = c.args in let o = c.open_for-open in let part = a.part.now in let q = opened (length part) a.feed o.result o.ensures in omega (arith, stuck-within part a.feed o.result q c.in-Err.j (sym c.scan.ensures ∙ c.in-Err.is), q.most)
 
-pub overflow_sub-part-in-Stuck : goal.overflow_sub-part-in-Stuck
-overflow_sub-part-in-Stuck c = let a = c.args in let o = c.open_for-open in let part = a.part.now in let q = opened (length part) a.feed o.result o.ensures in omega (arith, stuck-within part a.feed o.result q c.in-Stuck.j (sym c.scan.ensures ∙ c.in-Stuck.is), q.most)
+pub overflow_sub-part-in-Err : goal.overflow_sub-part-in-Err
+overflow_sub-part-in-Err c = let a = c.args in let o = c.open_for-open in let part = a.part.now in let q = opened (length part) a.feed o.result o.ensures in omega (arith, stuck-within part a.feed o.result q c.in-Err.j (sym c.scan.ensures ∙ c.in-Err.is), q.most)
 
-pub count-requires-in-Stuck : goal.count-requires-in-Stuck
-count-requires-in-Stuck c = let a = c.args in let o = c.open_for-open in let part = a.part.now in let q = opened (length part) a.feed o.result o.ensures in let f = c.feed_lines-f-in-Stuck in let m = c.state_behind-m in
-    let h = stuck_at part a.feed o.result q c.in-Stuck.j (sym c.scan.ensures ∙ c.in-Stuck.is) a.register.now (lent a.feed a.line.now a.staging.now) m.result m.ensures f.result f.new.line f.new.staging f.ensures.is f.ensures.counted.0 f.ensures.counted.1 f.ensures.counted.2 in
+pub count-requires-in-Err : goal.count-requires-in-Err
+count-requires-in-Err c = let a = c.args in let o = c.open_for-open in let part = a.part.now in let q = opened (length part) a.feed o.result o.ensures in let f = c.feed_lines-f-in-Err in let m = c.state_behind-m in
+    let h = stuck_at part a.feed o.result q c.in-Err.j (sym c.scan.ensures ∙ c.in-Err.is) a.register.now (lent a.feed a.line.now a.staging.now) m.result m.ensures f.result f.new.line f.new.staging f.ensures.is f.ensures.counted.0 f.ensures.counted.1 f.ensures.counted.2 in
     fault-most f.result c.at_fault.result c.at_fault.ensures h
 
-pub returns-in-To : goal.returns-in-To
-returns-in-To c = let a = c.args in let o = c.open_for-open in let part = a.part.now in let q = opened (length part) a.feed o.result o.ensures in let f = c.feed_lines-f in front-fed part a.feed o.result q a.register.now (lent a.feed a.line.now a.staging.now) f.result f.new.line f.new.staging f.ensures.is f.ensures.counted.0 f.ensures.counted.1 c.requires.1 c.count.result c.count.ensures
+pub returns-in-Ok : goal.returns-in-Ok
+returns-in-Ok c = let a = c.args in let o = c.open_for-open in let part = a.part.now in let q = opened (length part) a.feed o.result o.ensures in let f = c.feed_lines-f in front-fed part a.feed o.result q a.register.now (lent a.feed a.line.now a.staging.now) f.result f.new.line f.new.staging f.ensures.is f.ensures.counted.0 f.ensures.counted.1 c.requires.1 c.count.result c.count.ensures
 
-pub returns-in-Stuck : goal.returns-in-Stuck
-returns-in-Stuck c = let a = c.args in let o = c.open_for-open in let part = a.part.now in let q = opened (length part) a.feed o.result o.ensures in let f = c.feed_lines-f-in-Stuck in let m = c.state_behind-m in
-    stuck-fed part a.feed o.result q c.in-Stuck.j (sym c.scan.ensures ∙ c.in-Stuck.is) a.register.now (lent a.feed a.line.now a.staging.now) m.result m.ensures f.result f.new.line f.new.staging f.ensures.is f.ensures.counted.0 f.ensures.counted.1 f.ensures.counted.2
-    c.at_fault.result c.at_fault.ensures c.count-in-Stuck.result c.count-in-Stuck.ensures
+pub returns-in-Err : goal.returns-in-Err
+returns-in-Err c = let a = c.args in let o = c.open_for-open in let part = a.part.now in let q = opened (length part) a.feed o.result o.ensures in let f = c.feed_lines-f-in-Err in let m = c.state_behind-m in
+    stuck-fed part a.feed o.result q c.in-Err.j (sym c.scan.ensures ∙ c.in-Err.is) a.register.now (lent a.feed a.line.now a.staging.now) m.result m.ensures f.result f.new.line f.new.staging f.ensures.is f.ensures.counted.0 f.ensures.counted.1 f.ensures.counted.2
+    c.at_fault.result c.at_fault.ensures c.count-in-Err.result c.count-in-Err.ensures

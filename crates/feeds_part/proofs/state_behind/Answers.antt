@@ -2,8 +2,8 @@ use mathlib.Core.Path.{sym, ◌∙◌}
 use Rattle.feeds_part.proofs.ByteLaws.{stuck-to}
 use Rattle.feeds_part.proofs.state_behind.Goals as goal
 
-pub returns-in-To : goal.returns-in-To
-returns-in-To c = sym c.scan.ensures ∙ c.in-To.is
+pub returns-in-Ok : goal.returns-in-Ok
+returns-in-Ok c = sym c.scan.ensures ∙ c.in-Ok.is
 
-pub returns-in-Stuck : goal.returns-in-Stuck
-returns-in-Stuck c = absurd (stuck-to (sym c.in-Stuck.is ∙ c.scan.ensures ∙ c.requires.1))
+pub returns-in-Err : goal.returns-in-Err
+returns-in-Err c = absurd (stuck-to (sym c.in-Err.is ∙ c.scan.ensures ∙ c.requires.1))

@@ -1,10 +1,9 @@
-use Prim.Native.Nat.{◌-◌}
 use native.Mathlib.Omega.{arith}
 use mathlib.Core.Path.{refl, sym, ◌∙◌}
 use borrow.Author.Rules.{rules}
 use Rattle.syntax.specs.Machine.{accepting, fault}
 use Rattle.syntax.proofs.RunLaws.{run-fine, run_short}
-use Rattle.syntax.proofs.LineLaws.{next-line, no_line}
+use Rattle.std.proofs.lemmas.Result.{err_from_is_err_and}
 use Rattle.syntax.proofs.check_syntax.Goals as goal
 
 pub loop-i-init : goal.loop-i-init
@@ -12,13 +11,15 @@ unfolding fault
 loop-i-init c = (search rules, refl)
 
 pub loop-i-smaller : goal.loop-i-smaller
-loop-i-smaller c = let l = c.loop-i in let o = c.whole_line in omega (arith, next-line c.args.dossier.now l.i l.k o.result o.ensures.ahead o.ensures.leads l.invariant.1 c.in-In.m c.in-In.n c.in-In.is)
+loop-i-smaller c = omega (arith, c.in_ok-kind.ensures.ahead)
 
 pub loop-i-preserved : goal.loop-i-preserved
-loop-i-preserved c = let l = c.loop-i in let o = c.whole_line in let r = next-line c.args.dossier.now l.i l.k o.result o.ensures.ahead o.ensures.leads l.invariant.1 c.in-In.m c.in-In.n c.in-In.is in (r.1, r.2)
+loop-i-preserved c = (c.in_ok-kind.ensures.ahead.1, sym c.in_ok-kind.ensures.leads ∙ c.loop-i.invariant.1)
 
-pub returns-in-Never : goal.returns-in-Never
-returns-in-Never c = let l = c.loop-i in let o = c.whole_line in no_line c.args.dossier.now l.i l.k o.result o.ensures.ahead o.ensures.leads l.invariant.1 c.in-Never.x c.in-Never.is
+pub returns-in_err-kind : goal.returns-in_err-kind
+returns-in_err-kind c =
+    let t = err_from_is_err_and c.from_residual.result c.from_residual.ensures.1 in
+    rw (t.1, t.2) (sym c.in_err-kind.ensures.leads ∙ c.loop-i.invariant.1)
 
 pub returns-then-ends_after : goal.returns-then-ends_after
 unfolding accepting

@@ -1,4 +1,3 @@
-use Prim.Native.Nat.{◌-◌}
 use native.Mathlib.Omega.{arith}
 use Rattle.syntax.proofs.EndLaws.{slash-ends, slash-letter, slash-other, null-inside}
 use Rattle.syntax.proofs.escape_end.Goals as goal

@@ -1,5 +1,5 @@
-use Prim.Native.Nat.{◌-◌}
 use native.Mathlib.Omega.{arith}
+use Rattle.std.proofs.lemmas.Result.{err_from_is_err_and}
 use Rattle.syntax.proofs.LineLaws.{started, quiet-place, stopped-short, stopped, turned, ended}
 use Rattle.syntax.proofs.line_end.Goals as goal
 
@@ -25,10 +25,13 @@ pub escape_end-requires : goal.escape_end-requires
 escape_end-requires c = (c.if-dossier-j.false, c.if-dossier-j-ne92.false)
 
 pub loop-i-smaller : goal.loop-i-smaller
-loop-i-smaller c = let l = c.loop-i in let q = c.quiet_end-j in let o = c.escape_end in omega (arith, (turned c.args.dossier.now c.args.i l.p l.fresh l.invariant q.result q.ensures o.result c.begins-fresh.result c.begins-fresh.ensures o.ensures.ahead o.ensures.leads c.in-On.n c.in-On.is).0)
+loop-i-smaller c = let l = c.loop-i in let q = c.quiet_end-j in let o = c.in_ok-p in omega (arith, (turned c.args.dossier.now c.args.i l.p l.fresh l.invariant q.result q.ensures c.begins-fresh.result c.begins-fresh.ensures o.p o.ensures.ahead o.ensures.leads).0)
 
 pub loop-i-preserved : goal.loop-i-preserved
-loop-i-preserved c = let l = c.loop-i in let q = c.quiet_end-j in let o = c.escape_end in (turned c.args.dossier.now c.args.i l.p l.fresh l.invariant q.result q.ensures o.result c.begins-fresh.result c.begins-fresh.ensures o.ensures.ahead o.ensures.leads c.in-On.n c.in-On.is).1
+loop-i-preserved c = let l = c.loop-i in let q = c.quiet_end-j in let o = c.in_ok-p in (turned c.args.dossier.now c.args.i l.p l.fresh l.invariant q.result q.ensures c.begins-fresh.result c.begins-fresh.ensures o.p o.ensures.ahead o.ensures.leads).1
 
-pub returns-in-Stuck : goal.returns-in-Stuck
-returns-in-Stuck c = let l = c.loop-i in let q = c.quiet_end-j in let o = c.escape_end in let t = stopped c.args.dossier.now c.args.i l.p l.fresh l.invariant q.result q.ensures o.result c.begins-fresh.result c.begins-fresh.ensures o.ensures.ahead o.ensures.leads c.in-Stuck.x c.in-Stuck.is in record { ahead = t.0; leads = t.1 }
+pub returns-in_err-p : goal.returns-in_err-p
+returns-in_err-p c =
+    let l = c.loop-i in let q = c.quiet_end-j in let o = c.in_err-p in
+    let t = err_from_is_err_and c.from_residual.result c.from_residual.ensures.1 in
+    rw (t.1, t.2) (record { ahead = o.ensures.ahead; leads = stopped c.args.dossier.now c.args.i l.p l.fresh l.invariant q.result q.ensures c.begins-fresh.result c.begins-fresh.ensures _ o.ensures.leads })

@@ -1,4 +1,3 @@
-use Prim.Native.Nat.{◌-◌}
 use native.Mathlib.Omega.{arith}
 use Rattle.syntax.proofs.EndLaws.{null-ends, null-good, null-other}
 use Rattle.syntax.proofs.null_end.Goals as goal

@@ -1,20 +1,17 @@
 -- What the loop of a scan goes by: where a turn leads. Assumes nothing.
-use Rattle.std.specs.Prelude.{ℕ, ◌+◌, ◌≤◌, ◌<◌, ◌≡◌, List, length, get_or, drop}
-use Rattle.syntax_scan.specs.declared.Scanned.{Scanned}
-use Rattle.syntax_scan.specs.declared.Scanned.TheVariants.{Stuck}
-use Rattle.syntax_scan.specs.declared.Turn.{Turn}
-use Rattle.syntax_scan.specs.declared.Turn.TheVariants.{On, At}
+use Rattle.std.specs.Prelude.{ℕ, ◌+◌, ◌≤◌, ◌<◌, ◌≡◌, List, length, get_or, drop, Result, Ok, Err}
+use Rattle.syntax.specs.declared.State.{State}
 use Rattle.syntax_scan.specs.Scanned.{scanned}
 
 -- a turn goes on behind i, within the length n
-abbrev pub Passed : ℕ → ℕ → Turn → Type 0
-Passed i n (On t p) = (i < p) × (p ≤ n)
-Passed i n (At p) = p < n
+abbrev pub Passed : ℕ → ℕ → Result (State × ℕ) ℕ → Type 0
+Passed i n (Ok (t, p)) = (i < p) × (p ≤ n)
+Passed i n (Err p) = p < n
 
 -- the scan of d from where a turn leads
-abbrev pub from_turn : List ℕ → Turn → Scanned
-from_turn d (On t p) = scanned t (drop p d) p
-from_turn d (At p) = Stuck p
+abbrev pub from_turn : List ℕ → Result (State × ℕ) ℕ → Result State ℕ
+from_turn d (Ok (t, p)) = scanned t (drop p d) p
+from_turn d (Err p) = Err p
 
 -- `\0` and a bar stand at i
 abbrev pub NullField : List ℕ → ℕ → Type 0
