@@ -1,7 +1,6 @@
 // Why an opening is refused by 9: which key arises twice. The plan's passages are worked out once more, since a refused opening leaves none. The refusal is printed; nothing comes back and nothing is changed.
 #![tactic(auto)]
 
-use reader::Reading;
 use std::io::Stdout;
 
 // Room for the pass times of any planning, the validities of any calendar, and as many passages as a book takes.
@@ -25,10 +24,10 @@ fn join(
     validities: &mut [u8; VALIDITIES],
     bodies: &mut [u8; BODIES],
 ) -> usize {
-    let Reading::Rows(times) = reader::read_planning(planning, passes) else {
+    let Ok(times) = reader::read_planning(planning, passes) else {
         return 0;
     };
-    let Reading::Rows(days) = reader::read_calendar(calendar, validities) else {
+    let Ok(days) = reader::read_calendar(calendar, validities) else {
         return 0;
     };
     if MOST_PASSES < times {

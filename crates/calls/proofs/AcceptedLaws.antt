@@ -7,13 +7,13 @@ use mathlib.Core.List.{List, [], ◌∷◌}
 use borrow.Author.Tests.{leb-true, le-leb}
 use lib.Dec.{eqb, leb}
 use lib.ListN.{length}
+use Rattle.std.specs.Prelude.{Ok, Err}
 use Rattle.lists.specs.Logic.{on}
 use Rattle.lists.proofs.LogicLaws.{and-pass}
 use Rattle.register.specs.Register.{register_sound}
 use Rattle.columns.specs.Tables.{is_form}
-use Rattle.reader.specs.declared.Reading.{Reading}
-use Rattle.reader.specs.declared.Reading.TheVariants as Readings
-use Rattle.reader.specs.Rules.{reading_of}
+use Rattle.reader.specs.declared.Fault.TheVariants as Faults
+use Rattle.reader.specs.Rules.{Reading, reading_of}
 use Rattle.reader.proofs.AnswerLaws.{accepted}
 use Rattle.table.specs.Rules.{table_sound, table_room}
 use Rattle.book.specs.Entries.{entry_wide, sender_of, kind_of, updates_in}
@@ -33,14 +33,14 @@ first_of true a x r e = (refl, e)
 first_of false a x r e = absurd (let z : ◌≡◌ {A = ℕ} 0 1 = cc in omega arith)
 
 -- only rows go on
-pub read-on : (w : ℕ) (r : Reading) (next : Answer) → is_accepted (unless_refused w r next) ≡ true → ((n : ℕ) × (r ≡ Readings.Rows n)) × (is_accepted next ≡ true)
-read-on w Readings.TooLong next e = absurd (let z : ◌≡◌ {A = ℕ} 0 1 = cc in omega arith)
-read-on w (Readings.Syntax i) next e = absurd (let z : ◌≡◌ {A = ℕ} 0 1 = cc in omega arith)
-read-on w (Readings.Long l) next e = absurd (let z : ◌≡◌ {A = ℕ} 0 1 = cc in omega arith)
-read-on w (Readings.Form l) next e = absurd (let z : ◌≡◌ {A = ℕ} 0 1 = cc in omega arith)
-read-on w (Readings.Field l c) next e = absurd (let z : ◌≡◌ {A = ℕ} 0 1 = cc in omega arith)
-read-on w (Readings.Owner l) next e = absurd (let z : ◌≡◌ {A = ℕ} 0 1 = cc in omega arith)
-read-on w (Readings.Rows n) next e = ((n, refl), e)
+pub read-on : (w : ℕ) (r : Reading) (next : Answer) → is_accepted (unless_refused w r next) ≡ true → ((n : ℕ) × (r ≡ Ok n)) × (is_accepted next ≡ true)
+read-on w (Err Faults.TooLong) next e = absurd (let z : ◌≡◌ {A = ℕ} 0 1 = cc in omega arith)
+read-on w (Err (Faults.Syntax i)) next e = absurd (let z : ◌≡◌ {A = ℕ} 0 1 = cc in omega arith)
+read-on w (Err (Faults.Long l)) next e = absurd (let z : ◌≡◌ {A = ℕ} 0 1 = cc in omega arith)
+read-on w (Err (Faults.Form l)) next e = absurd (let z : ◌≡◌ {A = ℕ} 0 1 = cc in omega arith)
+read-on w (Err (Faults.Field l c)) next e = absurd (let z : ◌≡◌ {A = ℕ} 0 1 = cc in omega arith)
+read-on w (Err (Faults.Owner l)) next e = absurd (let z : ◌≡◌ {A = ℕ} 0 1 = cc in omega arith)
+read-on w (Ok n) next e = ((n, refl), e)
 
 -- ---- message
 
@@ -58,7 +58,7 @@ module _ (d register book table : List ℕ) (sender form : ℕ) (c : Counts) whe
   pub record Passed : Type 0 where
     pub sound : message_sound register book table c ≡ true
     pub known : is_form form ≡ true
-    pub rows : (n : ℕ) × (reading_of (message_table form) register sender d ≡ Readings.Rows n)
+    pub rows : (n : ℕ) × (reading_of (message_table form) register sender d ≡ Ok n)
     pub in-book : c.used + length bodies * entry_wide ≤ book_room book
     pub in_table : length (rows_taken bodies table c.rows) ≤ table_room table
 

@@ -5,8 +5,7 @@ use mathlib.Core.List.{List}
 use Rattle.lists.specs.Logic.{on}
 use Rattle.columns.specs.declared.Form.TheVariants.{Old, New}
 use Rattle.columns.specs.declared.Table.TheVariants.{Message}
-use Rattle.reader.specs.declared.Reading.{Reading}
-use Rattle.reader.specs.Rules.{reading_of}
+use Rattle.reader.specs.Rules.{Reading, reading_of}
 use Rattle.reader.proofs.AlikeLaws.{forms-read-alike}
 use Rattle.calls.specs.declared.Answer.TheVariants.{Unsound}
 use Rattle.calls.specs.declared.Counts.{Counts}

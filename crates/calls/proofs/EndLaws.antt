@@ -5,12 +5,12 @@ use mathlib.Core.Bool.{Bool, true, false, not}
 use mathlib.Core.List.{List, [], ◌∷◌}
 use lib.Dec.{leb, ltb}
 use lib.ListN.{length}
+use Rattle.std.specs.Prelude.{Ok, Err}
 use Rattle.lists.specs.Logic.{on, first_held}
 use Rattle.syntax.specs.Machine.{accepting}
 use Rattle.columns.specs.Tables.{is_form}
-use Rattle.reader.specs.declared.Reading.{Reading}
-use Rattle.reader.specs.declared.Reading.TheVariants as Readings
-use Rattle.reader.specs.Rules.{largest, is_line}
+use Rattle.reader.specs.declared.Fault.TheVariants as Faults
+use Rattle.reader.specs.Rules.{Reading, largest, is_line}
 use Rattle.reader.specs.Numbers.{reading_numbers}
 use Rattle.feeds.specs.declared.Feed.{Feed}
 use Rattle.feeds.specs.Kept.{feed_of}
@@ -92,13 +92,13 @@ passes-known true a h = h
 passes-known false a h = refl
 
 passes-reading : (r : Reading) (next : Answer) → Passes next → Passes (unless_refused 0 r next)
-passes-reading Readings.TooLong next h = refl
-passes-reading (Readings.Syntax i) next h = refl
-passes-reading (Readings.Long l) next h = refl
-passes-reading (Readings.Form l) next h = refl
-passes-reading (Readings.Field l c) next h = refl
-passes-reading (Readings.Owner l) next h = refl
-passes-reading (Readings.Rows n) next h = h
+passes-reading (Err Faults.TooLong) next h = refl
+passes-reading (Err (Faults.Syntax i)) next h = refl
+passes-reading (Err (Faults.Long l)) next h = refl
+passes-reading (Err (Faults.Form l)) next h = refl
+passes-reading (Err (Faults.Field l c)) next h = refl
+passes-reading (Err (Faults.Owner l)) next h = refl
+passes-reading (Ok n) next h = h
 
 passes-post : (p q r s : Bool) (n : ℕ) → Passes (on p (Owner 0) (on q StagingShort (on r (on s (Accepted n) TableShort) BookShort)))
 passes-post true q r s n = refl

@@ -7,12 +7,12 @@ use mathlib.Core.List.{List, [], ◌∷◌}
 use borrow.Author.Tests.{leb-true, leb-false, le-ltb, lt-ltb}
 use lib.Dec.{eqb, leb, ltb}
 use lib.ListN.{length, get_or}
+use Rattle.std.specs.Prelude.{Ok, Err}
 use Rattle.lists.specs.Logic.{on, Line, first_held}
 use Rattle.columns.specs.declared.Table.TheVariants as Tables
 use Rattle.columns.specs.Tables.{is_form}
-use Rattle.reader.specs.declared.Reading.{Reading}
-use Rattle.reader.specs.declared.Reading.TheVariants as Readings
-use Rattle.reader.specs.Rules.{reading_of}
+use Rattle.reader.specs.declared.Fault.TheVariants as Faults
+use Rattle.reader.specs.Rules.{Reading, reading_of}
 use Rattle.reader.specs.Numbers.{reading_numbers, reading_table}
 use Rattle.reader.proofs.LookLaws.{numbers-by-table}
 use Rattle.table.specs.Rules.{table_room}
@@ -56,23 +56,23 @@ known-first false a ls z h = refl
 
 -- a message's dossier before others
 pub message-first : (r : Reading) (a : Answer) (ls : Lines) (z : Four) → numbers a ≡ first_held ls z → numbers (unless_refused 0 r a) ≡ first_held (dossier_lines 0 (reading_numbers r) ∷ ls) z
-message-first Readings.TooLong a ls z h = refl
-message-first (Readings.Syntax i) a ls z h = refl
-message-first (Readings.Long l) a ls z h = refl
-message-first (Readings.Form l) a ls z h = refl
-message-first (Readings.Field l c) a ls z h = refl
-message-first (Readings.Owner l) a ls z h = refl
-message-first (Readings.Rows n) a ls z h = h
+message-first (Err Faults.TooLong) a ls z h = refl
+message-first (Err (Faults.Syntax i)) a ls z h = refl
+message-first (Err (Faults.Long l)) a ls z h = refl
+message-first (Err (Faults.Form l)) a ls z h = refl
+message-first (Err (Faults.Field l c)) a ls z h = refl
+message-first (Err (Faults.Owner l)) a ls z h = refl
+message-first (Ok n) a ls z h = h
 
 -- a dossier without owners before others, whichever it is
 dossier-first : (w : ℕ) (r : Reading) (a : Answer) (ls : Lines) (z : Four) → owner_free r ≡ true → numbers a ≡ first_held ls z → numbers (unless_refused w r a) ≡ first_held (dossier_lines w (reading_numbers r) ∷ ls) z
-dossier-first w Readings.TooLong a ls z f h = refl
-dossier-first w (Readings.Syntax i) a ls z f h = refl
-dossier-first w (Readings.Long l) a ls z f h = refl
-dossier-first w (Readings.Form l) a ls z f h = refl
-dossier-first w (Readings.Field l c) a ls z f h = refl
-dossier-first w (Readings.Owner l) a ls z f h = absurd (let z : ◌≡◌ {A = ℕ} 0 1 = cc in omega arith)
-dossier-first w (Readings.Rows n) a ls z f h = h
+dossier-first w (Err Faults.TooLong) a ls z f h = refl
+dossier-first w (Err (Faults.Syntax i)) a ls z f h = refl
+dossier-first w (Err (Faults.Long l)) a ls z f h = refl
+dossier-first w (Err (Faults.Form l)) a ls z f h = refl
+dossier-first w (Err (Faults.Field l c)) a ls z f h = refl
+dossier-first w (Err (Faults.Owner l)) a ls z f h = absurd (let z : ◌≡◌ {A = ℕ} 0 1 = cc in omega arith)
+dossier-first w (Ok n) a ls z f h = h
 
 -- the dossier's numbers by their own table
 pub by-table : (w : ℕ) (r : Reading) (k : ℕ × ℕ × ℕ) (a : Answer) (ls : Lines) (z : Four) → reading_numbers r ≡ k

@@ -8,6 +8,7 @@ use mathlib.Core.Logic.{◌⊎◌, inl, inr, ⊎_elim}
 use borrow.Author.Tests.{leb-true, eqb-true}
 use lib.Dec.{eqb, leb}
 use lib.ListN.{length, drop, length-map, length-append}
+use Rattle.std.specs.Prelude.{Ok}
 use Rattle.lists.specs.Each.{Each}
 use Rattle.lists.specs.Part.{over}
 use Rattle.lists.specs.Rows.{flat, Wide}
@@ -15,7 +16,6 @@ use Rattle.lists.proofs.OverLaws.{onto-fits}
 use Rattle.lists.proofs.WideLaws.{length-flat}
 use Rattle.passage.specs.Layout.{body_wide, row_wide, key_of}
 use Rattle.columns.specs.declared.Table.TheVariants as Tables
-use Rattle.reader.specs.declared.Reading.TheVariants.{Rows}
 use Rattle.reader.specs.Rules.{reading_of}
 use Rattle.reader.proofs.AnswerLaws.{accepted-rows}
 use Rattle.plan.specs.Rules.{joined}
@@ -42,8 +42,8 @@ use Rattle.calls.proofs.AcceptedLaws.{first_of, read-on}
 -- ---- what an accepted open went through
 
 pub record Opened (planning calendar book table : List ℕ) : Type 0 where
-  pub planned : (n : ℕ) × (reading_of Tables.Planning [] 0 planning ≡ Rows n)
-  pub dated : (n : ℕ) × (reading_of Tables.Calendar [] 0 calendar ≡ Rows n)
+  pub planned : (n : ℕ) × (reading_of Tables.Planning [] 0 planning ≡ Ok n)
+  pub dated : (n : ℕ) × (reading_of Tables.Calendar [] 0 calendar ≡ Ok n)
   pub book-room : length (passages_of planning calendar) * plan_wide ≤ book_room book
   pub once : length (put_all (passages_of planning calendar) []) ≡ length (passages_of planning calendar)
   pub table-room : length (passages_of planning calendar) ≤ table_room table
@@ -152,7 +152,7 @@ unfolding plan_rows plan_row
 rows_are bs = refl
 
 -- what joined of the rows that were staged, which are all rows
-pub joined-in-range : (planning calendar : List ℕ) → (n : ℕ) × (reading_of Tables.Planning [] 0 planning ≡ Rows n) → (n : ℕ) × (reading_of Tables.Calendar [] 0 calendar ≡ Rows n)
+pub joined-in-range : (planning calendar : List ℕ) → (n : ℕ) × (reading_of Tables.Planning [] 0 planning ≡ Ok n) → (n : ℕ) × (reading_of Tables.Calendar [] 0 calendar ≡ Ok n)
     → Each Passage (passages_of planning calendar)
 unfolding passages_of
 joined-in-range planning calendar planned dated =

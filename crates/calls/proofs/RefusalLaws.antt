@@ -13,10 +13,9 @@ use Rattle.turbo_lines.specs.Lines.{lines, first_long}
 use Rattle.columns.specs.declared.Table.{Table}
 use Rattle.columns.specs.declared.Table.TheVariants as Tables
 use Rattle.columns.specs.Tables.{row_of, is_form}
-use Rattle.reader.specs.declared.Reading.{Reading}
-use Rattle.reader.specs.declared.Reading.TheVariants as Readings
+use Rattle.reader.specs.declared.Fault.TheVariants as Faults
 use Rattle.reader.specs.Items.{Item, head, row}
-use Rattle.reader.specs.Rules.{largest, form_bad, is_wrong, owner_bad, first_line, is_line, faults, fault_place, answer_to, items_of, reading_of}
+use Rattle.reader.specs.Rules.{Reading, largest, form_bad, is_wrong, owner_bad, first_line, is_line, faults, fault_place, answer_to, items_of, reading_of}
 use Rattle.keys.specs.Sorted.{put_all}
 use Rattle.table.specs.Rules.{table_room}
 use Rattle.book.specs.Entries.{plan_wide, sender_of, kind_of, updates_in}
@@ -67,13 +66,13 @@ abbrev sends : List ℕ
 sends = 0 ∷ 1 ∷ 18 ∷ 2 ∷ 3 ∷ 15 ∷ 4 ∷ 5 ∷ 6 ∷ 7 ∷ 8 ∷ []
 
 message-reading : (r : Reading) (next : Answer) → Passes sends next → Passes sends (unless_refused 0 r next)
-message-reading Readings.TooLong next h = refl
-message-reading (Readings.Syntax i) next h = refl
-message-reading (Readings.Long l) next h = refl
-message-reading (Readings.Form l) next h = refl
-message-reading (Readings.Field l c) next h = refl
-message-reading (Readings.Owner l) next h = refl
-message-reading (Readings.Rows n) next h = h
+message-reading (Err Faults.TooLong) next h = refl
+message-reading (Err (Faults.Syntax i)) next h = refl
+message-reading (Err (Faults.Long l)) next h = refl
+message-reading (Err (Faults.Form l)) next h = refl
+message-reading (Err (Faults.Field l c)) next h = refl
+message-reading (Err (Faults.Owner l)) next h = refl
+message-reading (Ok n) next h = h
 
 message-room : (p q : Bool) (n : ℕ) → Passes sends (on p (on q (Accepted n) TableShort) BookShort)
 message-room true true n = refl
@@ -99,13 +98,13 @@ message-numbers d register book table sender form c =
 
 -- a planning and a calendar have no owner to refuse
 abbrev pub owner_free : Reading → Bool
-owner_free Readings.TooLong = true
-owner_free (Readings.Syntax i) = true
-owner_free (Readings.Long l) = true
-owner_free (Readings.Form l) = true
-owner_free (Readings.Field l c) = true
-owner_free (Readings.Owner l) = false
-owner_free (Readings.Rows n) = true
+owner_free (Err Faults.TooLong) = true
+owner_free (Err (Faults.Syntax i)) = true
+owner_free (Err (Faults.Long l)) = true
+owner_free (Err (Faults.Form l)) = true
+owner_free (Err (Faults.Field l c)) = true
+owner_free (Err (Faults.Owner l)) = false
+owner_free (Ok n) = true
 
 module _ (t : Table) (free : (body : List ℕ) → may_send t [] 0 body ≡ true) where
   no-owner-bad : (x : Item) → owner_bad t [] 0 x ≡ false
@@ -117,20 +116,20 @@ module _ (t : Table) (free : (body : List ℕ) → may_send t [] 0 body ≡ true
   no-owner-line [] = refl
   no-owner-line (x ∷ xs) = rw (no-owner-bad x, no-owner-line xs)
 
-  settled-free : (p q : Bool) (form line column rows : ℕ) → owner_free (on p (Readings.Form form) (on q (Readings.Field line column) (on (is_line 0) (Readings.Owner 0) (Readings.Rows rows)))) ≡ true
+  settled-free : (p q : Bool) (form line column rows : ℕ) → owner_free (on p (Err (Faults.Form form)) (on q (Err (Faults.Field line column)) (on (is_line 0) (Err (Faults.Owner 0)) (Ok rows)))) ≡ true
   settled-free true q form line column rows = refl
   settled-free false true form line column rows = refl
   settled-free false false form line column rows = refl
 
-  by-syntax-free : (v : Result ⊤ ℕ) (a : Reading) → owner_free a ≡ true → owner_free (on (faults v) (Readings.Syntax (fault_place v)) a) ≡ true
+  by-syntax-free : (v : Result ⊤ ℕ) (a : Reading) → owner_free a ≡ true → owner_free (on (faults v) (Err (Faults.Syntax (fault_place v))) a) ≡ true
   by-syntax-free (Ok u) a h = h
   by-syntax-free (Err i) a h = refl
 
-  long-free : (b : Bool) (l : ℕ) (a : Reading) → owner_free a ≡ true → owner_free (on b (Readings.Long l) a) ≡ true
+  long-free : (b : Bool) (l : ℕ) (a : Reading) → owner_free a ≡ true → owner_free (on b (Err (Faults.Long l)) a) ≡ true
   long-free true l a h = refl
   long-free false l a h = h
 
-  size-free : (b : Bool) (a : Reading) → owner_free a ≡ true → owner_free (on b Readings.TooLong a) ≡ true
+  size-free : (b : Bool) (a : Reading) → owner_free a ≡ true → owner_free (on b (Err Faults.TooLong) a) ≡ true
   size-free true a h = refl
   size-free false a h = h
 
@@ -143,13 +142,13 @@ module _ (t : Table) (free : (body : List ℕ) → may_send t [] 0 body ≡ true
       (rw (no-owner-line (items_of t d)) (settled-free (is_line (first_line (form_bad t) (items_of t d))) (is_line (first_line (is_wrong t) (items_of t d))) _ _ _ _))))
 
 open-reading : (w : ℕ) (r : Reading) (next : Answer) → owner_free r ≡ true → Passes opens next → Passes opens (unless_refused w r next)
-open-reading w Readings.TooLong next f h = refl
-open-reading w (Readings.Syntax i) next f h = refl
-open-reading w (Readings.Long l) next f h = refl
-open-reading w (Readings.Form l) next f h = refl
-open-reading w (Readings.Field l c) next f h = refl
-open-reading w (Readings.Owner l) next f h = absurd (let z : ◌≡◌ {A = ℕ} 0 1 = cc in omega arith)
-open-reading w (Readings.Rows n) next f h = h
+open-reading w (Err Faults.TooLong) next f h = refl
+open-reading w (Err (Faults.Syntax i)) next f h = refl
+open-reading w (Err (Faults.Long l)) next f h = refl
+open-reading w (Err (Faults.Form l)) next f h = refl
+open-reading w (Err (Faults.Field l c)) next f h = refl
+open-reading w (Err (Faults.Owner l)) next f h = absurd (let z : ◌≡◌ {A = ℕ} 0 1 = cc in omega arith)
+open-reading w (Ok n) next f h = h
 
 open-room : (p q r : Bool) → Passes opens (on p (on q (on r (Accepted 0) TableShort) KeyTwice) BookShort)
 open-room true true true = refl

@@ -5,6 +5,7 @@ use mathlib.Core.Bool.{true}
 use mathlib.Core.List.{List, []}
 use mathlib.Core.Logic.{◌⊎◌}
 use lib.ListN.{length}
+use Rattle.std.specs.Prelude.{Ok}
 use Rattle.lists.specs.Each.{Each}
 use Rattle.lists.specs.Rows.{rows_of, Wide}
 use Rattle.lists.proofs.StoreLaws.{rows_of-store}
@@ -12,7 +13,6 @@ use Rattle.lists.proofs.WideLaws.{wide-rows_of}
 use Rattle.passage.specs.Layout.{body_wide, row_wide, key_of}
 use Rattle.columns.specs.Tables.{form_of}
 use Rattle.columns.proofs.FormLaws as Forms
-use Rattle.reader.specs.declared.Reading.TheVariants.{Rows}
 use Rattle.reader.specs.Rules.{items_of, reading_of}
 use Rattle.reader.specs.Staging.{rows_up_to}
 use Rattle.reader.proofs.AnswerLaws.{accepted-each}
@@ -57,7 +57,7 @@ taken-get = get-taken_all row_rule IsBody keeps
 -- ---- an accepted message
 
 -- the rows of a message that is read are bodies
-pub message-wide : (form : ℕ) (register : List ℕ) (sender : ℕ) (dossier : List ℕ) (n : ℕ) → reading_of (message_table form) register sender dossier ≡ Rows n → Wide body_wide (message_rows form dossier)
+pub message-wide : (form : ℕ) (register : List ℕ) (sender : ℕ) (dossier : List ℕ) (n : ℕ) → reading_of (message_table form) register sender dossier ≡ Ok n → Wide body_wide (message_rows form dossier)
 unfolding message_rows
 message-wide form register sender dossier n e =
     accepted-each (message_table form) register sender dossier IsBody

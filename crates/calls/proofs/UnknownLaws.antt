@@ -6,10 +6,10 @@ use mathlib.Core.Bool.{Bool, true, false}
 use mathlib.Core.Logic.{◌↔◌}
 use borrow.Author.Tests.{leb-true, leb-false, eq-eqb}
 use lib.Dec.{eqb, leb}
+use Rattle.std.specs.Prelude.{Ok, Err}
 use Rattle.lists.specs.Logic.{on}
-use Rattle.reader.specs.declared.Reading.{Reading}
-use Rattle.reader.specs.declared.Reading.TheVariants as Readings
-use Rattle.reader.specs.Rules.{reading_of}
+use Rattle.reader.specs.declared.Fault.TheVariants as Faults
+use Rattle.reader.specs.Rules.{Reading, reading_of}
 use Rattle.feeds.specs.Kept.{feed_of}
 use Rattle.table.specs.Rules.{table_room}
 use Rattle.book.specs.Rules.{book_room}
@@ -25,13 +25,13 @@ abbrev Other : Answer → Type 0
 Other a = eqb (numbers a).0 18 ≡ false
 
 other-reading : (r : Reading) (next : Answer) → Other next → Other (unless_refused 0 r next)
-other-reading Readings.TooLong next h = refl
-other-reading (Readings.Syntax i) next h = refl
-other-reading (Readings.Long l) next h = refl
-other-reading (Readings.Form l) next h = refl
-other-reading (Readings.Field l c) next h = refl
-other-reading (Readings.Owner l) next h = refl
-other-reading (Readings.Rows n) next h = h
+other-reading (Err Faults.TooLong) next h = refl
+other-reading (Err (Faults.Syntax i)) next h = refl
+other-reading (Err (Faults.Long l)) next h = refl
+other-reading (Err (Faults.Form l)) next h = refl
+other-reading (Err (Faults.Field l c)) next h = refl
+other-reading (Err (Faults.Owner l)) next h = refl
+other-reading (Ok n) next h = h
 
 other-room : (p q : Bool) (n : ℕ) → Other (on p (on q (Accepted n) TableShort) BookShort)
 other-room true true n = refl

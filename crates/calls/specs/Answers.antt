@@ -1,7 +1,7 @@
 -- Document 01's numbers for each answer. Assumes nothing.
-use Rattle.std.specs.Prelude.{ℕ, Bool, true, false}
-use Rattle.reader.specs.declared.Reading.{Reading}
-use Rattle.reader.specs.declared.Reading.TheVariants as Readings
+use Rattle.std.specs.Prelude.{ℕ, Bool, true, false, Ok, Err}
+use Rattle.reader.specs.declared.Fault.TheVariants as Faults
+use Rattle.reader.specs.Rules.{Reading}
 use Rattle.calls.specs.declared.Answer.{Answer}
 use Rattle.calls.specs.declared.Answer.TheVariants.{Accepted, Unsound, TooLong, Syntax, Long, Form, Field, Owner, StagingShort, BookShort, TableShort, KeyTwice, NoMessage, AlreadyWithdrawn, OtherSender, UnknownForm}
 
@@ -44,10 +44,10 @@ is_accepted UnknownForm = false
 
 -- a dossier's refusal 2 to 6 or 15, or what comes next; w says which dossier
 abbrev pub unless_refused : ℕ → Reading → Answer → Answer
-unless_refused w Readings.TooLong next = TooLong w
-unless_refused w (Readings.Syntax i) next = Syntax i w
-unless_refused w (Readings.Long l) next = Long l w
-unless_refused w (Readings.Form l) next = Form l w
-unless_refused w (Readings.Field l c) next = Field l c w
-unless_refused w (Readings.Owner l) next = Owner l
-unless_refused w (Readings.Rows n) next = next
+unless_refused w (Err Faults.TooLong) next = TooLong w
+unless_refused w (Err (Faults.Syntax i)) next = Syntax i w
+unless_refused w (Err (Faults.Long l)) next = Long l w
+unless_refused w (Err (Faults.Form l)) next = Form l w
+unless_refused w (Err (Faults.Field l c)) next = Field l c w
+unless_refused w (Err (Faults.Owner l)) next = Owner l
+unless_refused w (Ok n) next = next

@@ -1,5 +1,5 @@
 -- Demands 1 and 2: what is certain of the calls' rules, in plain form. Demand 3 is claimed in `runs`. Assumes nothing.
-use Rattle.std.specs.Prelude.{ℕ, ◌+◌, ◌-◌, ◌*◌, ◌≤◌, ◌<◌, ◌≡◌, Bool, true, false, ◌||◌, List, [], ◌∷◌, ◌++◌, map, ◌↔◌, eqb, length, take, drop, get_or, replicate}
+use Rattle.std.specs.Prelude.{ℕ, ◌+◌, ◌-◌, ◌*◌, ◌≤◌, ◌<◌, ◌≡◌, Bool, true, false, ◌||◌, List, [], ◌∷◌, ◌++◌, map, ◌↔◌, eqb, length, take, drop, get_or, replicate, Ok}
 use Rattle.lists.specs.Logic.{on}
 use Rattle.lists.specs.Each.{Each, Bytes}
 use Rattle.lists.specs.Part.{part}
@@ -14,7 +14,6 @@ use Rattle.turbo_lines.specs.Claims.{Short}
 use Rattle.columns.specs.declared.Form.TheVariants.{Old}
 use Rattle.columns.specs.declared.Table.TheVariants as Tables
 use Rattle.reader.specs.Items.{Item}
-use Rattle.reader.specs.declared.Reading.TheVariants.{Rows}
 use Rattle.reader.specs.Rules.{largest, form_bad, wrong_at, owner_bad, data_rows, items_of, reading_of}
 use Rattle.reader.specs.Claims.{Plain}
 use Rattle.feeds.specs.Kept.{feed_of}
@@ -217,7 +216,7 @@ OpenAcceptedExactly =
     (planning calendar book table : List ℕ)
     → let passages = joined (data_rows Tables.Planning (items_of Tables.Planning planning)) (data_rows Tables.Calendar (items_of Tables.Calendar calendar)) in
     (is_accepted (open_answer planning calendar book table) ≡ true)
-    ↔ (((n : ℕ) × (reading_of Tables.Planning [] 0 planning ≡ Rows n)) × ((n : ℕ) × (reading_of Tables.Calendar [] 0 calendar ≡ Rows n))
+    ↔ (((n : ℕ) × (reading_of Tables.Planning [] 0 planning ≡ Ok n)) × ((n : ℕ) × (reading_of Tables.Calendar [] 0 calendar ≡ Ok n))
     × (length passages * plan_wide ≤ book_room book) × Apart passages × (length passages ≤ table_room table))
 
 -- an accepted open writes the plan: from the start of the book an entry of kind 1 for each passage, from the start of the table a row with

@@ -1,5 +1,5 @@
 -- The end of a dossier that came in parts: what is answered, and what becomes of book, table, counts and the feed's numbers. Assumes nothing.
-use Rattle.std.specs.Prelude.{ℕ, ◌-◌, ◌*◌, ◌/◌, Bool, true, false, not, ◌&&◌, ◌||◌, List, [], ◌∷◌, leb, ltb, length, replicate}
+use Rattle.std.specs.Prelude.{ℕ, ◌-◌, ◌*◌, ◌/◌, Bool, true, false, not, ◌&&◌, ◌||◌, List, [], ◌∷◌, leb, ltb, length, replicate, Ok, Err}
 use Rattle.lists.specs.Logic.{on, first_held}
 use Rattle.lists.specs.Rows.{rows_of}
 use Rattle.syntax.specs.Machine.{accepting}
@@ -7,9 +7,8 @@ use Rattle.passage.specs.Layout.{body_wide, owner_of}
 use Rattle.passage.specs.Ranges.{update_in_range}
 use Rattle.columns.specs.Tables.{is_form}
 use Rattle.register.specs.Register.{grants}
-use Rattle.reader.specs.declared.Reading.{Reading}
-use Rattle.reader.specs.declared.Reading.TheVariants as Readings
-use Rattle.reader.specs.Rules.{largest, is_line}
+use Rattle.reader.specs.declared.Fault.TheVariants as Faults
+use Rattle.reader.specs.Rules.{Reading, largest, is_line}
 use Rattle.feeds.specs.declared.Feed.{Feed}
 use Rattle.feeds.specs.Kept.{feed_of, is_begun}
 use Rattle.calls.specs.declared.Answer.{Answer}
@@ -60,15 +59,15 @@ unfoldable pub reading_kept : Feed → Reading
 reading_kept f =
     let s = f.lines in
     first_held
-    ((ltb largest f.at, Readings.TooLong)
-    ∷ (is_line f.fault, Readings.Syntax (f.fault - 1))
-    ∷ (not (accepting f.machine), Readings.Syntax f.at)
-    ∷ (is_line f.long, Readings.Long f.long)
-    ∷ (is_line s.form, Readings.Form s.form)
-    ∷ (is_line s.wrong, Readings.Field s.wrong s.column)
-    ∷ (is_line s.owner, Readings.Owner s.owner)
+    ((ltb largest f.at, Err Faults.TooLong)
+    ∷ (is_line f.fault, Err (Faults.Syntax (f.fault - 1)))
+    ∷ (not (accepting f.machine), Err (Faults.Syntax f.at))
+    ∷ (is_line f.long, Err (Faults.Long f.long))
+    ∷ (is_line s.form, Err (Faults.Form s.form))
+    ∷ (is_line s.wrong, Err (Faults.Field s.wrong s.column))
+    ∷ (is_line s.owner, Err (Faults.Owner s.owner))
     ∷ [])
-    (Readings.Rows s.rows)
+    (Ok s.rows)
 
 -- 6 with line 0 by the register that is lent now, 14, then 7, 8 or acceptance
 unfoldable pub post_answer : List ℕ → List ℕ → List ℕ → List ℕ → Counts → Feed → Answer

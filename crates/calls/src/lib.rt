@@ -7,7 +7,7 @@ ghost use Rattle.calls.specs.Answers.{numbers};
 ghost use Rattle.calls.specs.Leaves.{counts_of, outcome_of};
 ghost use Rattle.calls.specs.inner.Steps.{four_of, passed_of};
 
-use reader::Reading;
+use reader::Fault;
 
 // What a call answers. `dossier` is 1 for the planning, 2 for the calendar, 0 for a message.
 #[derive(Clone, Copy)]
@@ -61,25 +61,18 @@ pub fn accepted(number: u32, used: usize, rows: usize) -> Outcome
     }
 }
 
-// What comes of a dossier that was read: on with so many rows, or off with a refusal.
-#[derive(Clone, Copy)]
-pub enum Next {
-    On(usize),
-    Off(Answer),
-}
-
 // A dossier's refusal 2 to 6 or 15 as the call's own answer, or its rows.
-pub fn passed(reading: Reading, dossier: u8) -> Next
+pub fn passed(reading: Result<usize, Fault>, dossier: u8) -> Result<usize, Answer>
     ensures { result ≡ passed_of dossier reading }
 {
     match reading {
-        Reading::TooLong => Next::Off(Answer::TooLong(dossier)),
-        Reading::Syntax(at) => Next::Off(Answer::Syntax(at, dossier)),
-        Reading::Long(line) => Next::Off(Answer::Long(line, dossier)),
-        Reading::Form(line) => Next::Off(Answer::Form(line, dossier)),
-        Reading::Field(line, column) => Next::Off(Answer::Field(line, column, dossier)),
-        Reading::Owner(line) => Next::Off(Answer::Owner(line)),
-        Reading::Rows(count) => Next::On(count),
+        Ok(count) => Ok(count),
+        Err(Fault::TooLong) => Err(Answer::TooLong(dossier)),
+        Err(Fault::Syntax(at)) => Err(Answer::Syntax(at, dossier)),
+        Err(Fault::Long(line)) => Err(Answer::Long(line, dossier)),
+        Err(Fault::Form(line)) => Err(Answer::Form(line, dossier)),
+        Err(Fault::Field(line, column)) => Err(Answer::Field(line, column, dossier)),
+        Err(Fault::Owner(line)) => Err(Answer::Owner(line)),
     }
 }
 

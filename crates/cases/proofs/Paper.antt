@@ -5,6 +5,7 @@ use mathlib.Core.Path.{◌≡◌, refl, ap, ◌∙◌}
 use mathlib.Core.List.{List, [], ◌∷◌, ◌++◌}
 use borrow.Author.Tests.{le-leb}
 use lib.ListN.{length}
+use Rattle.std.specs.Prelude.{Ok, Err}
 use Rattle.lists.specs.Text.{bytes}
 use Rattle.lists.proofs.RowLaws.{length-rows_of}
 use Rattle.syntax.specs.Machine.{field_step, escape_step, first_escape_step, null_step, return_step, start_step, mark_step, step, accepting, run, fault}
@@ -14,7 +15,7 @@ use Rattle.turbo_lines.specs.Lines.{lines_from, first_long, mark_of, after_mark}
 use Rattle.turbo.specs.Cases as Turbo
 use Rattle.field_types.specs.Cases as Fields
 use Rattle.passage.specs.Layout.{row_wide}
-use Rattle.reader.specs.declared.Reading.TheVariants.{Rows, Syntax as SyntaxAt}
+use Rattle.reader.specs.declared.Fault.TheVariants.{Syntax as SyntaxAt}
 use Rattle.reader.specs.Items.{items}
 use Rattle.reader.specs.Rules.{first_line, first_column, data_rows, answer_to, reading_of}
 use Rattle.keys.specs.Replay.{taken_all}
@@ -34,7 +35,7 @@ p5 = (refl, refl)
 
 -- ---- no bytes
 
-nothing_read : (form : ℕ) (register : List ℕ) (sender : ℕ) → reading_of (message_table form) register sender [] ≡ SyntaxAt 0
+nothing_read : (form : ℕ) (register : List ℕ) (sender : ℕ) → reading_of (message_table form) register sender [] ≡ Err (SyntaxAt 0)
 unfolding reading_of fault run accepting
 nothing_read form register sender = refl
 
@@ -47,7 +48,7 @@ p10 register book table sender form c s k = rw (s, le-leb form 1 k, nothing_read
 abbrev group : List ℕ
 group = bytes "\\G" ++ 13 ∷ 10 ∷ []
 
-group-read : (form : ℕ) (register : List ℕ) (sender : ℕ) → reading_of (message_table form) register sender group ≡ Rows 0
+group-read : (form : ℕ) (register : List ℕ) (sender : ℕ) → reading_of (message_table form) register sender group ≡ Ok 0
 unfolding reading_of fault run accepting step mark_step start_step return_step null_step first_escape_step escape_step field_step answer_to first_line first_column data_rows items lines_from first_long mark_of after_mark until past
 group-read form register sender = refl
 

@@ -5,12 +5,12 @@ use mathlib.Core.Bool.{Bool, true, false, ◌||◌}
 use mathlib.Core.List.{List, [], ◌∷◌}
 use lib.Dec.{eqb, leb}
 use lib.ListN.{length}
+use Rattle.std.specs.Prelude.{Ok, Err}
 use Rattle.lists.specs.Logic.{on, within}
 use Rattle.columns.specs.Tables.{is_form}
 use Rattle.columns.specs.declared.Table.TheVariants as Tables
-use Rattle.reader.specs.declared.Reading.{Reading}
-use Rattle.reader.specs.declared.Reading.TheVariants as Readings
-use Rattle.reader.specs.Rules.{reading_of}
+use Rattle.reader.specs.declared.Fault.TheVariants as Faults
+use Rattle.reader.specs.Rules.{Reading, reading_of}
 use Rattle.table.specs.Rules.{table_room}
 use Rattle.keys.specs.Sorted.{put_all}
 use Rattle.book.specs.Entries.{plan_wide, sender_of, kind_of, updates_in}
@@ -34,13 +34,13 @@ Named a = (is_one_of (1 ∷ 2 ∷ []) (numbers a).3 ≡ (within 2 5 (numbers a).
 
 -- w is a dossier's number
 reading-named : (w : ℕ) → (is_one_of (1 ∷ 2 ∷ []) w ≡ true) × (is_one_of (0 ∷ 1 ∷ 2 ∷ []) w ≡ true) → (r : Reading) (next : Answer) → Named next → Named (unless_refused w r next)
-reading-named w p Readings.TooLong next h = p
-reading-named w p (Readings.Syntax i) next h = p
-reading-named w p (Readings.Long l) next h = p
-reading-named w p (Readings.Form l) next h = p
-reading-named w p (Readings.Field l c) next h = p
-reading-named w p (Readings.Owner l) next h = (refl, refl)
-reading-named w p (Readings.Rows n) next h = h
+reading-named w p (Err Faults.TooLong) next h = p
+reading-named w p (Err (Faults.Syntax i)) next h = p
+reading-named w p (Err (Faults.Long l)) next h = p
+reading-named w p (Err (Faults.Form l)) next h = p
+reading-named w p (Err (Faults.Field l c)) next h = p
+reading-named w p (Err (Faults.Owner l)) next h = (refl, refl)
+reading-named w p (Ok n) next h = h
 
 room-named : (p q r : Bool) → Named (on p (on q (on r (Accepted 0) TableShort) KeyTwice) BookShort)
 room-named true true true = (refl, refl)
@@ -70,13 +70,13 @@ known-none true a h = h
 known-none false a h = refl
 
 reading-none : (r : Reading) (next : Answer) → None next → None (unless_refused 0 r next)
-reading-none Readings.TooLong next h = refl
-reading-none (Readings.Syntax i) next h = refl
-reading-none (Readings.Long l) next h = refl
-reading-none (Readings.Form l) next h = refl
-reading-none (Readings.Field l c) next h = refl
-reading-none (Readings.Owner l) next h = refl
-reading-none (Readings.Rows n) next h = h
+reading-none (Err Faults.TooLong) next h = refl
+reading-none (Err (Faults.Syntax i)) next h = refl
+reading-none (Err (Faults.Long l)) next h = refl
+reading-none (Err (Faults.Form l)) next h = refl
+reading-none (Err (Faults.Field l c)) next h = refl
+reading-none (Err (Faults.Owner l)) next h = refl
+reading-none (Ok n) next h = h
 
 rooms-none : (p q : Bool) (n : ℕ) → None (on p (on q (Accepted n) TableShort) BookShort)
 rooms-none true true n = refl

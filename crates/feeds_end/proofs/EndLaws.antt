@@ -8,13 +8,14 @@ use mathlib.Core.List.{List}
 use borrow.Author.Tests.{le-leb, lt-leb, leb-true, leb-false, lt-ltb, le-ltb, ne_eqb}
 use lib.Dec.{eqb, leb, ltb}
 use lib.ListN.{length, drop, get_or}
+use Rattle.std.specs.Prelude.{Ok, Err}
 use Rattle.lists.specs.Logic.{on}
 use Rattle.lists.specs.Rows.{rows_of}
 use Rattle.lists.proofs.LogicLaws.{and-pass, and-false}
 use Rattle.syntax.specs.Machine.{accepting}
 use Rattle.passage.specs.Layout.{body_wide}
 use Rattle.columns.specs.Tables.{is_form}
-use Rattle.reader.specs.declared.Reading.TheVariants as Readings
+use Rattle.reader.specs.declared.Fault.TheVariants as Faults
 use Rattle.reader.specs.Rules.{largest}
 use Rattle.feeds.specs.declared.Feed.{Feed}
 use Rattle.feeds.specs.declared.Kept.{Kept}
@@ -24,7 +25,6 @@ use Rattle.calls.specs.declared.Answer.{Answer}
 use Rattle.calls.specs.declared.Answer.TheVariants.{Unsound, Owner, StagingShort, UnknownForm}
 use Rattle.calls.specs.declared.Counts.{Counts}
 use Rattle.calls.specs.declared.Outcome.{Outcome}
-use Rattle.calls.specs.declared.Next.TheVariants.{Off}
 use Rattle.calls.specs.Answers.{is_accepted}
 use Rattle.calls.specs.Leaves.{Leaves, outcome_of, leaves}
 use Rattle.calls.specs.Message.{message_sound, room_for, taken_by}
@@ -37,31 +37,31 @@ use Rattle.feeds_end.specs.inner.Steps.{lines_reading, staged_right, found_or, k
 -- ---- what was found in the parts
 
 module _ (f : Feed) where
-  pub lines_long : (f.long ≡ 0 → ⊥) → Readings.Long f.long ≡ lines_reading f
+  pub lines_long : (f.long ≡ 0 → ⊥) → Err (Faults.Long f.long) ≡ lines_reading f
   unfolding lines_reading
   lines_long l = rw (ne_eqb f.long 0 l)
 
-  pub lines-form : f.long ≡ 0 → (f.lines.form ≡ 0 → ⊥) → Readings.Form f.lines.form ≡ lines_reading f
+  pub lines-form : f.long ≡ 0 → (f.lines.form ≡ 0 → ⊥) → Err (Faults.Form f.lines.form) ≡ lines_reading f
   unfolding lines_reading
   lines-form l m = rw (l, ne_eqb f.lines.form 0 m)
 
-  pub lines-field : f.long ≡ 0 → f.lines.form ≡ 0 → (f.lines.wrong ≡ 0 → ⊥) → Readings.Field f.lines.wrong f.lines.column ≡ lines_reading f
+  pub lines-field : f.long ≡ 0 → f.lines.form ≡ 0 → (f.lines.wrong ≡ 0 → ⊥) → Err (Faults.Field f.lines.wrong f.lines.column) ≡ lines_reading f
   unfolding lines_reading
   lines-field l m w = rw (l, m, ne_eqb f.lines.wrong 0 w)
 
-  pub lines-owner : f.long ≡ 0 → f.lines.form ≡ 0 → f.lines.wrong ≡ 0 → (f.lines.owner ≡ 0 → ⊥) → Readings.Owner f.lines.owner ≡ lines_reading f
+  pub lines-owner : f.long ≡ 0 → f.lines.form ≡ 0 → f.lines.wrong ≡ 0 → (f.lines.owner ≡ 0 → ⊥) → Err (Faults.Owner f.lines.owner) ≡ lines_reading f
   unfolding lines_reading
   lines-owner l m w o = rw (l, m, w, ne_eqb f.lines.owner 0 o)
 
-  pub lines_rows : f.long ≡ 0 → f.lines.form ≡ 0 → f.lines.wrong ≡ 0 → f.lines.owner ≡ 0 → Readings.Rows f.lines.rows ≡ lines_reading f
+  pub lines_rows : f.long ≡ 0 → f.lines.form ≡ 0 → f.lines.wrong ≡ 0 → f.lines.owner ≡ 0 → Ok f.lines.rows ≡ lines_reading f
   unfolding lines_reading
   lines_rows l m w o = rw (l, m, w, o)
 
-  pub kept-long : largest < f.at → Readings.TooLong ≡ reading_kept f
+  pub kept-long : largest < f.at → Err Faults.TooLong ≡ reading_kept f
   unfolding reading_kept
   kept-long h = rw (lt-ltb largest f.at h)
 
-  pub kept-fault : f.at ≤ largest → (f.fault ≡ 0 → ⊥) → Readings.Syntax (f.fault - 1) ≡ reading_kept f
+  pub kept-fault : f.at ≤ largest → (f.fault ≡ 0 → ⊥) → Err (Faults.Syntax (f.fault - 1)) ≡ reading_kept f
   unfolding reading_kept
   kept-fault h e = rw (le-ltb largest f.at h, ne_eqb f.fault 0 e)
 
@@ -69,7 +69,7 @@ module _ (f : Feed) where
   unfolding reading_kept lines_reading
   kept-lines h e a = rw (le-ltb largest f.at h, e, a)
 
-  pub kept-unfinished : f.at ≤ largest → f.fault ≡ 0 → accepting f.machine ≡ false → Readings.Syntax f.at ≡ reading_kept f
+  pub kept-unfinished : f.at ≤ largest → f.fault ≡ 0 → accepting f.machine ≡ false → Err (Faults.Syntax f.at) ≡ reading_kept f
   unfolding reading_kept
   kept-unfinished h e a = rw (le-ltb largest f.at h, e, a)
 
@@ -136,14 +136,14 @@ module _ (register staging book table : List ℕ) (c : Counts) where
     post-taken d s r b t h = rw (post_is false false d s) (h ∙ ap (λ (bs : List (List ℕ)). taken_by (room_for bs book table c) bs f.sender book table c) is)
 
   module _ (f : Feed) where
-    pub found : (a : Answer) → passed_of 0 (reading_kept f) ≡ Off a → (r : Outcome) → r ≡ outcome_of a c
+    pub found : (a : Answer) → passed_of 0 (reading_kept f) ≡ Err a → (r : Outcome) → r ≡ outcome_of a c
         → leaves r book table ≡ taken_from (found_or register staging book table c f) f staging book table c
     unfolding found_or
     found a e r h =
         let off = passed-off 0 (reading_kept f) a e (post_answer register staging book table c f) in
         refused f _ a off.0 off.1 r h
 
-    pub posted : (n : ℕ) → reading_kept f ≡ Readings.Rows n → (l : Leaves) → l ≡ taken_from (post_answer register staging book table c f) f staging book table c
+    pub posted : (n : ℕ) → reading_kept f ≡ Ok n → (l : Leaves) → l ≡ taken_from (post_answer register staging book table c f) f staging book table c
         → l ≡ taken_from (found_or register staging book table c f) f staging book table c
     unfolding found_or
     posted n e l h = rw e h

@@ -13,9 +13,9 @@ ghost use Rattle.calls.specs.End.{most_rows, least, all_in_range, any_denied, re
 ghost use Rattle.calls.specs.Numbers.{end_numbers};
 ghost use Rattle.feeds_end.specs.inner.Steps.{lines_reading, staged_right, found_or, known_or, right_answer, taken_from};
 
-use calls::{Answer, Counts, Next, Outcome};
+use calls::{Answer, Counts, Outcome};
 use feeds::{Feed, Kept};
-use reader::Reading;
+use reader::Fault;
 
 // No message has more rows.
 const MOST_ROWS: usize = 2427;
@@ -23,40 +23,40 @@ const MOST_ROWS: usize = 2427;
 // ---- what was found in the parts
 
 // 15, 4, 5, 6, or so many rows.
-fn lines_reading(feed: Feed) -> Reading
+fn lines_reading(feed: Feed) -> Result<usize, Fault>
     ensures { result ≡ lines_reading feed }
 {
     let lines = feed.lines;
     if feed.long != 0 {
-        return Reading::Long(feed.long);
+        return Err(Fault::Long(feed.long));
     }
     if lines.form != 0 {
-        return Reading::Form(lines.form);
+        return Err(Fault::Form(lines.form));
     }
     if lines.wrong != 0 {
-        return Reading::Field(lines.wrong, lines.column);
+        return Err(Fault::Field(lines.wrong, lines.column));
     }
     if lines.owner != 0 {
-        return Reading::Owner(lines.owner);
+        return Err(Fault::Owner(lines.owner));
     }
-    Reading::Rows(lines.rows)
+    Ok(lines.rows)
 }
 
 // 2 and 3 before them. A dossier that is not finished has its fault where it ends.
-fn reading_kept(feed: Feed) -> Reading
+fn reading_kept(feed: Feed) -> Result<usize, Fault>
     ensures { result ≡ reading_kept feed }
 {
     let machine = feed.machine;
     if 65536 < feed.at {
-        return Reading::TooLong;
+        return Err(Fault::TooLong);
     }
     if feed.fault != 0 {
-        return Reading::Syntax(feed.fault - 1);
+        return Err(Fault::Syntax(feed.fault - 1));
     }
     if syntax_bytewise::may_end(machine) {
         return lines_reading(feed);
     }
-    Reading::Syntax(feed.at)
+    Err(Fault::Syntax(feed.at))
 }
 
 // ---- the staged rows
@@ -195,8 +195,8 @@ fn end_read(
         feed staging.now book.old table.old counts }
 {
     match calls::passed(reading_kept(feed), 0) {
-        Next::On(_) => post(feed, register, staging, book, table, counts),
-        Next::Off(answer) => calls::unchanged(answer, counts),
+        Ok(_) => post(feed, register, staging, book, table, counts),
+        Err(answer) => calls::unchanged(answer, counts),
     }
 }
 

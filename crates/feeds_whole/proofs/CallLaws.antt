@@ -7,6 +7,7 @@ use mathlib.Core.Logic.{◌↔◌}
 use borrow.Author.Tests.{lt-ltb, ltb-true, ltb-false, leb-true, le-leb}
 use lib.Dec.{leb, ltb}
 use lib.ListN.{length}
+use Rattle.std.specs.Prelude.{Ok, Err}
 use Rattle.lists.specs.Logic.{on}
 use Rattle.lists.specs.Rows.{flat}
 use Rattle.table.specs.Rules.{table_room}
@@ -14,9 +15,8 @@ use Rattle.book.specs.Entries.{entry_wide}
 use Rattle.book.specs.Rules.{book_room}
 use Rattle.passage.specs.Layout.{body_wide}
 use Rattle.columns.specs.Tables.{is_form}
-use Rattle.reader.specs.declared.Reading.{Reading}
-use Rattle.reader.specs.declared.Reading.TheVariants as Readings
-use Rattle.reader.specs.Rules.{reading_of}
+use Rattle.reader.specs.declared.Fault.TheVariants as Faults
+use Rattle.reader.specs.Rules.{Reading, reading_of}
 use Rattle.reader.proofs.AnswerLaws.{rows-counted}
 use Rattle.feeds.specs.declared.Feed.{Feed}
 use Rattle.feeds.specs.Feed.{Fed, fed}
@@ -45,43 +45,43 @@ answer_by sound known r short next = on sound (on known (unless_refused 0 r (on 
 but-fourteen : (s k : Bool) (r : Reading) (short : Bool) (a : Answer) → ((numbers (answer_by s k r short a)).0 ≡ 14 → ⊥) → answer_by s k r short a ≡ on s (on k (unless_refused 0 r a) UnknownForm) Unsound
 but-fourteen false k r short a h = refl
 but-fourteen true false r short a h = refl
-but-fourteen true true Readings.TooLong short a h = refl
-but-fourteen true true (Readings.Syntax i) short a h = refl
-but-fourteen true true (Readings.Long l) short a h = refl
-but-fourteen true true (Readings.Form l) short a h = refl
-but-fourteen true true (Readings.Field l c) short a h = refl
-but-fourteen true true (Readings.Owner l) short a h = refl
-but-fourteen true true (Readings.Rows n) true a h = absurd (h refl)
-but-fourteen true true (Readings.Rows n) false a h = refl
+but-fourteen true true (Err Faults.TooLong) short a h = refl
+but-fourteen true true (Err (Faults.Syntax i)) short a h = refl
+but-fourteen true true (Err (Faults.Long l)) short a h = refl
+but-fourteen true true (Err (Faults.Form l)) short a h = refl
+but-fourteen true true (Err (Faults.Field l c)) short a h = refl
+but-fourteen true true (Err (Faults.Owner l)) short a h = refl
+but-fourteen true true (Ok n) true a h = absurd (h refl)
+but-fourteen true true (Ok n) false a h = refl
 
 fourteen : (s k : Bool) (r : Reading) (short : Bool) (a : Answer) → ((numbers a).0 ≡ 14 → ⊥) → (numbers (answer_by s k r short a)).0 ≡ 14
-    → (s ≡ true) × (k ≡ true) × ((n : ℕ) × (r ≡ Readings.Rows n)) × (short ≡ true)
+    → (s ≡ true) × (k ≡ true) × ((n : ℕ) × (r ≡ Ok n)) × (short ≡ true)
 fourteen false k r short a h e = absurd (omega arith)
 fourteen true false r short a h e = absurd (omega arith)
-fourteen true true Readings.TooLong short a h e = absurd (omega arith)
-fourteen true true (Readings.Syntax i) short a h e = absurd (omega arith)
-fourteen true true (Readings.Long l) short a h e = absurd (omega arith)
-fourteen true true (Readings.Form l) short a h e = absurd (omega arith)
-fourteen true true (Readings.Field l c) short a h e = absurd (omega arith)
-fourteen true true (Readings.Owner l) short a h e = absurd (omega arith)
-fourteen true true (Readings.Rows n) true a h e = (refl, refl, (n, refl), refl)
-fourteen true true (Readings.Rows n) false a h e = absurd (h e)
+fourteen true true (Err Faults.TooLong) short a h e = absurd (omega arith)
+fourteen true true (Err (Faults.Syntax i)) short a h e = absurd (omega arith)
+fourteen true true (Err (Faults.Long l)) short a h e = absurd (omega arith)
+fourteen true true (Err (Faults.Form l)) short a h e = absurd (omega arith)
+fourteen true true (Err (Faults.Field l c)) short a h e = absurd (omega arith)
+fourteen true true (Err (Faults.Owner l)) short a h e = absurd (omega arith)
+fourteen true true (Ok n) true a h e = (refl, refl, (n, refl), refl)
+fourteen true true (Ok n) false a h e = absurd (h e)
 
-fourteen-back : (s k : Bool) (r : Reading) (short : Bool) (a : Answer) (n : ℕ) → s ≡ true → k ≡ true → r ≡ Readings.Rows n → short ≡ true → (numbers (answer_by s k r short a)).0 ≡ 14
+fourteen-back : (s k : Bool) (r : Reading) (short : Bool) (a : Answer) (n : ℕ) → s ≡ true → k ≡ true → r ≡ Ok n → short ≡ true → (numbers (answer_by s k r short a)).0 ≡ 14
 fourteen-back s k r short a n p o q t = rw (p, o, q, t) refl
 
 -- accepted only where nothing is refused
-accepted-by : (s k : Bool) (r : Reading) (short : Bool) (a : Answer) → is_accepted (answer_by s k r short a) ≡ true → ((n : ℕ) × (r ≡ Readings.Rows n)) × (short ≡ false)
+accepted-by : (s k : Bool) (r : Reading) (short : Bool) (a : Answer) → is_accepted (answer_by s k r short a) ≡ true → ((n : ℕ) × (r ≡ Ok n)) × (short ≡ false)
 accepted-by false k r short a e = absurd (let z : ◌≡◌ {A = ℕ} 0 1 = cc in omega arith)
 accepted-by true false r short a e = absurd (let z : ◌≡◌ {A = ℕ} 0 1 = cc in omega arith)
-accepted-by true true Readings.TooLong short a e = absurd (let z : ◌≡◌ {A = ℕ} 0 1 = cc in omega arith)
-accepted-by true true (Readings.Syntax i) short a e = absurd (let z : ◌≡◌ {A = ℕ} 0 1 = cc in omega arith)
-accepted-by true true (Readings.Long l) short a e = absurd (let z : ◌≡◌ {A = ℕ} 0 1 = cc in omega arith)
-accepted-by true true (Readings.Form l) short a e = absurd (let z : ◌≡◌ {A = ℕ} 0 1 = cc in omega arith)
-accepted-by true true (Readings.Field l c) short a e = absurd (let z : ◌≡◌ {A = ℕ} 0 1 = cc in omega arith)
-accepted-by true true (Readings.Owner l) short a e = absurd (let z : ◌≡◌ {A = ℕ} 0 1 = cc in omega arith)
-accepted-by true true (Readings.Rows n) true a e = absurd (let z : ◌≡◌ {A = ℕ} 0 1 = cc in omega arith)
-accepted-by true true (Readings.Rows n) false a e = ((n, refl), refl)
+accepted-by true true (Err Faults.TooLong) short a e = absurd (let z : ◌≡◌ {A = ℕ} 0 1 = cc in omega arith)
+accepted-by true true (Err (Faults.Syntax i)) short a e = absurd (let z : ◌≡◌ {A = ℕ} 0 1 = cc in omega arith)
+accepted-by true true (Err (Faults.Long l)) short a e = absurd (let z : ◌≡◌ {A = ℕ} 0 1 = cc in omega arith)
+accepted-by true true (Err (Faults.Form l)) short a e = absurd (let z : ◌≡◌ {A = ℕ} 0 1 = cc in omega arith)
+accepted-by true true (Err (Faults.Field l c)) short a e = absurd (let z : ◌≡◌ {A = ℕ} 0 1 = cc in omega arith)
+accepted-by true true (Err (Faults.Owner l)) short a e = absurd (let z : ◌≡◌ {A = ℕ} 0 1 = cc in omega arith)
+accepted-by true true (Ok n) true a e = absurd (let z : ◌≡◌ {A = ℕ} 0 1 = cc in omega arith)
+accepted-by true true (Ok n) false a e = ((n, refl), refl)
 
 room-never : (bodies : List (List ℕ)) (book table : List ℕ) (c : Counts) → (numbers (room_for bodies book table c)).0 ≡ 14 → ⊥
 unfolding room_for
@@ -164,21 +164,21 @@ module _ (parts : List (List ℕ)) (register line staging book table : List ℕ)
       ∙ taken-same said (staged_rows m.staging (feed_of m.kept)) (message_rows form d) sender book table c rows_same
       ∙ ap (λ (a : Answer). taken_by a (message_rows form d) sender book table c) (but-fourteen (message_sound register book table c) (is_form form) (reading_of (message_table form) register sender d) short (room_for (message_rows form d) book table c) h)
 
-  rows-n : (n : ℕ) → reading_of (message_table form) register sender d ≡ Readings.Rows n → n ≡ length (message_rows form d)
+  rows-n : (n : ℕ) → reading_of (message_table form) register sender d ≡ Ok n → n ≡ length (message_rows form d)
   unfolding message_rows
   rows-n n e = rows-counted (message_table form) register sender d n e
 
   fourteen-exactly : ((numbers said).0 ≡ 14)
-      ↔ ((message_sound register book table c ≡ true) × (form ≤ 1) × ((n : ℕ) × (reading_of (message_table form) register sender d ≡ Readings.Rows n) × (length staging / body_wide < n)))
+      ↔ ((message_sound register book table c ≡ true) × (form ≤ 1) × ((n : ℕ) × (reading_of (message_table form) register sender d ≡ Ok n) × (length staging / body_wide < n)))
   fourteen-exactly = (to, back)
     where
-      to : (numbers said).0 ≡ 14 → (message_sound register book table c ≡ true) × (form ≤ 1) × ((n : ℕ) × (reading_of (message_table form) register sender d ≡ Readings.Rows n) × (length staging / body_wide < n))
+      to : (numbers said).0 ≡ 14 → (message_sound register book table c ≡ true) × (form ≤ 1) × ((n : ℕ) × (reading_of (message_table form) register sender d ≡ Ok n) × (length staging / body_wide < n))
       to e =
           let k = fourteen (message_sound register book table c) (is_form form) (reading_of (message_table form) register sender d) short (room_for (message_rows form d) book table c) (room-never (message_rows form d) book table c) e in
           let more : length staging / body_wide < length (message_rows form d) = ltb-true (length staging / body_wide) (length (message_rows form d)) k.3 in
           (k.0, leb-true _ _ k.1, (k.2.0, k.2.1, omega (arith, more, rows-n k.2.0 k.2.1)))
 
-      back : (message_sound register book table c ≡ true) × (form ≤ 1) × ((n : ℕ) × (reading_of (message_table form) register sender d ≡ Readings.Rows n) × (length staging / body_wide < n)) → (numbers said).0 ≡ 14
+      back : (message_sound register book table c ≡ true) × (form ≤ 1) × ((n : ℕ) × (reading_of (message_table form) register sender d ≡ Ok n) × (length staging / body_wide < n)) → (numbers said).0 ≡ 14
       back (s, o, (n, r, more)) =
           fourteen-back (message_sound register book table c) (is_form form) (reading_of (message_table form) register sender d) short (room_for (message_rows form d) book table c) n s (le-leb _ _ o) r
           (lt-ltb (length staging / body_wide) (length (message_rows form d)) (omega (arith, more, rows-n n r)))

@@ -30,10 +30,9 @@ use Rattle.columns.specs.declared.Table.TheVariants.{Message}
 use Rattle.columns.specs.Tables.{is_form, form_of, row_width, row_of}
 use Rattle.columns.proofs.FormLaws.{message-wide}
 use Rattle.register.specs.Register.{grants}
-use Rattle.reader.specs.declared.Reading.{Reading}
-use Rattle.reader.specs.declared.Reading.TheVariants as Readings
+use Rattle.reader.specs.declared.Fault.TheVariants as Faults
 use Rattle.reader.specs.Items.{Item, head, row, outside, items}
-use Rattle.reader.specs.Rules.{largest, form_bad, is_wrong, faults, fault_place, is_line, items_of, answer_to, reading_of}
+use Rattle.reader.specs.Rules.{Reading, largest, form_bad, is_wrong, faults, fault_place, is_line, items_of, answer_to, reading_of}
 use Rattle.reader.specs.Staging.{fine, rows_up_to, laid}
 use Rattle.reader.specs.inner.Settled.{answered_by, unless_long}
 use Rattle.reader.proofs.RangeLaws.{rows-in-range}
@@ -113,36 +112,36 @@ rows-granted f register sender (row n ls l ∷ xs) = go (grants register sender 
 
 -- where the verdict is fine what comes next is the same
 verdict-same : (b a : Bool) (n at : ℕ) (v : Result ⊤ ℕ) (x y : Reading) → on b (on a (Ok tt) (Err at)) (Err (n - 1)) ≡ v → (v ≡ Ok tt → x ≡ y)
-    → on (not b) (Readings.Syntax (n - 1)) (on (not a) (Readings.Syntax at) x) ≡ on (faults v) (Readings.Syntax (fault_place v)) y
-verdict-same false a n at v x y e h = ap (λ (u : Result ⊤ ℕ). on (faults u) (Readings.Syntax (fault_place u)) y) e
-verdict-same true false n at v x y e h = ap (λ (u : Result ⊤ ℕ). on (faults u) (Readings.Syntax (fault_place u)) y) e
-verdict-same true true n at v x y e h = h (sym e) ∙ ap (λ (u : Result ⊤ ℕ). on (faults u) (Readings.Syntax (fault_place u)) y) e
+    → on (not b) (Err (Faults.Syntax (n - 1))) (on (not a) (Err (Faults.Syntax at)) x) ≡ on (faults v) (Err (Faults.Syntax (fault_place v))) y
+verdict-same false a n at v x y e h = ap (λ (u : Result ⊤ ℕ). on (faults u) (Err (Faults.Syntax (fault_place u))) y) e
+verdict-same true false n at v x y e h = ap (λ (u : Result ⊤ ℕ). on (faults u) (Err (Faults.Syntax (fault_place u))) y) e
+verdict-same true true n at v x y e h = h (sym e) ∙ ap (λ (u : Result ⊤ ℕ). on (faults u) (Err (Faults.Syntax (fault_place u))) y) e
 
 long-then : (long : ℕ) (x y : Reading) → (long ≡ 0 → x ≡ y) → unless_long long x ≡ unless_long long y
 long-then long x y h = go (eqb long 0) refl
   where
-    go : (b : Bool) → eqb long 0 ≡ b → on (not b) (Readings.Long long) x ≡ on (not b) (Readings.Long long) y
+    go : (b : Bool) → eqb long 0 ≡ b → on (not b) (Err (Faults.Long long)) x ≡ on (not b) (Err (Faults.Long long)) y
     go true e = h (eqb-true long 0 e)
     go false e = refl
 
-answered-rows : (form line column owner rows n : ℕ) → answered_by form line column owner rows ≡ Readings.Rows n → rows ≡ n
+answered-rows : (form line column owner rows n : ℕ) → answered_by form line column owner rows ≡ Ok n → rows ≡ n
 answered-rows form line column owner rows n = go (not (eqb form 0)) (not (eqb line 0)) (not (eqb owner 0))
   where
-    go : (a b c : Bool) → on a (Readings.Form form) (on b (Readings.Field line column) (on c (Readings.Owner owner) (Readings.Rows rows))) ≡ Readings.Rows n → rows ≡ n
+    go : (a b c : Bool) → on a (Err (Faults.Form form)) (on b (Err (Faults.Field line column)) (on c (Err (Faults.Owner owner)) (Ok rows))) ≡ Ok n → rows ≡ n
     go true b c e = absurd (let z : ◌≡◌ {A = ℕ} 0 1 = cc in omega arith)
     go false true c e = absurd (let z : ◌≡◌ {A = ℕ} 0 1 = cc in omega arith)
     go false false true e = absurd (let z : ◌≡◌ {A = ℕ} 0 1 = cc in omega arith)
     go false false false e = cc
 
 -- a refusal of the dossier, or what comes next
-next-same : (r : Reading) (x y : Answer) → ((n : ℕ) → r ≡ Readings.Rows n → x ≡ y) → unless_refused 0 r x ≡ unless_refused 0 r y
-next-same Readings.TooLong x y h = refl
-next-same (Readings.Syntax i) x y h = refl
-next-same (Readings.Long l) x y h = refl
-next-same (Readings.Form l) x y h = refl
-next-same (Readings.Field l c) x y h = refl
-next-same (Readings.Owner l) x y h = refl
-next-same (Readings.Rows n) x y h = h n refl
+next-same : (r : Reading) (x y : Answer) → ((n : ℕ) → r ≡ Ok n → x ≡ y) → unless_refused 0 r x ≡ unless_refused 0 r y
+next-same (Err Faults.TooLong) x y h = refl
+next-same (Err (Faults.Syntax i)) x y h = refl
+next-same (Err (Faults.Long l)) x y h = refl
+next-same (Err (Faults.Form l)) x y h = refl
+next-same (Err (Faults.Field l c)) x y h = refl
+next-same (Err (Faults.Owner l)) x y h = refl
+next-same (Ok n) x y h = h n refl
 
 -- ---- the least of two
 
@@ -246,9 +245,9 @@ module _ (register : List ℕ) (sender form : ℕ) (staging d : List ℕ) (y : F
   reading-is = go (ltb largest (length d)) refl
     where
       go : (b : Bool) → ltb largest (length d) ≡ b
-          → on (ltb largest y.feed.at) Readings.TooLong (on (is_line y.feed.fault) (Readings.Syntax (y.feed.fault - 1)) (on (not (accepting y.feed.machine)) (Readings.Syntax y.feed.at) later))
-          ≡ on b Readings.TooLong
-          (on (faults (fault d)) (Readings.Syntax (fault_place (fault d))) (unless_long (first_long 1 (lines d)) (answer_to (message_table form) register sender (items_of (message_table form) d))))
+          → on (ltb largest y.feed.at) (Err Faults.TooLong) (on (is_line y.feed.fault) (Err (Faults.Syntax (y.feed.fault - 1))) (on (not (accepting y.feed.machine)) (Err (Faults.Syntax y.feed.at)) later))
+          ≡ on b (Err Faults.TooLong)
+          (on (faults (fault d)) (Err (Faults.Syntax (fault_place (fault d)))) (unless_long (first_long 1 (lines d)) (answer_to (message_table form) register sender (items_of (message_table form) d))))
       go true e = rw (lt-ltb largest y.feed.at (whole.over (ltb-true largest (length d) e))) refl
       go false e =
           let small : length d ≤ largest = ltb-false largest (length d) e in
@@ -264,7 +263,7 @@ module _ (register : List ℕ) (sender form : ℕ) (staging d : List ℕ) (y : F
         ∙ rw (begun, few-rows, in-range) (and-true (message_sound register book table c))
 
     -- where nothing is refused in the dossier
-    module _ (n : ℕ) (e : reading_of (message_table form) register sender d ≡ Readings.Rows n) where
+    module _ (n : ℕ) (e : reading_of (message_table form) register sender d ≡ Ok n) where
       short-lines : first_long 1 (lines d) ≡ 0
       short-lines = let k = reading-looked (message_table form) register sender d n e in none_found (lines d) k.2
         where

@@ -8,6 +8,7 @@ use mathlib.Core.List.{List, [], ◌∷◌}
 use borrow.Author.Tests.{le-ltb, le-leb, leb-true, leb-false, ltb-true, ltb-false, eq-eqb, ne_eqb, eqb-true, eqb-false}
 use lib.Dec.{eqb, leb, ltb}
 use lib.ListN.{length, length-append}
+use Rattle.std.specs.Prelude.{Err}
 use Rattle.lists.specs.Logic.{on}
 use Rattle.lists.proofs.LogicLaws.{and-false}
 use Rattle.lists.proofs.OverLaws.{length_over}
@@ -27,7 +28,7 @@ use Rattle.reader_step.specs.declared.State.{State}
 use Rattle.reader_step.specs.Step.{moved, misformed, labelled, mistyped, disowned, one_row_more, row_step, data_step, label_step, step_at, step_by, line_step, line_staged}
 use Rattle.reader_step.proofs.StepLaws.{line-counted}
 use Rattle.reader_step.proofs.WidthLaws.{width_some}
-use Rattle.reader.specs.declared.Reading.TheVariants.{Form}
+use Rattle.reader.specs.declared.Fault.TheVariants.{Form}
 use Rattle.reader.specs.Items.{outside, items}
 use Rattle.reader.specs.Rules.{answer_to}
 use Rattle.reader.specs.Staging.{rows_up_to, laid}
@@ -284,7 +285,7 @@ module _ (t : Table) (register : List ℕ) (sender : ℕ) where
           let k = reading-ends t register sender all_lines st₀ c.lines l (short_front ls) c.staging r next refl area refl (line_reads t register sender l) (line-fronts t l) h in
           (stepped-good (few-ended h) (ap length k.1 ∙ length_over 0 _ st₀), k.1, form-answers next h ∙ k.0)
         where
-          form-answers : (s : State) → (s.form ≡ 0 → ⊥) → answered_by s.form s.wrong s.column s.owner s.rows ≡ Form s.form
+          form-answers : (s : State) → (s.form ≡ 0 → ⊥) → answered_by s.form s.wrong s.column s.owner s.rows ≡ Err (Form s.form)
           form-answers s f = rw (ne_eqb s.form 0 f) refl
 
     read-lines : (ls : List (List ℕ)) (c : Core) → c.long ≡ 0 → Good c → Reading t register sender all_lines st₀ c.lines (short_front ls) c.staging

@@ -7,6 +7,7 @@ use mathlib.Core.List.{List, [], ◌∷◌}
 use borrow.Author.Tests.{not-false, le-leb}
 use lib.Dec.{leb}
 use lib.ListN.{length, get_or}
+use Rattle.std.specs.Prelude.{Ok}
 use Rattle.lists.specs.Logic.{on}
 use Rattle.lists.specs.Part.{part}
 use Rattle.lists.proofs.LogicLaws.{and-false, and-pass, or-fail}
@@ -15,7 +16,6 @@ use Rattle.passage.specs.Layout.{body_wide, owner_of}
 use Rattle.passage.specs.Ranges.{update_in_range}
 use Rattle.columns.specs.Tables.{is_form}
 use Rattle.register.specs.Register.{grants}
-use Rattle.reader.specs.declared.Reading.TheVariants as Readings
 use Rattle.feeds.specs.Kept.{feed_of, is_begun}
 use Rattle.calls.specs.declared.Answer.TheVariants.{Unsound, Owner}
 use Rattle.calls.specs.declared.Counts.{Counts}
@@ -101,7 +101,7 @@ rows-out-of-range register staging book table kept c i s e = go (all_in_range (s
         absurd (let z : ◌≡◌ {A = ℕ} 0 1 = cc in omega arith)
     go false h = unsound register staging book table kept c (range-sound register staging book table kept c h)
 
-denied-post : (register staging book table kept : List ℕ) (c : Counts) (n : ℕ) → end_sound register staging book table c kept ≡ true → is_form (feed_of kept).form ≡ true → reading_kept (feed_of kept) ≡ Readings.Rows n
+denied-post : (register staging book table kept : List ℕ) (c : Counts) (n : ℕ) → end_sound register staging book table c kept ≡ true → is_form (feed_of kept).form ≡ true → reading_kept (feed_of kept) ≡ Ok n
     → any_denied register (feed_of kept).sender (staged_rows staging (feed_of kept)) ≡ true → end_answer register staging book table c kept ≡ Owner 0
 unfolding end_answer post_answer
 denied-post register staging book table kept c n s o r d = rw (s, o, r, d) refl

@@ -1,11 +1,10 @@
 -- What is certain of a dossier that comes in parts. `proofs/Claims.antt` proves `All`. Assumes nothing.
-use Rattle.std.specs.Prelude.{ℕ, ◌+◌, ◌*◌, ◌/◌, ◌≤◌, ◌<◌, ◌≡◌, true, false, List, ◌++◌, ◌↔◌, length}
+use Rattle.std.specs.Prelude.{ℕ, ◌+◌, ◌*◌, ◌/◌, ◌≤◌, ◌<◌, ◌≡◌, true, false, List, ◌++◌, ◌↔◌, length, Ok}
 use Rattle.lists.specs.Part.{part}
 use Rattle.lists.specs.Rows.{flat}
 use Rattle.passage.specs.Layout.{body_wide, owner_of}
 use Rattle.passage.specs.Ranges.{update_in_range}
 use Rattle.register.specs.Register.{grants}
-use Rattle.reader.specs.declared.Reading.TheVariants as Readings
 use Rattle.reader.specs.Rules.{reading_of}
 use Rattle.reader.specs.Staging.{laid}
 use Rattle.feeds.specs.Kept.{feed_of, is_begun}
@@ -40,7 +39,7 @@ PartsAreWhole =
     × ((number ≡ 14)
     ↔ ((message_sound register book table c ≡ true)
     × (form ≤ 1)
-    × ((n : ℕ) × (reading_of (message_table form) register sender (flat parts) ≡ Readings.Rows n) × (length staging / body_wide < n))))
+    × ((n : ℕ) × (reading_of (message_table form) register sender (flat parts) ≡ Ok n) × (length staging / body_wide < n))))
 
 -- the staging area holds the rows before the first line at fault, as many as fit, and behind them what it held; the end is not lent it to write, so on a refusal too
 abbrev pub StagingHolds : Type 0
@@ -80,7 +79,7 @@ RowsOutOfRange =
 -- where what is lent is sound, the form is known and reading found nothing, a staged row whose owner the register does not grant now gets 6, with line 0
 abbrev pub Unregistered : Type 0
 Unregistered =
-    (register staging book table kept : List ℕ) (c : Counts) (n i : ℕ) → end_sound register staging book table c kept ≡ true → (feed_of kept).form ≤ 1 → reading_kept (feed_of kept) ≡ Readings.Rows n
+    (register staging book table kept : List ℕ) (c : Counts) (n i : ℕ) → end_sound register staging book table c kept ≡ true → (feed_of kept).form ≤ 1 → reading_kept (feed_of kept) ≡ Ok n
     → Staged staging kept i → grants register (feed_of kept).sender (owner_of (part (i * body_wide) body_wide staging)) ≡ false
     → end_answer register staging book table c kept ≡ Owner 0
 

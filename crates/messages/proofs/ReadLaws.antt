@@ -4,12 +4,11 @@ use mathlib.Core.Path.{◌≡◌, refl, ◌∙◌}
 use mathlib.Core.Bool.{true, false}
 use mathlib.Core.List.{List}
 use lib.ListN.{length}
+use Rattle.std.specs.Prelude.{Ok, Err}
 use Rattle.lists.specs.Rows.{rows_of}
 use Rattle.passage.specs.Layout.{body_wide}
 use Rattle.columns.specs.Tables.{is_form, form_of}
-use Rattle.reader.specs.declared.Reading.{Reading}
-use Rattle.reader.specs.declared.Reading.TheVariants.{Rows}
-use Rattle.reader.specs.Rules.{reading_of}
+use Rattle.reader.specs.Rules.{Reading, reading_of}
 use Rattle.reader.specs.Staging.{staged_by}
 use Rattle.reader.proofs.StagedLaws.{staged-updates}
 use Rattle.calls.specs.declared.Answer.{Answer}
@@ -17,7 +16,6 @@ use Rattle.calls.specs.declared.Answer.TheVariants.{Unsound, UnknownForm}
 use Rattle.calls.specs.declared.Counts.{Counts}
 use Rattle.calls.specs.declared.Outcome.{Outcome}
 use Rattle.calls.specs.Answers.{is_accepted, unless_refused}
-use Rattle.calls.specs.declared.Next.TheVariants.{Off}
 use Rattle.calls.specs.Leaves.{outcome_of, leaves}
 use Rattle.calls.specs.Message.{message_sound, message_table, message_rows, room_for, message_answer, taken_by, message_leaves}
 use Rattle.calls.specs.inner.Steps.{passed_of}
@@ -25,7 +23,7 @@ use Rattle.calls.proofs.LeavesLaws.{leaves-refused, passed-off}
 use Rattle.messages.specs.inner.Steps.{taken_leaves}
 
 -- the rows of an accepted dossier, as they are staged
-pub staged-bodies : (form : ℕ) (register : List ℕ) (sender : ℕ) (d staging : List ℕ) (n : ℕ) → reading_of (message_table form) register sender d ≡ Rows n → n * body_wide ≤ length staging
+pub staged-bodies : (form : ℕ) (register : List ℕ) (sender : ℕ) (d staging : List ℕ) (n : ℕ) → reading_of (message_table form) register sender d ≡ Ok n → n * body_wide ≤ length staging
     → rows_of body_wide n (staged_by (message_table form) register sender d staging) ≡ message_rows form d
 unfolding message_rows
 staged-bodies form register sender d staging n e room = staged-updates (form_of form) register sender d staging n e room
@@ -55,13 +53,13 @@ module _ (d : List ℕ) (sender form : ℕ) (register book table : List ℕ) (c 
     unfolding message_answer
     answer-is x reads = rw (sound, known, reads)
 
-    pub dossier-refused : (a : Answer) → passed_of 0 (reading_of (message_table form) register sender d) ≡ Off a → (r : Outcome) → r ≡ outcome_of a c → Answers r book table
+    pub dossier-refused : (a : Answer) → passed_of 0 (reading_of (message_table form) register sender d) ≡ Err a → (r : Outcome) → r ≡ outcome_of a c → Answers r book table
     dossier-refused a e r h =
         let x = reading_of (message_table form) register sender d in
         let off = passed-off 0 x a e (room_for bodies book table c) in
         refuses a (answer-is x refl ∙ off.0) off.1 r h
 
-    pub rows_taken : (n : ℕ) → reading_of (message_table form) register sender d ≡ Rows n → (staged : List (List ℕ)) → staged ≡ bodies → (r : Outcome) (b t : List ℕ)
+    pub rows_taken : (n : ℕ) → reading_of (message_table form) register sender d ≡ Ok n → (staged : List (List ℕ)) → staged ≡ bodies → (r : Outcome) (b t : List ℕ)
         → leaves r b t ≡ taken_leaves staged sender book table c → Answers r b t
     unfolding message_leaves taken_leaves
-    rows_taken n reads staged e r b t h = rw (answer-is (Rows n) reads, ← e) h
+    rows_taken n reads staged e r b t h = rw (answer-is (Ok n) reads, ← e) h

@@ -16,7 +16,7 @@ ghost use Rattle.calls.specs.Numbers.{message_numbers};
 ghost use Rattle.messages_take.specs.inner.Fitting.{most_updates};
 ghost use Rattle.messages.specs.inner.Steps.{HoldsRows, taken_leaves};
 
-use calls::{Answer, Counts, Next, Outcome};
+use calls::{Answer, Counts, Outcome};
 
 // Room for the rows of any dossier.
 const STAGED: usize = messages_take::MOST_UPDATES * passage::BODY_WIDE;
@@ -62,8 +62,8 @@ fn read_and_take(
 {
     let reading = reader::read_message(columns::form_of(form), dossier, register, sender, staging);
     match calls::passed(reading, 0) {
-        Next::On(count) => take_rows(staging, count, sender, book, table, counts),
-        Next::Off(answer) => calls::unchanged(answer, counts),
+        Ok(count) => take_rows(staging, count, sender, book, table, counts),
+        Err(answer) => calls::unchanged(answer, counts),
     }
 }
 

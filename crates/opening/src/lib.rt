@@ -12,7 +12,7 @@ ghost use Rattle.opening_write.specs.inner.Steps.{opened_leaves};
 ghost use Rattle.opening.specs.inner.Steps.{most_passes, most_validities, HoldsPasses, HoldsValidities, calendar_leaves};
 ghost use Rattle.opening.specs.inner.Joining.{fewer, staged_pairs, Enough};
 
-use calls::{Answer, Counts, Next, Outcome};
+use calls::{Answer, Counts, Outcome};
 
 // The most pass times of any planning, and room for them.
 const MOST_PASSES: usize = 6553;
@@ -55,8 +55,8 @@ fn read_and_join(
 {
     let reading = reader::read_calendar(calendar, validities);
     match calls::passed(reading, 2) {
-        Next::On(days) => join_fitting(passes, times, validities, days, book, table, counts),
-        Next::Off(answer) => calls::unchanged(answer, counts),
+        Ok(days) => join_fitting(passes, times, validities, days, book, table, counts),
+        Err(answer) => calls::unchanged(answer, counts),
     }
 }
 
@@ -77,8 +77,8 @@ fn open_by(
 {
     let reading = reader::read_planning(planning, passes);
     match calls::passed(reading, 1) {
-        Next::On(times) => read_and_join(passes, times, calendar, validities, book, table, counts),
-        Next::Off(answer) => calls::unchanged(answer, counts),
+        Ok(times) => read_and_join(passes, times, calendar, validities, book, table, counts),
+        Err(answer) => calls::unchanged(answer, counts),
     }
 }
 

@@ -5,6 +5,7 @@ use mathlib.Core.Bool.{Bool, not}
 use mathlib.Core.List.{List, [], ◌∷◌}
 use lib.Dec.{ltb}
 use lib.ListN.{length}
+use Rattle.std.specs.Prelude.{Err}
 use Rattle.lists.specs.Logic.{first_held}
 use Rattle.lists.specs.Each.{Each}
 use Rattle.syntax.specs.Machine.{fault}
@@ -17,10 +18,9 @@ use Rattle.columns.specs.Tables.{table_name, row_of}
 use Rattle.columns.proofs.FormLaws.{forms-agree}
 use Rattle.passage.specs.Layout.{owner_of}
 use Rattle.register.specs.Register.{grants}
-use Rattle.reader.specs.declared.Reading.{Reading}
-use Rattle.reader.specs.declared.Reading.TheVariants.{TooLong, Syntax, Long}
+use Rattle.reader.specs.declared.Fault.TheVariants.{TooLong, Syntax, Long}
 use Rattle.reader.specs.Items.{Item, head, row, Place, outside, awaiting, under, place_after, seen, in_front, items}
-use Rattle.reader.specs.Rules.{largest, form_bad, wrong_at, is_wrong, owner_bad, first_line, first_column, data_rows, items_of, faults, fault_place, is_line, answer_to, reading_of}
+use Rattle.reader.specs.Rules.{Reading, largest, form_bad, wrong_at, is_wrong, owner_bad, first_line, first_column, data_rows, items_of, faults, fault_place, is_line, answer_to, reading_of}
 use Rattle.reader.specs.Claims.{Plain, FormsReadAlike}
 
 module _ (f g : Forms.Form) where
@@ -92,9 +92,9 @@ module _ (f g : Forms.Form) where
       ap
       (λ (a : Reading).
       first_held
-      ((ltb largest (length d), TooLong)
-      ∷ (faults (fault d), Syntax (fault_place (fault d)))
-      ∷ (is_line (first_long 1 (lines d)), Long (first_long 1 (lines d)))
+      ((ltb largest (length d), Err TooLong)
+      ∷ (faults (fault d), Err (Syntax (fault_place (fault d))))
+      ∷ (is_line (first_long 1 (lines d)), Err (Long (first_long 1 (lines d))))
       ∷ [])
       a)
       (answer-alike register sender (items_of (Message f) d) h ∙ ap (answer_to (Message g) register sender) (items_alike outside 1 (lines d)))

@@ -6,6 +6,7 @@ use mathlib.Core.List.{List, [], ◌∷◌}
 use borrow.Author.Tests.{eq-eqb, eqb-true}
 use lib.Dec.{eqb}
 use lib.ListN.{length}
+use Rattle.std.specs.Prelude.{Ok, Err}
 use Rattle.lists.specs.Logic.{on}
 use Rattle.lists.specs.Each.{Each}
 use Rattle.turbo_lines.specs.declared.Mark.{Mark}
@@ -13,10 +14,9 @@ use Rattle.turbo_lines.specs.declared.Mark.TheVariants as Marks
 use Rattle.turbo_lines.specs.Lines.{mark_of}
 use Rattle.columns.specs.declared.Table.{Table}
 use Rattle.columns.specs.Tables.{row_of}
-use Rattle.reader.specs.declared.Reading.{Reading}
-use Rattle.reader.specs.declared.Reading.TheVariants.{Form, Field, Owner, Rows}
+use Rattle.reader.specs.declared.Fault.TheVariants.{Form, Field, Owner}
 use Rattle.reader.specs.Items.{Item, head, row, Place, outside, awaiting, under, place_after, seen, in_front, items}
-use Rattle.reader.specs.Rules.{form_bad, is_wrong, wrong_at, owner_bad, line_number, first_line, first_column, data_rows, answer_to}
+use Rattle.reader.specs.Rules.{Reading, form_bad, is_wrong, wrong_at, owner_bad, line_number, first_line, first_column, data_rows, answer_to}
 use Rattle.reader.specs.Staging.{rows_up_to}
 use Rattle.reader.specs.inner.Settled.{answered_by}
 
@@ -82,7 +82,7 @@ all-rows t register sender (row n ls l ∷ xs) f w o =
 
 -- an answer by the tests that are made: that there is no such line
 abbrev tested : Bool → Bool → Bool → ℕ → ℕ → ℕ → ℕ → ℕ → Reading
-tested a b c form line column owner rows = on (not a) (Form form) (on (not b) (Field line column) (on (not c) (Owner owner) (Rows rows)))
+tested a b c form line column owner rows = on (not a) (Err (Form form)) (on (not b) (Err (Field line column)) (on (not c) (Err (Owner owner)) (Ok rows)))
 
 -- so an answer may count the rows before the first fault: where there is one, the count is not asked
 pub answer-counted : (t : Table) (register : List ℕ) (sender : ℕ) (xs : List Item) → Numbered xs
@@ -99,7 +99,7 @@ answer-counted t register sender xs m =
         let f = none_first (form_bad t) xs m (eqb-true _ _ p) in
         let w = not-wrong t xs (none_first (is_wrong t) xs m (eqb-true _ _ q)) in
         let o = none_first (owner_bad t register sender) xs m (eqb-true _ _ r) in
-        ap (λ (rs : List (List ℕ)). Rows (length rs)) (sym (all-rows t register sender xs f w o))
+        ap (λ (rs : List (List ℕ)). Ok (length rs)) (sym (all-rows t register sender xs f w o))
     go true true false p q r = refl
     go true false c p q r = refl
     go false b c p q r = refl

@@ -6,6 +6,7 @@ use mathlib.Core.List.{List, [], ◌∷◌}
 use borrow.Author.Tests.{eq-eqb, ne_eqb, eqb-true, eqb-false}
 use lib.Dec.{eqb}
 use lib.ListN.{length, replicate}
+use Rattle.std.specs.Prelude.{Err}
 use Rattle.lists.specs.Logic.{on}
 use Rattle.lists.specs.Text.{same}
 use Rattle.lists.specs.Part.{over}
@@ -20,10 +21,9 @@ use Rattle.rows.specs.Shape.{shape_of}
 use Rattle.rows.specs.Reading.{read_by, read_given}
 use Rattle.columns.specs.Layout.{widest_row}
 use Rattle.reader_step.specs.declared.State.{State}
-use Rattle.reader.specs.declared.Reading.{Reading}
-use Rattle.reader.specs.declared.Reading.TheVariants.{Form}
+use Rattle.reader.specs.declared.Fault.TheVariants.{Form}
 use Rattle.reader.specs.Items.{Item, head, row, Place, outside, awaiting, under, place_after, seen, in_front}
-use Rattle.reader.specs.Rules.{form_bad, is_wrong, owner_bad, first_line, first_column}
+use Rattle.reader.specs.Rules.{Reading, form_bad, is_wrong, owner_bad, first_line, first_column}
 use Rattle.reader.specs.Staging.{rows_up_to}
 use Rattle.reader.specs.inner.Settled.{answered_by}
 use Rattle.reader_step.specs.Step.{moved, misformed, labelled, mistyped, disowned, one_row_more, row_step, data_step, label_step, step_at, step_by}
@@ -60,7 +60,7 @@ Agrees t s (under ls) = (s.place ≡ 2) × (s.shape ≡ shape_of t ls) × (label
 -- what a line leaves: a fault of form ends it, else the state stands at the next place and the answer is the same
 abbrev pub Goes : Table → List ℕ → ℕ → State → State → List Item → Place → List Item → Type 0
 Goes t register sender s n ys p xs =
-    ((n.form ≡ 0 → ⊥) → settled_from t register sender s (in_front ys xs) ≡ Form n.form)
+    ((n.form ≡ 0 → ⊥) → settled_from t register sender s (in_front ys xs) ≡ Err (Form n.form))
     × (n.form ≡ 0 → Agrees t n p × (settled_from t register sender s (in_front ys xs) ≡ settled_from t register sender n xs))
     × (n.line ≡ s.line + 1)
 
@@ -83,7 +83,7 @@ unfolding first_line first_column rows_up_to
 head-fine t register sender s n ls xs e = rw e
 
 head-bad : (t : Table) (register : List ℕ) (sender : ℕ) (s : State) (n : ℕ) (ls : List (List ℕ)) (xs : List Item) → label_fault t ls ≡ true → (n ≡ 0 → ⊥)
-    → settled_from t register sender s (head n ls ∷ xs) ≡ Form n
+    → settled_from t register sender s (head n ls ∷ xs) ≡ Err (Form n)
 unfolding first_line
 head-bad t register sender s n ls xs e h = rw (e, ne_eqb n 0 h)
 

@@ -8,6 +8,7 @@ use borrow.Author.Tests.{ltb-true, ltb-false, eqb-true}
 use lib.Dec.{eqb, ltb}
 use lib.ListN.{length, drop}
 use lib.Seq.{take-nil}
+use Rattle.std.specs.Prelude.{Ok, Err}
 use Rattle.lists.specs.Logic.{on}
 use Rattle.lists.specs.Part.{over}
 use Rattle.lists.specs.Rows.{flat, Wide}
@@ -20,7 +21,7 @@ use Rattle.turbo_lines.proofs.LineLaws.{lines_cons, lines_none, after-line-short
 use Rattle.columns.specs.declared.Table.{Table}
 use Rattle.columns.specs.Tables.{row_width}
 use Rattle.reader_step.specs.declared.State.{State}
-use Rattle.reader.specs.declared.Reading.TheVariants.{Form, Field, Owner, Rows}
+use Rattle.reader.specs.declared.Fault.TheVariants.{Form, Field, Owner}
 use Rattle.reader.specs.Items.{Item, Place, outside, place_after, seen, in_front, items}
 use Rattle.rows.specs.declared.Shape.{Shape}
 use Rattle.std.specs.Prelude.{Result, Ok, Err}
@@ -115,8 +116,8 @@ first-none n = go (eqb n 0) refl
 column-none : (s : State) → answered_by 0 s.wrong s.column s.owner s.rows ≡ answered_by 0 s.wrong (on (eqb s.wrong 0) 0 s.column) s.owner s.rows
 column-none s = go (eqb s.wrong 0)
   where
-    go : (b : Bool) → on (not b) (Field s.wrong s.column) (on (not (eqb s.owner 0)) (Owner s.owner) (Rows s.rows))
-        ≡ on (not b) (Field s.wrong (on b 0 s.column)) (on (not (eqb s.owner 0)) (Owner s.owner) (Rows s.rows))
+    go : (b : Bool) → on (not b) (Err (Field s.wrong s.column)) (on (not (eqb s.owner 0)) (Err (Owner s.owner)) (Ok s.rows))
+        ≡ on (not b) (Err (Field s.wrong (on b 0 s.column))) (on (not (eqb s.owner 0)) (Err (Owner s.owner)) (Ok s.rows))
     go true = refl
     go false = refl
 
@@ -182,7 +183,7 @@ module _ (t : Table) (register : List ℕ) (sender : ℕ) (all_lines : List (Lis
     reading-counts = goes.2 ∙ add-one s.line
 
     -- a fault of form ends the reading
-    pub reading-ends : (n.form ≡ 0 → ⊥) → (Form n.form ≡ answer_to t register sender (items t outside 1 all_lines)) × (st' ≡ laid t (rows_up_to t register sender (items t outside 1 all_lines)) st₀)
+    pub reading-ends : (n.form ≡ 0 → ⊥) → (Err (Form n.form) ≡ answer_to t register sender (items t outside 1 all_lines)) × (st' ≡ laid t (rows_up_to t register sender (items t outside 1 all_lines)) st₀)
     reading-ends h = (
       sym (now.answer ∙ ap (settled_from t register sender s) split ∙ goes.0 h),
       stages.area ∙ ap (λ (rs : List (List ℕ)). laid t rs st₀) (sym (now.rows ∙ ap (λ (rs : List (List ℕ)). now.done ++ rs) (ap (rows_from t register sender s) split ∙ stages.last h))),

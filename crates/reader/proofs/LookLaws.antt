@@ -10,9 +10,8 @@ use Rattle.lists.specs.Logic.{on}
 use Rattle.syntax.specs.Machine.{fault}
 use Rattle.turbo_lines.specs.Lines.{lines, first_long}
 use Rattle.columns.specs.declared.Table.{Table}
-use Rattle.reader.specs.declared.Reading.{Reading}
-use Rattle.reader.specs.declared.Reading.TheVariants.{TooLong, Syntax, Long, Form, Field, Owner, Rows}
-use Rattle.reader.specs.Rules.{largest, form_bad, is_wrong, owner_bad, first_line, is_line, faults, answer_to, items_of, reading_of}
+use Rattle.reader.specs.declared.Fault.TheVariants.{TooLong, Syntax, Long, Form, Field, Owner}
+use Rattle.reader.specs.Rules.{Reading, largest, form_bad, is_wrong, owner_bad, first_line, is_line, faults, answer_to, items_of, reading_of}
 use Rattle.reader.specs.Numbers.{reading_numbers, reading_table}
 use Rattle.reader.specs.Claims.{NumbersByTable}
 use Rattle.reader.specs.Staging.{rows_up_to, laid, short_items, staged_by}
@@ -22,7 +21,7 @@ use Rattle.reader.specs.inner.Settled.{lines_answer}
 
 -- an answer by six tests, and its numbers by the same
 by_number : (p₂ p₃ q p₄ p₅ p₆ : Bool) (i m l w c o n : ℕ)
-    → reading_numbers (on p₂ TooLong (on p₃ (Syntax i) (on q (Long m) (on p₄ (Form l) (on p₅ (Field w c) (on p₆ (Owner o) (Rows n)))))))
+    → reading_numbers (on p₂ (Err TooLong) (on p₃ (Err (Syntax i)) (on q (Err (Long m)) (on p₄ (Err (Form l)) (on p₅ (Err (Field w c)) (on p₆ (Err (Owner o)) (Ok n)))))))
     ≡ on {A = ℕ × ℕ × ℕ} p₂ (2, 0, 0) (on p₃ (3, i, 0) (on q (15, m, 0) (on p₄ (4, l, 0) (on p₅ (5, w, c) (on p₆ (6, o, 0) (0, n, 0))))))
 by_number true p₃ q p₄ p₅ p₆ i m l w c o n = refl
 by_number false true q p₄ p₅ p₆ i m l w c o n = refl
@@ -44,12 +43,12 @@ module _ (t : Table) (register : List ℕ) (sender : ℕ) (d st : List ℕ) wher
       → (r ≡ reading_of t register sender d) × ((area ≡ staged_by t register sender d st) × (reading_numbers r ≡ reading_table t register sender d))
   numbered (e, a) = (e, (a, ap reading_numbers e ∙ numbers-by-table t register sender d))
 
-  pub look-long : largest < length d → (TooLong ≡ reading_of t register sender d) × (st ≡ staged_by t register sender d st)
+  pub look-long : largest < length d → (Err TooLong ≡ reading_of t register sender d) × (st ≡ staged_by t register sender d st)
   unfolding reading_of staged_by
   look-long h = rw (lt-ltb _ _ h) (refl, refl)
 
   module _ (small : length d ≤ largest) where
-    pub look-syntax : (i : ℕ) → fault d ≡ Err i → (Syntax i ≡ reading_of t register sender d) × (st ≡ staged_by t register sender d st)
+    pub look-syntax : (i : ℕ) → fault d ≡ Err i → (Err (Syntax i) ≡ reading_of t register sender d) × (st ≡ staged_by t register sender d st)
     unfolding reading_of staged_by
     look-syntax i e = rw (le-ltb _ _ small, e) (refl, refl)
 

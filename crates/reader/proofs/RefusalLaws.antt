@@ -27,10 +27,9 @@ use Rattle.register.specs.Register.{may_send}
 use Rattle.rows.specs.Claims.{OutsideType}
 use Rattle.rows.proofs.LabelLaws.{faultless, once, there}
 use Rattle.rows.proofs.UnderLaws.{right-none, none_right, first-outside, outside-first}
-use Rattle.reader.specs.declared.Reading.{Reading}
-use Rattle.reader.specs.declared.Reading.TheVariants.{TooLong, Syntax, Long, Form, Field, Owner, Rows}
+use Rattle.reader.specs.declared.Fault.TheVariants.{TooLong, Syntax, Long, Form, Field, Owner}
 use Rattle.reader.specs.Items.{Item, head, row, Place, outside, awaiting, under, place_after, seen, in_front, items}
-use Rattle.reader.specs.Rules.{largest, line_number, form_bad, is_wrong, wrong_at, owner_bad, first_line, first_column, data_rows, items_of, faults, fault_place, answer_to, reading_of}
+use Rattle.reader.specs.Rules.{Reading, largest, line_number, form_bad, is_wrong, wrong_at, owner_bad, first_line, first_column, data_rows, items_of, faults, fault_place, answer_to, reading_of}
 use Rattle.reader.specs.Claims.{FirstNot, FormRight, FieldsRight, OwnerRight, TooLongExactly, SyntaxExactly, LongExactly, FormExactly, FieldExactly, OwnerExactly}
 use Rattle.reader.proofs.AllRowsLaws.{items-numbered, none_first, first-none}
 use Rattle.reader.proofs.LookLaws.{look-long, look-syntax}
@@ -176,13 +175,13 @@ module _ (t : Table) (register : List ℕ) (sender : ℕ) (d : List ℕ) where
 
   -- what each answer tells of the first lines
   abbrev Tells : Reading → Type 0
-  Tells TooLong = largest < length d
-  Tells (Syntax i) = Small × (fault d ≡ Err i)
-  Tells (Long l) = Small × (fault d ≡ Ok tt) × (long ≡ l) × (1 ≤ l)
-  Tells (Form l) = Small × (fault d ≡ Ok tt) × (long ≡ 0) × (form ≡ l) × (1 ≤ l)
-  Tells (Field l c) = Small × (fault d ≡ Ok tt) × (long ≡ 0) × (form ≡ 0) × (wrong ≡ l) × (1 ≤ l) × (first_column t its ≡ c)
-  Tells (Owner l) = Small × (fault d ≡ Ok tt) × (long ≡ 0) × (form ≡ 0) × (wrong ≡ 0) × (owner ≡ l) × (1 ≤ l)
-  Tells (Rows n) = Unit {0}
+  Tells (Err TooLong) = largest < length d
+  Tells (Err (Syntax i)) = Small × (fault d ≡ Err i)
+  Tells (Err (Long l)) = Small × (fault d ≡ Ok tt) × (long ≡ l) × (1 ≤ l)
+  Tells (Err (Form l)) = Small × (fault d ≡ Ok tt) × (long ≡ 0) × (form ≡ l) × (1 ≤ l)
+  Tells (Err (Field l c)) = Small × (fault d ≡ Ok tt) × (long ≡ 0) × (form ≡ 0) × (wrong ≡ l) × (1 ≤ l) × (first_column t its ≡ c)
+  Tells (Err (Owner l)) = Small × (fault d ≡ Ok tt) × (long ≡ 0) × (form ≡ 0) × (wrong ≡ 0) × (owner ≡ l) × (1 ≤ l)
+  Tells (Ok n) = Unit {0}
 
   line-there : (n : ℕ) → eqb n 0 ≡ false → 1 ≤ n
   line-there n e = let h = eqb-false n 0 e in omega arith
@@ -192,7 +191,7 @@ module _ (t : Table) (register : List ℕ) (sender : ℕ) (d : List ℕ) where
   tells = go (ltb largest (length d)) (fault d) (eqb long 0) (eqb form 0) (eqb wrong 0) (eqb owner 0) refl refl refl refl refl refl
     where
       go : (b : Bool) (v : Result ⊤ ℕ) (u x y z : Bool) → ltb largest (length d) ≡ b → fault d ≡ v → eqb long 0 ≡ u → eqb form 0 ≡ x → eqb wrong 0 ≡ y → eqb owner 0 ≡ z
-          → Tells (on b TooLong (on (faults v) (Syntax (fault_place v)) (on (not u) (Long long) (on (not x) (Form form) (on (not y) (Field wrong (first_column t its)) (on (not z) (Owner owner) (Rows (length (data_rows t its)))))))))
+          → Tells (on b (Err TooLong) (on (faults v) (Err (Syntax (fault_place v))) (on (not u) (Err (Long long)) (on (not x) (Err (Form form)) (on (not y) (Err (Field wrong (first_column t its))) (on (not z) (Err (Owner owner)) (Ok (length (data_rows t its)))))))))
       go true v u x y z p q k a b c = ltb-true _ _ p
       go false (Err i) u x y z p q k a b c = (ltb-false _ _ p, q)
       go false (Ok u) false x y z p q k a b c = (ltb-false _ _ p, q, refl, line-there _ k)
@@ -208,20 +207,20 @@ module _ (t : Table) (register : List ℕ) (sender : ℕ) (d : List ℕ) where
   long-none e = none-long 1 (lines d) (omega arith) e
 
   module _ (small : Small) (w : WellFormed d) where
-    long-back : (l : ℕ) → long ≡ l → 1 ≤ l → reading_of t register sender d ≡ Long l
+    long-back : (l : ℕ) → long ≡ l → 1 ≤ l → reading_of t register sender d ≡ Err (Long l)
     unfolding reading_of
     long-back l e h = rw (le-ltb largest (length d) small, fine w, e, ne_eqb l 0 (λ q. omega arith))
 
     module _ (short : Each Short (lines d)) where
-      form-back : (l : ℕ) → form ≡ l → 1 ≤ l → reading_of t register sender d ≡ Form l
+      form-back : (l : ℕ) → form ≡ l → 1 ≤ l → reading_of t register sender d ≡ Err (Form l)
       unfolding reading_of answer_to
       form-back l e h = rw (le-ltb largest (length d) small, fine w, all_short 1 (lines d) short, e, ne_eqb l 0 (λ q. omega arith))
 
-      field_back : (l c : ℕ) → form ≡ 0 → wrong ≡ l → 1 ≤ l → first_column t its ≡ c → reading_of t register sender d ≡ Field l c
+      field_back : (l c : ℕ) → form ≡ 0 → wrong ≡ l → 1 ≤ l → first_column t its ≡ c → reading_of t register sender d ≡ Err (Field l c)
       unfolding reading_of answer_to
       field_back l c f e h k = rw (le-ltb largest (length d) small, fine w, all_short 1 (lines d) short, f, e, ne_eqb l 0 (λ q. omega arith), k)
 
-      owner-back : (l : ℕ) → form ≡ 0 → wrong ≡ 0 → owner ≡ l → 1 ≤ l → reading_of t register sender d ≡ Owner l
+      owner-back : (l : ℕ) → form ≡ 0 → wrong ≡ 0 → owner ≡ l → 1 ≤ l → reading_of t register sender d ≡ Err (Owner l)
       unfolding reading_of answer_to
       owner-back l f e o h = rw (le-ltb largest (length d) small, fine w, all_short 1 (lines d) short, f, e, o, ne_eqb l 0 (λ q. omega arith))
 
@@ -267,20 +266,20 @@ module _ (t : Table) where
 -- ---- the refusals
 
 pub too-long-exactly : TooLongExactly
-too-long-exactly t register sender d = (told t register sender d TooLong, λ h. sym (look-long t register sender d [] h).0)
+too-long-exactly t register sender d = (told t register sender d (Err TooLong), λ h. sym (look-long t register sender d [] h).0)
 
 pub syntax-exactly : SyntaxExactly
-syntax-exactly t register sender d i = (told t register sender d (Syntax i), λ k. sym (look-syntax t register sender d [] k.0 i k.1).0)
+syntax-exactly t register sender d i = (told t register sender d (Err (Syntax i)), λ k. sym (look-syntax t register sender d [] k.0 i k.1).0)
 
 pub long-exactly : LongExactly
 long-exactly t register sender d l = (to, back)
   where
-    to : reading_of t register sender d ≡ Long l → (length d ≤ 65536) × WellFormed d × LongAt (lines d) l
+    to : reading_of t register sender d ≡ Err (Long l) → (length d ≤ 65536) × WellFormed d × LongAt (lines d) l
     to e =
-        let k = told t register sender d (Long l) e in
+        let k = told t register sender d (Err (Long l)) e in
         (k.0, formed d k.1, (long-found (lines d) l k.3).0 k.2)
 
-    back : (length d ≤ 65536) × WellFormed d × LongAt (lines d) l → reading_of t register sender d ≡ Long l
+    back : (length d ≤ 65536) × WellFormed d × LongAt (lines d) l → reading_of t register sender d ≡ Err (Long l)
     back (small, w, f) =
         let e = f.number in
         let n : 1 ≤ l = omega arith in
@@ -289,12 +288,12 @@ long-exactly t register sender d l = (to, back)
 pub form-exactly : FormExactly
 form-exactly t register sender d l = (to, back)
   where
-    to : reading_of t register sender d ≡ Form l → (length d ≤ 65536) × WellFormed d × Each Short (lines d) × ((x : Item) × FirstNot (FormRight t) (items_of t d) x × (line_number x ≡ l))
+    to : reading_of t register sender d ≡ Err (Form l) → (length d ≤ 65536) × WellFormed d × Each Short (lines d) × ((x : Item) × FirstNot (FormRight t) (items_of t d) x × (line_number x ≡ l))
     to e =
-        let k = told t register sender d (Form l) e in
+        let k = told t register sender d (Err (Form l)) e in
         (k.0, formed d k.1, long-none t register sender d k.2, first-at (form_bad t) (FormRight t) (items_of t d) (forms t register sender d) l k.4 k.3)
 
-    back : (length d ≤ 65536) × WellFormed d × Each Short (lines d) × ((x : Item) × FirstNot (FormRight t) (items_of t d) x × (line_number x ≡ l)) → reading_of t register sender d ≡ Form l
+    back : (length d ≤ 65536) × WellFormed d × Each Short (lines d) × ((x : Item) × FirstNot (FormRight t) (items_of t d) x × (line_number x ≡ l)) → reading_of t register sender d ≡ Err (Form l)
     back (small, w, h, (x, f, e)) =
         let n = first-numbered t register sender d (FormRight t) x f in
         form-back t register sender d small w h l (at_first (form_bad t) (FormRight t) (items_of t d) (forms t register sender d) x f ∙ e) (omega arith)
@@ -302,11 +301,11 @@ form-exactly t register sender d l = (to, back)
 pub owner-exactly : OwnerExactly
 owner-exactly t register sender d l = (to, back)
   where
-    to : reading_of t register sender d ≡ Owner l
+    to : reading_of t register sender d ≡ Err (Owner l)
         → (length d ≤ 65536) × WellFormed d × Each Short (lines d) × Each (FormRight t) (items_of t d) × Each (FieldsRight t) (items_of t d)
         × ((x : Item) × FirstNot (OwnerRight t register sender) (items_of t d) x × (line_number x ≡ l))
     to e =
-        let k = told t register sender d (Owner l) e in
+        let k = told t register sender d (Err (Owner l)) e in
         let f = form-none t register sender d k.3 in (
           k.0,
           formed d k.1,
@@ -318,7 +317,7 @@ owner-exactly t register sender d l = (to, back)
 
     back : (length d ≤ 65536) × WellFormed d × Each Short (lines d) × Each (FormRight t) (items_of t d) × Each (FieldsRight t) (items_of t d)
         × ((x : Item) × FirstNot (OwnerRight t register sender) (items_of t d) x × (line_number x ≡ l))
-        → reading_of t register sender d ≡ Owner l
+        → reading_of t register sender d ≡ Err (Owner l)
     back (small, w, h, f, r, (x, o, e)) =
         let n = first-numbered t register sender d (OwnerRight t register sender) x o in
         owner-back t register sender d small w h l (none-form t register sender d f)
@@ -349,15 +348,15 @@ module _ (t : Table) (register : List ℕ) (sender : ℕ) (d : List ℕ) (l c : 
           let o = first-outside t ls g line p (k ∙ h) in
           (ls, line, p, subst (λ (m : ℕ). FirstNot (FieldsRight t) (items_of t d) (row m ls line)) e a, h, o.0, o.1)
 
-  pub field-to : reading_of t register sender d ≡ Field l c → (length d ≤ 65536) × WellFormed d × Each Short (lines d) × Each (FormRight t) (items_of t d) × FieldAt
+  pub field-to : reading_of t register sender d ≡ Err (Field l c) → (length d ≤ 65536) × WellFormed d × Each Short (lines d) × Each (FormRight t) (items_of t d) × FieldAt
   field-to e =
-      let k = told t register sender d (Field l c) e in
+      let k = told t register sender d (Err (Field l c)) e in
       let f = form-none t register sender d k.3 in
       let s = fields_in t register sender d f in
       let a = first-at (is_wrong t) (FieldsRight t) (items_of t d) s l k.5 k.4 in
       (k.0, formed d k.1, long-none t register sender d k.2, f, field_of a.0 a.1 (labels-of f a.0 a.1) a.2 (sym (column-at t (items_of t d) s a.0 a.1) ∙ k.6))
 
-  pub field-from : (length d ≤ 65536) × WellFormed d × Each Short (lines d) × Each (FormRight t) (items_of t d) × FieldAt → reading_of t register sender d ≡ Field l c
+  pub field-from : (length d ≤ 65536) × WellFormed d × Each Short (lines d) × Each (FormRight t) (items_of t d) × FieldAt → reading_of t register sender d ≡ Err (Field l c)
   field-from (small, w, h, f, (ls, line, p, a, e, o, least)) =
       let s = fields_in t register sender d f in
       let n : 1 ≤ l = first-numbered t register sender d (FieldsRight t) (row l ls line) a in

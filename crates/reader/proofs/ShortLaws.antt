@@ -6,6 +6,7 @@ use mathlib.Core.List.{List, [], ◌∷◌}
 use borrow.Author.Tests.{eqb-true, ne_eqb}
 use lib.Dec.{eqb}
 use lib.ListN.{length, drop}
+use Rattle.std.specs.Prelude.{Err}
 use Rattle.lists.specs.Logic.{on}
 use Rattle.turbo.specs.Split.{until, past}
 use Rattle.turbo_lines.specs.Lines.{lines, first_long, short_front}
@@ -14,10 +15,9 @@ use Rattle.turbo_lines.proofs.LongLaws.{bytes-none, bytes-long, bytes-short, non
 use Rattle.columns.specs.declared.Table.{Table}
 use Rattle.reader_step.specs.declared.State.{State}
 use Rattle.reader_step.specs.Step.{line_step, line_staged, Fresh}
-use Rattle.reader.specs.declared.Reading.{Reading as Answer}
-use Rattle.reader.specs.declared.Reading.TheVariants.{Long, Form}
+use Rattle.reader.specs.declared.Fault.TheVariants.{Long, Form}
 use Rattle.reader.specs.Items.{outside, items}
-use Rattle.reader.specs.Rules.{answer_to, items_of}
+use Rattle.reader.specs.Rules.{Reading as Answer, answer_to, items_of}
 use Rattle.reader.specs.Staging.{rows_up_to, laid, short_items}
 use Rattle.reader.specs.inner.Settled.{answered_by, unless_long, lines_answer}
 use Rattle.reader.proofs.FoldLaws.{Reads}
@@ -30,22 +30,22 @@ use Rattle.reader.proofs.LinesLaws.{Reading, reading-start, reading-counts, read
 unless-same : (long : ℕ) (x y : Answer) → (long ≡ 0 → x ≡ y) → unless_long long x ≡ unless_long long y
 unless-same long x y h = go (eqb long 0) refl
   where
-    go : (b : Bool) → eqb long 0 ≡ b → on (not b) (Long long) x ≡ on (not b) (Long long) y
+    go : (b : Bool) → eqb long 0 ≡ b → on (not b) (Err (Long long)) x ≡ on (not b) (Err (Long long)) y
     go true e = h (eqb-true long 0 e)
     go false e = refl
 
-unless-long : (long : ℕ) (x : Answer) → 1 ≤ long → Long long ≡ unless_long long x
+unless-long : (long : ℕ) (x : Answer) → 1 ≤ long → Err (Long long) ≡ unless_long long x
 unless-long long x h = rw (ne_eqb long 0 (λ e. omega arith)) refl
 
 -- a fault of form, where the first line that is too long is looked for behind it
-pub form-long : (found long form : ℕ) → found ≡ long → (found ≡ 0 → ⊥) → Long found ≡ unless_long long (Form form)
-form-long found long form e h = let k : 1 ≤ found = omega (arith, some found h) in unless-long found (Form form) k ∙ ap (λ (n : ℕ). unless_long n (Form form)) e
+pub form-long : (found long form : ℕ) → found ≡ long → (found ≡ 0 → ⊥) → Err (Long found) ≡ unless_long long (Err (Form form))
+form-long found long form e h = let k : 1 ≤ found = omega (arith, some found h) in unless-long found (Err (Form form)) k ∙ ap (λ (n : ℕ). unless_long n (Err (Form form))) e
   where
     some : (n : ℕ) → (n ≡ 0 → ⊥) → 1 ≤ n
     some n f = omega arith
 
-pub form-short : (found long form : ℕ) → found ≡ long → found ≡ 0 → Form form ≡ unless_long long (Form form)
-form-short found long form e z = ap (λ (n : ℕ). unless_long n (Form form)) (sym z ∙ e)
+pub form-short : (found long form : ℕ) → found ≡ long → found ≡ 0 → Err (Form form) ≡ unless_long long (Err (Form form))
+form-short found long form e z = ap (λ (n : ℕ). unless_long n (Err (Form form))) (sym z ∙ e)
 
 -- then its front of short lines is all of it
 whole : (t : Table) (d : List ℕ) → first_long 1 (lines d) ≡ 0 → short_items t d ≡ items_of t d
@@ -77,7 +77,7 @@ module _ (t : Table) (register : List ℕ) (sender : ℕ) (d st₀ : List ℕ) w
 
     module _ (some : 0 < length rest) (size : ℕ) (is : size ≡ length (until 13 rest)) where
       -- a line that is too long
-      pub going-long : 4094 < size → Settles (Long s.line) st
+      pub going-long : 4094 < size → Settles (Err (Long s.line)) st
       going-long h =
           let k = bytes-long rest some size is s.line h in
           let z : first_long 1 (lines d) ≡ s.line = now.long ∙ k.0 in
@@ -103,12 +103,12 @@ module _ (t : Table) (register : List ℕ) (sender : ℕ) (d st₀ : List ℕ) w
         going-fewer = omega (arith, counts, now.bytes, ap length after-it, after-line-shorter rest some)
 
         -- with a fault of form: what is too long behind it goes before it
-        pub going-ends : (n.form ≡ 0 → ⊥) → (r : Answer) → r ≡ unless_long (first_long n.line (lines rest')) (Form n.form) → Settles r st'
+        pub going-ends : (n.form ≡ 0 → ⊥) → (r : Answer) → r ≡ unless_long (first_long n.line (lines rest')) (Err (Form n.form)) → Settles r st'
         going-ends h r e =
             let k = reading-ends t register sender (short_front (lines d)) st₀ s l (short_front (lines rest')) st next n line-step st' line-staged reads fronts h in (
               e
-                  ∙ ap (λ (i : ℕ). unless_long i (Form n.form)) (sym later)
-                  ∙ unless-same (first_long 1 (lines d)) (Form n.form) (answer_to t register sender (items_of t d)) (λ z. k.0 ∙ ap (answer_to t register sender) (whole t d z)),
+                  ∙ ap (λ (i : ℕ). unless_long i (Err (Form n.form))) (sym later)
+                  ∙ unless-same (first_long 1 (lines d)) (Err (Form n.form)) (answer_to t register sender (items_of t d)) (λ z. k.0 ∙ ap (answer_to t register sender) (whole t d z)),
               k.1,
             )
 

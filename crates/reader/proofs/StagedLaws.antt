@@ -6,6 +6,7 @@ use mathlib.Core.List.{List, []}
 use borrow.Author.Tests.{le-ltb}
 use lib.ListN.{length}
 use lib.Seq.{take_all}
+use Rattle.std.specs.Prelude.{Ok}
 use Rattle.lists.specs.Part.{over}
 use Rattle.lists.specs.Rows.{flat, rows_of, Wide}
 use Rattle.lists.proofs.OverLaws.{onto-fits}
@@ -19,7 +20,6 @@ use Rattle.columns.specs.declared.Table.TheVariants.{Message, Planning, Calendar
 use Rattle.columns.specs.Cell.{width}
 use Rattle.columns.specs.Tables.{planning_columns, calendar_columns, columns_in, row_width}
 use Rattle.columns.proofs.FormLaws.{message-wide}
-use Rattle.reader.specs.declared.Reading.TheVariants.{Rows}
 use Rattle.reader.specs.Rules.{largest, data_rows, items_of, reading_of}
 use Rattle.reader.specs.Staging.{staged_by}
 use Rattle.reader.specs.Passes.{pass_wide, validity_wide}
@@ -36,7 +36,7 @@ over-rows w rs st h f =
     let k : length (flat rs) ≤ length st = rw (length-flat w rs h) f in
     rw (onto-fits (flat rs) st k) (rows_of-flat w rs _ h)
 
-module _ (t : Table) (register : List ℕ) (sender : ℕ) (d staging : List ℕ) (n : ℕ) (e : reading_of t register sender d ≡ Rows n) (room : n * row_width t ≤ length staging) where
+module _ (t : Table) (register : List ℕ) (sender : ℕ) (d staging : List ℕ) (n : ℕ) (e : reading_of t register sender d ≡ Ok n) (room : n * row_width t ≤ length staging) where
   abbrev rs : List (List ℕ)
   rs = data_rows t (items_of t d)
 
@@ -59,18 +59,18 @@ module _ (t : Table) (register : List ℕ) (sender : ℕ) (d staging : List ℕ)
 
 -- with the width of each table's rows by its name
 
-pub staged-updates : (f : Form) (register : List ℕ) (sender : ℕ) (d staging : List ℕ) (n : ℕ) → reading_of (Message f) register sender d ≡ Rows n → n * body_wide ≤ length staging
+pub staged-updates : (f : Form) (register : List ℕ) (sender : ℕ) (d staging : List ℕ) (n : ℕ) → reading_of (Message f) register sender d ≡ Ok n → n * body_wide ≤ length staging
     → rows_of body_wide n (staged_by (Message f) register sender d staging) ≡ data_rows (Message f) (items_of (Message f) d)
 staged-updates f register sender d staging n e room =
     subst (λ (w : ℕ). rows_of w n (staged_by (Message f) register sender d staging) ≡ data_rows (Message f) (items_of (Message f) d)) (message-wide f)
     (staged-rows (Message f) register sender d staging n e (subst (λ (w : ℕ). n * w ≤ length staging) (sym (message-wide f)) room))
 
-pub staged-passes : (d staging : List ℕ) (n : ℕ) → reading_of Planning [] 0 d ≡ Rows n → n * pass_wide ≤ length staging
+pub staged-passes : (d staging : List ℕ) (n : ℕ) → reading_of Planning [] 0 d ≡ Ok n → n * pass_wide ≤ length staging
     → rows_of pass_wide n (staged_by Planning [] 0 d staging) ≡ data_rows Planning (items_of Planning d)
 unfolding row_width columns_in planning_columns width
 staged-passes = staged-rows Planning [] 0
 
-pub staged-validities : (d staging : List ℕ) (n : ℕ) → reading_of Calendar [] 0 d ≡ Rows n → n * validity_wide ≤ length staging
+pub staged-validities : (d staging : List ℕ) (n : ℕ) → reading_of Calendar [] 0 d ≡ Ok n → n * validity_wide ≤ length staging
     → rows_of validity_wide n (staged_by Calendar [] 0 d staging) ≡ data_rows Calendar (items_of Calendar d)
 unfolding row_width columns_in calendar_columns width
 staged-validities = staged-rows Calendar [] 0

@@ -1,5 +1,5 @@
 -- What is certain of a reader's answer. `proofs/Claims.antt` proves `All`. Assumes nothing.
-use Rattle.std.specs.Prelude.{ℕ, ◌+◌, ◌*◌, ◌≤◌, ◌<◌, ◌≡◌, true, false, List, [], ◌∷◌, ◌++◌, ◌↔◌, length, Err}
+use Rattle.std.specs.Prelude.{ℕ, ◌+◌, ◌*◌, ◌≤◌, ◌<◌, ◌≡◌, true, false, List, [], ◌∷◌, ◌++◌, ◌↔◌, length, Err, Ok}
 use Rattle.lists.specs.Each.{Each}
 use Rattle.lists.specs.Rows.{rows_of}
 use Rattle.grammar.specs.Grammar.{WellFormed}
@@ -17,7 +17,7 @@ use Rattle.columns.specs.Layout.{wanted, column_at, optional_at}
 use Rattle.columns.specs.Claims.{Unlabelled}
 use Rattle.register.specs.Register.{may_send}
 use Rattle.rows.specs.Claims.{Stands, cell_by, part_of, OutsideType}
-use Rattle.reader.specs.declared.Reading.TheVariants.{TooLong, Syntax, Long, Form, Field, Owner, Rows}
+use Rattle.reader.specs.declared.Fault.TheVariants.{TooLong, Syntax, Long, Form, Field, Owner}
 use Rattle.passage.specs.Ranges.{update_in_range}
 use Rattle.reader.specs.Items.{Item, head, row}
 use Rattle.reader.specs.Staged.{PassFacts, ValidityFacts}
@@ -30,7 +30,7 @@ use Rattle.reader.specs.Numbers.{reading_numbers, reading_table}
 abbrev pub AcceptedExactly : Type 0
 AcceptedExactly =
     (t : Table) (register : List ℕ) (sender : ℕ) (d : List ℕ) →
-    ((n : ℕ) × (reading_of t register sender d ≡ Rows n))
+    ((n : ℕ) × (reading_of t register sender d ≡ Ok n))
     ↔ ((length d ≤ largest) × WellFormed d
     × Each Short (lines d)
     × Each (λ (x : Item). form_bad t x ≡ false) (items_of t d)
@@ -110,7 +110,7 @@ RowForEach t (row n labels line ∷ xs) (r ∷ rs) = SaidBy t labels line r × R
 -- the rows of an accepted dossier are those that its data lines say
 abbrev pub RowsSayLines : Type 0
 RowsSayLines =
-    (t : Table) (register : List ℕ) (sender : ℕ) (d : List ℕ) (n : ℕ) → reading_of t register sender d ≡ Rows n
+    (t : Table) (register : List ℕ) (sender : ℕ) (d : List ℕ) (n : ℕ) → reading_of t register sender d ≡ Ok n
     → RowForEach t (items_of t d) (data_rows t (items_of t d))
 
 -- ---- each refusal exactly, with its place
@@ -142,32 +142,32 @@ OwnerRight t register sender (row n labels line) = may_send t register sender (r
 
 -- 2 exactly for more than 65,536 bytes
 abbrev pub TooLongExactly : Type 0
-TooLongExactly = (t : Table) (register : List ℕ) (sender : ℕ) (d : List ℕ) → (reading_of t register sender d ≡ TooLong) ↔ (65536 < length d)
+TooLongExactly = (t : Table) (register : List ℕ) (sender : ℕ) (d : List ℕ) → (reading_of t register sender d ≡ Err TooLong) ↔ (65536 < length d)
 
 -- 3 exactly where the syntax has its fault, and there
 abbrev pub SyntaxExactly : Type 0
 SyntaxExactly =
     (t : Table) (register : List ℕ) (sender : ℕ) (d : List ℕ) (i : ℕ)
-    → (reading_of t register sender d ≡ Syntax i) ↔ ((length d ≤ 65536) × (fault d ≡ Err i))
+    → (reading_of t register sender d ≡ Err (Syntax i)) ↔ ((length d ≤ 65536) × (fault d ≡ Err i))
 
 -- 15 exactly where the dossier is within its size and well formed, at the first line of more than 4,096 bytes with its CR LF, of whatever table or of none
 abbrev pub LongExactly : Type 0
 LongExactly =
     (t : Table) (register : List ℕ) (sender : ℕ) (d : List ℕ) (l : ℕ)
-    → (reading_of t register sender d ≡ Long l) ↔ ((length d ≤ 65536) × WellFormed d × LongAt (lines d) l)
+    → (reading_of t register sender d ≡ Err (Long l)) ↔ ((length d ≤ 65536) × WellFormed d × LongAt (lines d) l)
 
 -- 4 exactly where no line is too long, at the first line that is not right in form
 abbrev pub FormExactly : Type 0
 FormExactly =
     (t : Table) (register : List ℕ) (sender : ℕ) (d : List ℕ) (l : ℕ)
-    → (reading_of t register sender d ≡ Form l)
+    → (reading_of t register sender d ≡ Err (Form l))
     ↔ ((length d ≤ 65536) × WellFormed d × Each Short (lines d) × ((x : Item) × FirstNot (FormRight t) (items_of t d) x × (line_number x ≡ l)))
 
 -- 5 exactly where no line is too long and every line is right in form, at the first line with a wanted field outside its type, and at the first such field, from 1
 abbrev pub FieldExactly : Type 0
 FieldExactly =
     (t : Table) (register : List ℕ) (sender : ℕ) (d : List ℕ) (l c : ℕ)
-    → (reading_of t register sender d ≡ Field l c)
+    → (reading_of t register sender d ≡ Err (Field l c))
     ↔ ((length d ≤ 65536) × WellFormed d × Each Short (lines d) × Each (FormRight t) (items_of t d)
     × ((labels : List (List ℕ)) × (line : List ℕ) × (p : ℕ) × FirstNot (FieldsRight t) (items_of t d) (row l labels line)
     × (c ≡ p + 1) × OutsideType t labels line p × ((q : ℕ) → OutsideType t labels line q → p ≤ q)))
@@ -176,7 +176,7 @@ FieldExactly =
 abbrev pub OwnerExactly : Type 0
 OwnerExactly =
     (t : Table) (register : List ℕ) (sender : ℕ) (d : List ℕ) (l : ℕ)
-    → (reading_of t register sender d ≡ Owner l)
+    → (reading_of t register sender d ≡ Err (Owner l))
     ↔ ((length d ≤ 65536) × WellFormed d × Each Short (lines d) × Each (FormRight t) (items_of t d) × Each (FieldsRight t) (items_of t d)
     × ((x : Item) × FirstNot (OwnerRight t register sender) (items_of t d) x × (line_number x ≡ l)))
 
@@ -187,36 +187,36 @@ NumbersByTable = (t : Table) (register : List ℕ) (sender : ℕ) (d : List ℕ)
 -- where a dossier is accepted, the number is that of the rows of all its data lines
 abbrev pub RowsCounted : Type 0
 RowsCounted =
-    (t : Table) (register : List ℕ) (sender : ℕ) (d : List ℕ) (n : ℕ) → reading_of t register sender d ≡ Rows n → n ≡ length (data_rows t (items_of t d))
+    (t : Table) (register : List ℕ) (sender : ℕ) (d : List ℕ) (n : ℕ) → reading_of t register sender d ≡ Ok n → n ≡ length (data_rows t (items_of t d))
 
 -- the desk, sender 0, sends no row
 abbrev pub DeskSendsNothing : Type 0
-DeskSendsNothing = (f : Forms.Form) (register d : List ℕ) (n : ℕ) → reading_of (Message f) register 0 d ≡ Rows n → n ≡ 0
+DeskSendsNothing = (f : Forms.Form) (register d : List ℕ) (n : ℕ) → reading_of (Message f) register 0 d ≡ Ok n → n ≡ 0
 
 -- a message has at most 2,427 rows: a row's line holds a stamp of 25 bytes and ends in two, so a staging area of 160,182 bytes suffices
 abbrev pub RowsBounded : Type 0
-RowsBounded = (f : Forms.Form) (register : List ℕ) (sender : ℕ) (d : List ℕ) (n : ℕ) → reading_of (Message f) register sender d ≡ Rows n → (n * 27 ≤ length d + 2) × (n ≤ 2427)
+RowsBounded = (f : Forms.Form) (register : List ℕ) (sender : ℕ) (d : List ℕ) (n : ℕ) → reading_of (Message f) register sender d ≡ Ok n → (n * 27 ≤ length d + 2) × (n ≤ 2427)
 
 -- a planning has at most 6,553 rows: a row's line holds a time of eight bytes, as an arrival is missing only at the first stop and a departure
 -- only at the last; a calendar has at most 5,461: a row's line holds a date of ten
 abbrev pub PlanningBounded : Type 0
-PlanningBounded = (d : List ℕ) (n : ℕ) → reading_of Planning [] 0 d ≡ Rows n → (n * 10 ≤ length d + 2) × (n ≤ 6553)
+PlanningBounded = (d : List ℕ) (n : ℕ) → reading_of Planning [] 0 d ≡ Ok n → (n * 10 ≤ length d + 2) × (n ≤ 6553)
 
 abbrev pub CalendarBounded : Type 0
-CalendarBounded = (d : List ℕ) (n : ℕ) → reading_of Calendar [] 0 d ≡ Rows n → (n * 12 ≤ length d + 2) × (n ≤ 5461)
+CalendarBounded = (d : List ℕ) (n : ℕ) → reading_of Calendar [] 0 d ≡ Ok n → (n * 12 ≤ length d + 2) × (n ≤ 5461)
 
 -- every row of an accepted message is an update in range
 abbrev pub UpdatesInRange : Type 0
 UpdatesInRange =
-    (f : Forms.Form) (register : List ℕ) (sender : ℕ) (d : List ℕ) (n : ℕ) → reading_of (Message f) register sender d ≡ Rows n
+    (f : Forms.Form) (register : List ℕ) (sender : ℕ) (d : List ℕ) (n : ℕ) → reading_of (Message f) register sender d ≡ Ok n
     → Each (λ (r : List ℕ). update_in_range r ≡ true) (data_rows (Message f) (items_of (Message f) d))
 
 -- every row of an accepted planning is a pass time in range, and every row of an accepted calendar a validity
 abbrev pub PassesInRange : Type 0
-PassesInRange = (d : List ℕ) (n : ℕ) → reading_of Planning [] 0 d ≡ Rows n → Each PassFacts (data_rows Planning (items_of Planning d))
+PassesInRange = (d : List ℕ) (n : ℕ) → reading_of Planning [] 0 d ≡ Ok n → Each PassFacts (data_rows Planning (items_of Planning d))
 
 abbrev pub ValiditiesInRange : Type 0
-ValiditiesInRange = (d : List ℕ) (n : ℕ) → reading_of Calendar [] 0 d ≡ Rows n → Each ValidityFacts (data_rows Calendar (items_of Calendar d))
+ValiditiesInRange = (d : List ℕ) (n : ℕ) → reading_of Calendar [] 0 d ≡ Ok n → Each ValidityFacts (data_rows Calendar (items_of Calendar d))
 
 -- so is each row that is staged before a refusal 15 or 4 to 6
 abbrev pub StagedInRange : Type 0
@@ -233,7 +233,7 @@ AreaKeepsLength = (t : Table) (register : List ℕ) (sender : ℕ) (d staging : 
 -- where it has room for the rows of an accepted dossier, it holds them all
 abbrev pub StagedRowsAreRows : Type 0
 StagedRowsAreRows =
-    (t : Table) (register : List ℕ) (sender : ℕ) (d staging : List ℕ) (n : ℕ) → reading_of t register sender d ≡ Rows n → n * row_width t ≤ length staging
+    (t : Table) (register : List ℕ) (sender : ℕ) (d staging : List ℕ) (n : ℕ) → reading_of t register sender d ≡ Ok n → n * row_width t ≤ length staging
     → rows_of (row_width t) n (staged_by t register sender d staging) ≡ data_rows t (items_of t d)
 
 -- the item's labels have none of the three names in which the forms of a message differ

@@ -6,8 +6,8 @@ use Rattle.turbo.specs.Split.{fields}
 use Rattle.turbo_lines.specs.Lines.{lines, first_long}
 use Rattle.columns.specs.declared.Table.{Table}
 use Rattle.columns.specs.Tables.{row_of, wrong_column, label_fault}
-use Rattle.reader.specs.declared.Reading.{Reading}
-use Rattle.reader.specs.declared.Reading.TheVariants.{TooLong, Syntax, Long, Form, Field, Owner, Rows}
+use Rattle.reader.specs.declared.Fault.{Fault}
+use Rattle.reader.specs.declared.Fault.TheVariants.{TooLong, Syntax, Long, Form, Field, Owner}
 use Rattle.reader.specs.Items.{Item, head, row, outside, items}
 use Rattle.register.specs.Register.{may_send}
 
@@ -58,6 +58,10 @@ data_rows t (row n ls l ∷ xs) = row_of t ls l ∷ data_rows t xs
 
 -- ---- the answer
 
+-- how many rows, or the fault for which the dossier is refused
+abbrev pub Reading : Type 0
+Reading = Result ℕ Fault
+
 -- the items of a whole dossier
 abbrev pub items_of : Table → List ℕ → List Item
 items_of t d = items t outside 1 (lines d)
@@ -79,18 +83,18 @@ is_line n = not (eqb n 0)
 unfoldable pub answer_to : Table → List ℕ → ℕ → List Item → Reading
 answer_to t register sender xs =
     first_held
-    ((is_line (first_line (form_bad t) xs), Form (first_line (form_bad t) xs))
-    ∷ (is_line (first_line (is_wrong t) xs), Field (first_line (is_wrong t) xs) (first_column t xs))
-    ∷ (is_line (first_line (owner_bad t register sender) xs), Owner (first_line (owner_bad t register sender) xs))
+    ((is_line (first_line (form_bad t) xs), Err (Form (first_line (form_bad t) xs)))
+    ∷ (is_line (first_line (is_wrong t) xs), Err (Field (first_line (is_wrong t) xs) (first_column t xs)))
+    ∷ (is_line (first_line (owner_bad t register sender) xs), Err (Owner (first_line (owner_bad t register sender) xs)))
     ∷ [])
-    (Rows (length (data_rows t xs)))
+    (Ok (length (data_rows t xs)))
 
 -- lines 2, 3 and 15 before them; 15 is of any line, whatever it is to the table
 unfoldable pub reading_of : Table → List ℕ → ℕ → List ℕ → Reading
 reading_of t register sender d =
     first_held
-    ((ltb largest (length d), TooLong)
-    ∷ (faults (fault d), Syntax (fault_place (fault d)))
-    ∷ (is_line (first_long 1 (lines d)), Long (first_long 1 (lines d)))
+    ((ltb largest (length d), Err TooLong)
+    ∷ (faults (fault d), Err (Syntax (fault_place (fault d))))
+    ∷ (is_line (first_long 1 (lines d)), Err (Long (first_long 1 (lines d))))
     ∷ [])
     (answer_to t register sender (items_of t d))

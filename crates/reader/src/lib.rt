@@ -3,7 +3,7 @@
 
 ghost use Rattle.std.specs.Prelude.{◌≡◌, [], ◌+◌, ◌≤◌, ◌<◌, length};
 ghost use Rattle.turbo_lines.specs.Lines.{lines, first_long};
-ghost use Rattle.reader.specs.declared.Reading.TheVariants.{Form};
+ghost use Rattle.reader.specs.declared.Fault.TheVariants.{Form};
 ghost use Rattle.reader.specs.Rules.{largest, reading_of};
 ghost use Rattle.reader.specs.Numbers.{reading_numbers, reading_table};
 ghost use Rattle.reader.specs.Staging.{rows_up_to, laid, short_items, staged_by};
@@ -12,41 +12,40 @@ ghost use Rattle.reader.specs.inner.Settled.{answered_by, unless_long, lines_ans
 use columns::Table;
 use reader_step::State;
 
-// What a reader answers: refusals 2 to 6 and 15 with their places, or how many rows the dossier has.
-#[derive(Clone, Copy)]
-pub enum Reading {
+// Why a dossier is refused: 2 to 6 and 15 with their places. A reader answers one of these, or how many rows the dossier has.
+#[derive(Clone, Copy, Debug, PartialEq, Eq)]
+pub enum Fault {
     TooLong,
     Syntax(usize),
     Long(usize),
     Form(usize),
     Field(usize, usize),
     Owner(usize),
-    Rows(usize),
 }
 
 // The answer once no line is left, by the order of the numbers.
-fn settle(last: State) -> Reading
+fn settle(last: State) -> Result<usize, Fault>
     ensures { result ≡ answered_by 0 last.wrong last.column last.owner last.rows }
 {
     if last.wrong != 0 {
-        return Reading::Field(last.wrong, last.column);
+        return Err(Fault::Field(last.wrong, last.column));
     }
     if last.owner != 0 {
-        return Reading::Owner(last.owner);
+        return Err(Fault::Owner(last.owner));
     }
-    Reading::Rows(last.rows)
+    Ok(last.rows)
 }
 
 // A fault of form, unless a line of what is left behind it is too long. `line` is the number of the first of these.
-fn form_unless_long(form: usize, rest: &[u8], line: usize) -> Reading
+fn form_unless_long(form: usize, rest: &[u8], line: usize) -> Result<usize, Fault>
     requires { line + length rest.now < 4294967296 }
-    ensures { result ≡ unless_long (first_long line (lines rest.now)) (Form form) }
+    ensures { result ≡ unless_long (first_long line (lines rest.now)) (Err (Form form)) }
 {
     let long = turbo_lines::first_long(rest, line);
     if long != 0 {
-        return Reading::Long(long);
+        return Err(Fault::Long(long));
     }
-    Reading::Form(form)
+    Err(Fault::Form(form))
 }
 
 // The lines of a dossier within its size, one after another. Behind a fault of form only a line that is too long is looked for, since that goes before it.
@@ -56,7 +55,7 @@ fn read_lines(
     register: &[u8],
     sender: u8,
     staging: &mut [u8],
-) -> Reading
+) -> Result<usize, Fault>
     requires { length dossier.now ≤ largest }
     ensures answer { result ≡ lines_answer table register.now sender dossier.now }
     ensures area { staging.new ≡ laid table (rows_up_to table register.now sender (short_items table dossier.now)) staging.old }
@@ -67,7 +66,7 @@ fn read_lines(
         let mut size: usize = 0;
         let next = turbo_lines::read_line(rest, &mut size);
         if 4094 < size {
-            return Reading::Long(state.line);
+            return Err(Fault::Long(state.line));
         }
         state = reader_step::line_step(table, state, &rest[..size], register, sender, staging);
         if state.form != 0 {
@@ -79,16 +78,22 @@ fn read_lines(
 }
 
 // Any bytes, in the order of the table of refusals: 2, 3, 15, then 4 to 6.
-fn read(table: Table, dossier: &[u8], register: &[u8], sender: u8, staging: &mut [u8]) -> Reading
+fn read(
+    table: Table,
+    dossier: &[u8],
+    register: &[u8],
+    sender: u8,
+    staging: &mut [u8],
+) -> Result<usize, Fault>
     ensures answer { result ≡ reading_of table register.now sender dossier.now }
     ensures area { staging.new ≡ staged_by table register.now sender dossier.now staging.old }
     ensures numbers { reading_numbers result ≡ reading_table table register.now sender dossier.now }
 {
     if 65536 < dossier.len() {
-        return Reading::TooLong;
+        return Err(Fault::TooLong);
     }
     match syntax::check_syntax(dossier) {
-        Err(i) => Reading::Syntax(i),
+        Err(i) => Err(Fault::Syntax(i)),
         Ok(()) => read_lines(table, dossier, register, sender, staging),
     }
 }
@@ -100,7 +105,7 @@ pub fn read_message(
     register: &[u8],
     sender: u8,
     staging: &mut [u8],
-) -> Reading
+) -> Result<usize, Fault>
     ensures answer { result ≡ reading_of (Table.Message form) register.now sender dossier.now }
     ensures area { staging.new ≡ staged_by (Table.Message form) register.now sender dossier.now staging.old }
     ensures numbers { reading_numbers result ≡ reading_table (Table.Message form) register.now sender dossier.now }
@@ -109,7 +114,7 @@ pub fn read_message(
 }
 
 // The planning: pass times, without a date and with their service level.
-pub fn read_planning(dossier: &[u8], staging: &mut [u8]) -> Reading
+pub fn read_planning(dossier: &[u8], staging: &mut [u8]) -> Result<usize, Fault>
     ensures answer { result ≡ reading_of Table.Planning [] 0 dossier.now }
     ensures area { staging.new ≡ staged_by Table.Planning [] 0 dossier.now staging.old }
     ensures numbers { reading_numbers result ≡ reading_table Table.Planning [] 0 dossier.now }
@@ -118,7 +123,7 @@ pub fn read_planning(dossier: &[u8], staging: &mut [u8]) -> Reading
 }
 
 // The calendar: validities, each an owner, a service level and a date.
-pub fn read_calendar(dossier: &[u8], staging: &mut [u8]) -> Reading
+pub fn read_calendar(dossier: &[u8], staging: &mut [u8]) -> Result<usize, Fault>
     ensures answer { result ≡ reading_of Table.Calendar [] 0 dossier.now }
     ensures area { staging.new ≡ staged_by Table.Calendar [] 0 dossier.now staging.old }
     ensures numbers { reading_numbers result ≡ reading_table Table.Calendar [] 0 dossier.now }

@@ -8,6 +8,7 @@ use native.Mathlib.Omega.{arith}
 use borrow.Author.Tests.{leb-true, not-false}
 use lib.Dec.{leb}
 use lib.ListN.{length}
+use Rattle.std.specs.Prelude.{Ok}
 use Rattle.lists.specs.Logic.{on}
 use Rattle.lists.specs.Each.{Each}
 use Rattle.lists.specs.Rows.{Wide}
@@ -18,7 +19,6 @@ use Rattle.passage.specs.Ranges.{update_in_range}
 use Rattle.columns.specs.Tables.{is_form}
 use Rattle.register.specs.Register.{grants}
 use Rattle.register.proofs.RegisterLaws.{grants-desk}
-use Rattle.reader.specs.declared.Reading.TheVariants as Readings
 use Rattle.keys.proofs.ReplayLaws.{each_both}
 use Rattle.table.specs.Rules.{table_room}
 use Rattle.book.specs.Entries.{entry_wide}
@@ -91,7 +91,7 @@ module _ (register staging kept : List ℕ) (x : Day) where
   record Went : Type 0 where
     sound : end_sound register staging x.book x.table x.counts kept ≡ true
     known : is_form (feed_of kept).form ≡ true
-    rows : (n : ℕ) × (reading_kept (feed_of kept) ≡ Readings.Rows n)
+    rows : (n : ℕ) × (reading_kept (feed_of kept) ≡ Ok n)
     granted : any_denied register sender sent ≡ false
     all : falls_short staging (feed_of kept) ≡ false
     in-book : fits ≡ true

@@ -5,10 +5,10 @@ use mathlib.Core.List.{List}
 use Prim.Native.Nat.{ℕ, zero, suc, ◌≤◌, ◌<◌}
 use native.Mathlib.Omega.{arith}
 use lib.ListN.{length}
+use Rattle.std.specs.Prelude.{Ok}
 use Rattle.lists.specs.Each.{Each}
 use Rattle.passage.specs.Ranges.{update_in_range}
 use Rattle.columns.specs.Tables.{form_of}
-use Rattle.reader.specs.declared.Reading.TheVariants as Readings
 use Rattle.reader.specs.Rules.{reading_of, items_of}
 use Rattle.reader.proofs.RangeLaws.{rows-in-range}
 use Rattle.reader.proofs.AnswerLaws.{rows-counted, accepted-each, desk-nothing}
@@ -28,7 +28,7 @@ abbrev InRange : List ℕ → Type 0
 InRange u = update_in_range u ≡ true
 
 -- the desk sends no row
-from-sender : (form : ℕ) (register d : List ℕ) (sender n : ℕ) → reading_of (message_table form) register sender d ≡ Readings.Rows n → 0 < length (message_rows form d) → 1 ≤ sender
+from-sender : (form : ℕ) (register d : List ℕ) (sender n : ℕ) → reading_of (message_table form) register sender d ≡ Ok n → 0 < length (message_rows form d) → 1 ≤ sender
 unfolding message_rows
 from-sender form register d zero n r h =
     let z = desk-nothing (form_of form) register d n r in

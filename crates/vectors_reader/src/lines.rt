@@ -2,7 +2,7 @@
 use crate::{say, spell, staged};
 use columns::Form;
 use field_types::Number;
-use reader::Reading;
+use reader::Fault;
 use std::io::{Print, Stdout};
 
 // What is held between two lines: the letter of the group's reader; sender and register, the dossier behind them from its place on, and where it ends.
@@ -50,14 +50,14 @@ impl Desk {
         dossier: &[u8],
         register: usize,
         area: &mut [u8],
-    ) -> Reading {
+    ) -> Result<usize, Fault> {
         let sender = self.bytes[0];
         let pairs = script_text::part(&self.bytes, 1, register);
         reader::read_message(form, dossier, pairs, sender, area)
     }
 
     // P and p read the planning, C and c the calendar, N and n messages in the 8.5 form, the others in the old.
-    fn read(&self, register: usize, end: usize, area: &mut [u8]) -> Reading {
+    fn read(&self, register: usize, end: usize, area: &mut [u8]) -> Result<usize, Fault> {
         let dossier = script_text::part(&self.bytes, DOSSIER, end);
         match self.letter {
             b'P' | b'p' => reader::read_planning(dossier, area),

@@ -1,5 +1,5 @@
 // What is printed. A write that fails is passed over.
-use reader::Reading;
+use reader::Fault;
 use std::io::{Print, Stdout};
 
 pub fn line(out: Stdout, text: &[u8]) {
@@ -8,14 +8,14 @@ pub fn line(out: Stdout, text: &[u8]) {
 }
 
 // Rows that are staged, or document 01's number with where the fault is.
-pub fn answer(out: Stdout, reading: Reading) {
+pub fn answer(out: Stdout, reading: Result<usize, Fault>) {
     let _ = match reading {
-        Reading::TooLong => print!(out; " -> 2"),
-        Reading::Syntax(place) => print!(out; " -> 3 at {place}"),
-        Reading::Long(line) => print!(out; " -> 15 line {line}"),
-        Reading::Form(line) => print!(out; " -> 4 line {line}"),
-        Reading::Field(line, column) => print!(out; " -> 5 line {line} column {column}"),
-        Reading::Owner(line) => print!(out; " -> 6 line {line}"),
-        Reading::Rows(count) => print!(out; " -> rows {count}"),
+        Err(Fault::TooLong) => print!(out; " -> 2"),
+        Err(Fault::Syntax(place)) => print!(out; " -> 3 at {place}"),
+        Err(Fault::Long(line)) => print!(out; " -> 15 line {line}"),
+        Err(Fault::Form(line)) => print!(out; " -> 4 line {line}"),
+        Err(Fault::Field(line, column)) => print!(out; " -> 5 line {line} column {column}"),
+        Err(Fault::Owner(line)) => print!(out; " -> 6 line {line}"),
+        Ok(count) => print!(out; " -> rows {count}"),
     };
 }

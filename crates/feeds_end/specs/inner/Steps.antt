@@ -1,10 +1,9 @@
 -- The end of a dossier in parts, in stages. Assumes nothing.
-use Rattle.std.specs.Prelude.{ℕ, Bool, ◌&&◌, List, [], ◌∷◌, leb}
+use Rattle.std.specs.Prelude.{ℕ, Bool, ◌&&◌, List, [], ◌∷◌, leb, Ok, Err}
 use Rattle.lists.specs.Logic.{on, first_held}
 use Rattle.columns.specs.Tables.{is_form}
-use Rattle.reader.specs.declared.Reading.{Reading}
-use Rattle.reader.specs.declared.Reading.TheVariants as Readings
-use Rattle.reader.specs.Rules.{is_line}
+use Rattle.reader.specs.declared.Fault.TheVariants as Faults
+use Rattle.reader.specs.Rules.{Reading, is_line}
 use Rattle.feeds.specs.declared.Feed.{Feed}
 use Rattle.feeds.specs.declared.Kept.{Kept}
 use Rattle.calls.specs.declared.Answer.{Answer}
@@ -20,12 +19,12 @@ unfoldable pub lines_reading : Feed → Reading
 lines_reading f =
     let s = f.lines in
     first_held
-    ((is_line f.long, Readings.Long f.long)
-    ∷ (is_line s.form, Readings.Form s.form)
-    ∷ (is_line s.wrong, Readings.Field s.wrong s.column)
-    ∷ (is_line s.owner, Readings.Owner s.owner)
+    ((is_line f.long, Err (Faults.Long f.long))
+    ∷ (is_line s.form, Err (Faults.Form s.form))
+    ∷ (is_line s.wrong, Err (Faults.Field s.wrong s.column))
+    ∷ (is_line s.owner, Err (Faults.Owner s.owner))
     ∷ [])
-    (Readings.Rows s.rows)
+    (Ok s.rows)
 
 -- numbers of a begun feed, no more rows than a message has, and the staged ones in range
 unfoldable pub staged_right : List ℕ → Kept → Bool

@@ -1,7 +1,6 @@
 -- Open in stages: what a calendar gives with the pass times. Assumes nothing.
-use Rattle.std.specs.Prelude.{ℕ, ◌*◌, ◌≤◌, ◌≡◌, List, []}
+use Rattle.std.specs.Prelude.{ℕ, ◌*◌, ◌≤◌, ◌≡◌, List, [], Ok}
 use Rattle.columns.specs.declared.Table.TheVariants as Tables
-use Rattle.reader.specs.declared.Reading.TheVariants as Readings
 use Rattle.reader.specs.Rules.{reading_of, items_of, data_rows}
 use Rattle.reader.specs.Passes.{pass_wide, validity_wide}
 use Rattle.plan.specs.Rules.{joined}
@@ -30,10 +29,10 @@ few_validities = 341
 
 -- k bytes hold the rows of this planning, and of this calendar
 abbrev pub HoldsPasses : List ℕ → ℕ → Type 0
-HoldsPasses planning k = (n : ℕ) → reading_of Tables.Planning [] 0 planning ≡ Readings.Rows n → n * pass_wide ≤ k
+HoldsPasses planning k = (n : ℕ) → reading_of Tables.Planning [] 0 planning ≡ Ok n → n * pass_wide ≤ k
 
 abbrev pub HoldsValidities : List ℕ → ℕ → Type 0
-HoldsValidities calendar k = (n : ℕ) → reading_of Tables.Calendar [] 0 calendar ≡ Readings.Rows n → n * validity_wide ≤ k
+HoldsValidities calendar k = (n : ℕ) → reading_of Tables.Calendar [] 0 calendar ≡ Ok n → n * validity_wide ≤ k
 
 -- ---- of a calendar and the pass times ps: the calendar's refusals first
 
