@@ -5,12 +5,12 @@ use mathlib.Core.List.{List, [], ◌∷◌, map}
 use Prim.Native.Nat.{ℕ, zero, suc, ◌+◌, ◌*◌, ◌-◌, ◌≤◌, ◌<◌}
 use native.Mathlib.Nat.{suc-mul}
 use native.Mathlib.Omega.{arith}
-use lib.ListN.{length, drop}
+use lib.ListN.{drop}
 use Rattle.lists.specs.Part.{part}
 use Rattle.lists.specs.Rows.{rows_of}
 use Rattle.lists.proofs.RowLaws.{rows_of-step, rows_of-start}
 use Rattle.passage.specs.Layout.{key_wide, key_of}
-use Rattle.passage.proofs.StepLaws.{next_row, row_fits}
+use Rattle.passage.proofs.StepLaws.{next_row}
 use Rattle.keys.specs.Keys.{cmp}
 use Rattle.keys.specs.Sorted.{is_less, rises_from, sorted_rows}
 use Rattle.keys.proofs.StrideLaws.{key_here}
@@ -38,19 +38,22 @@ module _ (w off n : ℕ) (s : List ℕ) where
   rise-end i h = few-rise (part off (w - off)) w (n - i) (drop (i * w) s) (omega arith)
 
   module _ (i : ℕ) (h : i + 1 < n) where
-    pub rise-fits : n * w ≤ length s → i * w + w + w ≤ length s
-    rise-fits k =
-        let e = next_row w i in
-        let f = row_fits w n (i + 1) 0 (length s) h (omega arith) in
-        omega arith
-
-    pub rise-step : off + key_wide ≤ w
+    rise-step : off + key_wide ≤ w
         → sorted_rows (left i) ≡ (is_less (cmp (part (i * w + off) key_wide s) (part (i * w + off + w) key_wide s)) && sorted_rows (left (i + 1)))
     unfolding sorted_rows rises_from
     rise-step k =
         let a : i < n = omega arith in
         let e : (i + 1) * w + off ≡ i * w + off + w = rw (next_row w i) (omega arith) in
         rw (rows_of-step w n i s a, rows_of-step w n (i + 1) s h, key_here w off n s i k, key_here w off n s (i + 1) k, e)
+
+  -- the same at the row behind row i
+  pub rise-turn : (i row : ℕ) → row ≡ i + 1 → row < n → off + key_wide ≤ w
+      → sorted_rows (left i) ≡ (is_less (cmp (part (row * w + off - w) key_wide s) (part (row * w + off) key_wide s)) && sorted_rows (left row))
+  rise-turn i row e h k =
+      let m : row * w ≡ i * w + w = rw e (next_row w i) in
+      let a : row * w + off - w ≡ i * w + off = omega arith in
+      let b : row * w + off ≡ i * w + off + w = omega arith in
+      rw (a, b, e) (rise-step i (omega arith) k)
 
 -- ---- rows told by their keys alone
 

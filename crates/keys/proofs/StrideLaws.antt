@@ -1,6 +1,5 @@
 -- Rows of any width in bytes, told from their keys on: their keys, a search among them, and that a search looks at keys alone. Assumes nothing.
 use mathlib.Core.Path.{◌≡◌, refl, ap, ◌∙◌}
-use mathlib.Core.Bool.{true}
 use mathlib.Core.List.{List, [], ◌∷◌, map}
 use Prim.Native.Nat.{ℕ, zero, suc, ◌+◌, ◌*◌, ◌-◌, ◌≤◌, ◌<◌}
 use native.Mathlib.Nat.{add-zero, le_of_suc-le-suc, not-suc-le-zero}
@@ -13,8 +12,7 @@ use Rattle.lists.proofs.RowLaws.{length-rows_of, row-at}
 use Rattle.passage.specs.Layout.{key_wide, key_of}
 use Rattle.std.specs.Prelude.{Result, Ok, Err}
 use Rattle.keys.specs.Keys.{cmp, by_order}
-use Rattle.keys.specs.Sorted.{sorted_rows, lookup_from, lookup}
-use Rattle.keys.proofs.FindLaws.{Seek, seek-start}
+use Rattle.keys.specs.Sorted.{lookup_from, lookup}
 
 pub get_d_map : (f : List ℕ → List ℕ) (l : List (List ℕ)) (i : ℕ) → i < length l → get_or (map f l) i [] ≡ f (get_or l i [])
 get_d_map f [] i h = absurd (not-suc-le-zero h)
@@ -34,8 +32,8 @@ module _ (w off n : ℕ) (s : List ℕ) where
       let l : i < length (rows_of w n s) = rw (length-rows_of w n s) h in
       ap key_of (get_d_map (part off (w - off)) (rows_of w n s) i l ∙ ap (part off (w - off)) (row-at w n i s h)) ∙ key_here i k
 
-  pub seek-keyed : (k : List ℕ) → sorted_rows keyed ≡ true → Seek keyed k 0 n
-  seek-keyed k h = rw (length-map (rows_of w n s) (part off (w - off)) ∙ length-rows_of w n s) at (seek-start keyed k h)
+  pub length-keyed : length keyed ≡ n
+  length-keyed = length-map (rows_of w n s) (part off (w - off)) ∙ length-rows_of w n s
 
 -- ---- a search looks at keys alone
 

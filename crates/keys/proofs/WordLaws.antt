@@ -6,8 +6,6 @@ use Prim.Native.Nat.{ℕ, ◌+◌, ◌*◌, ◌-◌, ◌≤◌, ◌<◌}
 use mathlib.Core.Logic.{◌⊎◌, inl, inr}
 use native.Mathlib.Omega.{arith}
 use borrow.Author.Tests.{lt-ltb, le-ltb, eq-eqb, ne_eqb}
-use mir.Syntax.{w8, w64}
-use mir.Val.{Fits}
 use lib.Dec.{eqb, ltb}
 use lib.ListN.{length, get_or}
 use Rattle.lists.specs.Logic.{on}
@@ -21,13 +19,14 @@ use Rattle.lists.proofs.BigEndianLaws.{number_same, precedes-number}
 use Rattle.std.specs.declared.cmp.Ordering.TheVariants.{Less, Equal, Greater}
 use Rattle.keys.specs.Keys.{cmp, by_byte}
 use Rattle.keys.specs.Sorted.{is_less}
-use Rattle.keys.proofs.KeyLaws.{tri, by_byte-eq, flipped}
+use Rattle.std.specs.Ordering.{nat_cmp}
+use Rattle.keys.proofs.KeyLaws.{tri, by_byte-lt, by_byte-eq, by_byte-gt, flipped}
 
 -- a word by its bytes
 pub word-is :
     (at : ℕ) (s : List ℕ) → at + 8 ≤ length s
-    → get_or s at 0 * 72057594037927936 + get_or s (at + 1) 0 * 281474976710656 + (get_or s (at + 2) 0 * 1099511627776 + get_or s (at + 3) 0 * 4294967296)
-    + (get_or s (at + 4) 0 * 16777216 + get_or s (at + 5) 0 * 65536 + (get_or s (at + 6) 0 * 256 + get_or s (at + 7) 0))
+    → get_or s at 0 * 72057594037927936 + get_or s (at + 1) 0 * 281474976710656 + get_or s (at + 2) 0 * 1099511627776 + get_or s (at + 3) 0 * 4294967296
+    + get_or s (at + 4) 0 * 16777216 + get_or s (at + 5) 0 * 65536 + get_or s (at + 6) 0 * 256 + get_or s (at + 7) 0
     ≡ number (part at 8 s)
 word-is at s h =
     let z : at + 0 ≡ at = omega arith in
@@ -41,25 +40,6 @@ word-is at s h =
     let e7 : number (part at 6 s) * 256 + get_or s (at + 6) 0 ≡ number (part at 7 s) = read-turn at 6 (number (part at 6 s)) s refl (omega arith) in
     let e8 : number (part at 7 s) * 256 + get_or s (at + 7) 0 ≡ number (part at 8 s) = read-turn at 7 (number (part at 7 s)) s refl (omega arith) in
     omega arith
-
--- the sums of which a word is made fit into it
-module _ (at : ℕ) (s : List ℕ) (byte : (i : ℕ) → Fits w8 (get_or s i 0)) where
-  pub high_fits :
-      Fits w64 (get_or s at 0 * 72057594037927936 + get_or s (at + 1) 0 * 281474976710656 + (get_or s (at + 2) 0 * 1099511627776 + get_or s (at + 3) 0 * 4294967296))
-  high_fits = omega (arith, byte at, byte (at + 1), byte (at + 2), byte (at + 3))
-
-  pub end_fits : Fits w64 (get_or s (at + 6) 0 * 256 + get_or s (at + 7) 0)
-  end_fits = omega (arith, byte (at + 6), byte (at + 7))
-
-  pub low_fits : Fits w64 (get_or s (at + 4) 0 * 16777216 + get_or s (at + 5) 0 * 65536 + (get_or s (at + 6) 0 * 256 + get_or s (at + 7) 0))
-  low_fits = omega (arith, byte (at + 4), byte (at + 5), byte (at + 6), byte (at + 7))
-
-  pub word_fits :
-      Fits w64
-      (get_or s at 0 * 72057594037927936 + get_or s (at + 1) 0 * 281474976710656 + (get_or s (at + 2) 0 * 1099511627776 + get_or s (at + 3) 0 * 4294967296)
-      + (get_or s (at + 4) 0 * 16777216 + get_or s (at + 5) 0 * 65536 + (get_or s (at + 6) 0 * 256 + get_or s (at + 7) 0)))
-  word_fits =
-      omega (arith, byte at, byte (at + 1), byte (at + 2), byte (at + 3), byte (at + 4), byte (at + 5), byte (at + 6), byte (at + 7))
 
 -- ---- as many bytes in front decide, or else the rest
 
@@ -91,6 +71,14 @@ joined : (u e l s r : Bool) → u || e && l || e && s && r ≡ u || e && (l || s
 joined true e l s r = refl
 joined false true l s r = refl
 joined false false l s r = refl
+
+nat-by_byte : (x y : ℕ) → nat_cmp x y ≡ by_byte x y Equal
+nat-by_byte x y = go (tri x y)
+  where
+    go : (x < y) ⊎ ((x ≡ y) ⊎ (y < x)) → nat_cmp x y ≡ by_byte x y Equal
+    go (inl h) = rw (lt-ltb x y h)
+    go (inr (inl h)) = rw (le-ltb x y (omega arith), le-ltb y x (omega arith), eq-eqb x y h)
+    go (inr (inr h)) = rw (le-ltb x y (omega arith), ne_eqb x y (λ e. omega arith), lt-ltb y x h)
 
 -- ---- a turn of the loop: x and y are the words at i of two parts of n bytes
 
@@ -134,6 +122,15 @@ module _ (a b : List ℕ) (p q n i w : ℕ) (ha : p + n ≤ length a) (hb : q + 
       let e : number (front a p) ≡ number (front b q) = omega arith in
       rw (split a p, split b q) (front_same (front a p) (front b q) (rest a p) (rest b q) wide in-a in_b e)
 
+  -- words that differ decide
+  pub words-decide : (x ≡ y → ⊥) → nat_cmp x y ≡ cmp (part (p + i) (n - i) a) (part (q + i) (n - i) b)
+  words-decide d = go (tri x y)
+    where
+      go : (x < y) ⊎ ((x ≡ y) ⊎ (y < x)) → nat_cmp x y ≡ cmp (part (p + i) (n - i) a) (part (q + i) (n - i) b)
+      go (inl h) = nat-by_byte x y ∙ by_byte-lt x y Equal h ∙ sym (word-less h)
+      go (inr (inl h)) = absurd (d h)
+      go (inr (inr h)) = nat-by_byte x y ∙ by_byte-gt x y Equal h ∙ sym (word_more h)
+
   -- whether the first is below, without a branch
   word-decides : is_less (cmp (part (p + i) (n - i) a) (part (q + i) (n - i) b)) ≡ ltb x y || eqb x y && is_less (cmp (rest a p) (rest b q))
   word-decides = go (tri x y)
@@ -149,11 +146,15 @@ module _ (a b : List ℕ) (p q n i w : ℕ) (ha : p + n ≤ length a) (hb : q + 
 
 -- ---- the last byte
 
-pub last_byte : (a b : List ℕ) (p q n i j : ℕ) → p + n ≤ length a → q + n ≤ length b → i ≡ j → j + 1 ≡ n
+last_byte : (a b : List ℕ) (p q n i j : ℕ) → p + n ≤ length a → q + n ≤ length b → i ≡ j → j + 1 ≡ n
     → cmp (part (p + i) (n - i) a) (part (q + i) (n - i) b) ≡ by_byte (get_or a (p + j) 0) (get_or b (q + j) 0) Equal
 unfolding cmp
 last_byte a b p q n i j h k e f =
     rw (e, part_step a p n j (omega arith) (omega arith), part_step b q n j (omega arith) (omega arith), part-done a (p + (j + 1)) n (j + 1) (omega arith), part-done b (q + (j + 1)) n (j + 1) (omega arith))
+
+pub last-decides : (a b : List ℕ) (p q n i j : ℕ) → p + n ≤ length a → q + n ≤ length b → i ≡ j → j + 1 ≡ n
+    → nat_cmp (get_or a (p + j) 0) (get_or b (q + j) 0) ≡ cmp (part (p + i) (n - i) a) (part (q + i) (n - i) b)
+last-decides a b p q n i j h k e f = nat-by_byte (get_or a (p + j) 0) (get_or b (q + j) 0) ∙ sym (last_byte a b p q n i j h k e f)
 
 last_less : (x y : ℕ) → is_less (by_byte x y Equal) ≡ ltb x y
 last_less x y = go (ltb x y) (ltb y x)

@@ -1,5 +1,5 @@
 -- Rows sorted by key: each begins with its key, and the keys rise strictly. Assumes nothing.
-use Rattle.std.specs.Prelude.{ℕ, suc, Bool, true, false, ◌&&◌, List, [], ◌∷◌, Result, Ok, Err}
+use Rattle.std.specs.Prelude.{◌≡◌, ◌<◌, ℕ, suc, Bool, true, false, ◌&&◌, List, [], ◌∷◌, length, get_or, Result, Ok, Err}
 use Rattle.passage.specs.Layout.{key_of}
 use Rattle.std.specs.declared.cmp.Ordering.{Ordering}
 use Rattle.keys.specs.Keys.{cmp, by_order}
@@ -26,6 +26,10 @@ lookup_from i k (r ∷ rs) = by_order (cmp (key_of r) k) (lookup_from (suc i) k 
 -- where key k stands among sorted rows: `Ok i`, row i has it; `Err i`, no row has it, and its row would be put before row i
 unfoldable pub lookup : List ℕ → List (List ℕ) → Result ℕ ℕ
 lookup k rs = lookup_from 0 k rs
+
+-- what R tells of each place is the order of that row's key and k
+abbrev pub Compares : (ℕ → Ordering → Type 0) → List ℕ → List (List ℕ) → Type 0
+Compares R k rs = (i : ℕ) (o : Ordering) → i < length rs → R i o → o ≡ cmp (key_of (get_or rs i [])) k
 
 -- the row of key k among sorted rows; [], no bytes, says that there is none: every row begins with its key, so no row is empty
 unfoldable pub get : List ℕ → List (List ℕ) → List ℕ

@@ -1,14 +1,13 @@
 // The order of keys, whether the keys of rows rise, and where a key stands among rows, of any width and with their keys at any offset: table and plan are such rows.
 #![tactic(auto)]
 
-ghost use Rattle.std.specs.Prelude.{◌≡◌, true, map, ◌+◌, ◌*◌, ◌-◌, ◌≤◌, length};
+ghost use Rattle.std.specs.Prelude.{◌≡◌, true, ℕ, List, map, ◌+◌, ◌*◌, ◌-◌, ◌≤◌, ◌<◌, length};
 ghost use Rattle.lists.specs.Part.{part};
 ghost use Rattle.lists.specs.Rows.{rows_of};
 ghost use Rattle.lists.specs.BigEndian.{number};
 ghost use Rattle.passage.specs.Layout.{key_wide};
-ghost use Rattle.keys.specs.Keys.{cmp, by_byte};
-ghost use Rattle.std.specs.declared.cmp.Ordering.TheVariants.{Equal};
-ghost use Rattle.keys.specs.Sorted.{is_less, sorted_rows, lookup};
+ghost use Rattle.keys.specs.Keys.{cmp};
+ghost use Rattle.keys.specs.Sorted.{is_less, sorted_rows, lookup, Compares};
 
 use std::cmp::Ordering;
 
@@ -17,31 +16,21 @@ const WORDS: usize = passage::KEY_WIDE / 8;
 
 const LAST: usize = passage::KEY_WIDE - 1;
 
-// The number that the eight bytes from `at` on spell: between as many bytes, byte order is the order of the numbers. In this shape the compiler makes one load of it.
+// The number that the eight bytes from `at` on spell: between as many bytes, byte order is the order of the numbers.
 fn word_at(bytes: &[u8], at: usize) -> u64
     requires { at + 8 ≤ length bytes.now }
     ensures { result ≡ number (part at 8 bytes.now) }
 {
-    let high = bytes[at] as u64 * 72057594037927936
-        + bytes[at + 1] as u64 * 281474976710656
-        + (bytes[at + 2] as u64 * 1099511627776 + bytes[at + 3] as u64 * 4294967296);
-    let low = bytes[at + 4] as u64 * 16777216
-        + bytes[at + 5] as u64 * 65536
-        + (bytes[at + 6] as u64 * 256 + bytes[at + 7] as u64);
-    high + low
-}
-
-// The last bytes of two keys.
-fn compare_last(x: u8, y: u8) -> Ordering
-    ensures { result ≡ by_byte x y Equal }
-{
-    if x < y {
-        return Ordering::Less;
-    }
-    if y < x {
-        return Ordering::Greater;
-    }
-    Ordering::Equal
+    u64::from_be_bytes([
+        bytes[at],
+        bytes[at + 1],
+        bytes[at + 2],
+        bytes[at + 3],
+        bytes[at + 4],
+        bytes[at + 5],
+        bytes[at + 6],
+        bytes[at + 7],
+    ])
 }
 
 // The key from `here` on in `left` against the one from `there` on in `right`, in byte order.
@@ -49,19 +38,14 @@ pub fn compare_key(left: &[u8], here: usize, right: &[u8], there: usize) -> Orde
     requires { (here + key_wide ≤ length left.now) × (there + key_wide ≤ length right.now) }
     ensures { result ≡ cmp (part here key_wide left.now) (part there key_wide right.now) }
 {
-    let mut i = 0;
-    while i < WORDS {
-        let x = word_at(left, here + i * 8);
-        let y = word_at(right, there + i * 8);
-        if x < y {
-            return Ordering::Less;
+    for word in 0..WORDS {
+        let x = word_at(left, here + word * 8);
+        let y = word_at(right, there + word * 8);
+        if x != y {
+            return x.cmp(&y);
         }
-        if y < x {
-            return Ordering::Greater;
-        }
-        i += 1;
     }
-    compare_last(left[here + LAST], right[there + LAST])
+    left[here + LAST].cmp(&right[there + LAST])
 }
 
 // Whether the left key is below the right one. No branch: keys that stand side by side differ at any place.
@@ -71,13 +55,11 @@ fn is_below(left: &[u8], here: usize, right: &[u8], there: usize) -> bool
 {
     let mut below = false;
     let mut equal = true;
-    let mut word = 0;
-    while word < WORDS {
+    for word in 0..WORDS {
         let x = word_at(left, here + word * 8);
         let y = word_at(right, there + word * 8);
-        below = below | (equal & (x < y));
-        equal = equal & (x == y);
-        word += 1;
+        below |= equal & (x < y);
+        equal &= x == y;
     }
     below | (equal & (left[here + LAST] < right[there + LAST]))
 }
@@ -87,17 +69,31 @@ pub fn keys_rise(bytes: &[u8], width: usize, offset: usize, count: usize) -> boo
     requires { (count * width ≤ length bytes.now) × (offset + key_wide ≤ width) }
     ensures { result ≡ sorted_rows (map (part offset (width - offset)) (rows_of width count bytes.now)) }
 {
-    let mut p = offset;
-    let mut row = 0;
-    while row + 1 < count {
-        if is_below(bytes, p, bytes, p + width) {
-            p += width;
-            row += 1;
-        } else {
+    for row in 1..count {
+        let p = row * width + offset;
+        if !is_below(bytes, p - width, bytes, p) {
             return false;
         }
     }
     true
+}
+
+// Where `compare`, which tells of each of so many places, answers `Equal`, if it answers `Less` before and `Greater` behind; or, as `Err`, where it answers `Greater` first.
+pub fn search_by<F: Fn(usize) -> Ordering>(count: usize, compare: F) -> Result<usize, usize>
+    requires { (i : ℕ) → i < count → F.pre compare i }
+    ensures { (k : List ℕ) (rs : List (List ℕ)) → length rs ≡ count → sorted_rows rs ≡ true → Compares (F.post compare) k rs → result ≡ lookup k rs }
+{
+    let mut lo = 0;
+    let mut hi = count;
+    while lo < hi {
+        let mid = lo + (hi - lo) / 2;
+        match compare(mid) {
+            Ordering::Less => lo = mid + 1,
+            Ordering::Equal => return Ok(mid),
+            Ordering::Greater => hi = mid,
+        }
+    }
+    Err(lo)
 }
 
 // Where the key from `from` on in `key` stands among so many rows of `width` bytes, each with its key from `offset` on; or, as `Err`, where its row would be put.
@@ -113,22 +109,8 @@ pub fn find_key(
     requires bytes_value { sorted_rows (map (part offset (width - offset)) (rows_of width count bytes.now)) ≡ true }
     ensures { result ≡ lookup (part from key_wide key.now) (map (part offset (width - offset)) (rows_of width count bytes.now)) }
 {
-    let mut lo = 0;
-    let mut hi = count;
-    while lo < hi {
-        let mid = lo + (hi - lo) / 2;
-        let o = compare_key(bytes, mid * width + offset, key, from);
-        match o {
-            Ordering::Less => {
-                lo = mid + 1;
-            }
-            Ordering::Equal => {
-                return Ok(mid);
-            }
-            Ordering::Greater => {
-                hi = mid;
-            }
-        }
-    }
-    Err(lo)
+    search_by(
+        count,
+        |row| compare_key(bytes, row * width + offset, key, from),
+    )
 }
