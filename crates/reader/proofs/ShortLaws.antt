@@ -5,13 +5,15 @@ use mathlib.Core.Bool.{Bool, true, false, not}
 use mathlib.Core.List.{List, [], ◌∷◌}
 use borrow.Author.Tests.{eqb-true, ne_eqb}
 use lib.Dec.{eqb}
+use Rattle.std.specs.Prelude.{Some, None}
+use Rattle.std.specs.Option.{unwrap_or}
 use lib.ListN.{length, drop}
 use Rattle.std.specs.Prelude.{Err}
 use Rattle.lists.specs.Logic.{on}
 use Rattle.turbo.specs.Split.{until, past}
-use Rattle.turbo_lines.specs.Lines.{lines, first_long, short_front}
+use Rattle.turbo_lines.specs.Lines.{lines, long_line, first_long, short_front}
 use Rattle.turbo_lines.proofs.LineLaws.{after-line-shorter}
-use Rattle.turbo_lines.proofs.LongLaws.{bytes-none, bytes-long, bytes-short, none-long, front-whole}
+use Rattle.turbo_lines.proofs.LongLaws.{bytes-none, bytes-long, bytes-short, long-number, line-from, none-long, front-whole}
 use Rattle.columns.specs.declared.Table.{Table}
 use Rattle.reader_step.specs.declared.State.{State}
 use Rattle.reader_step.specs.Step.{line_step, line_staged, Fresh}
@@ -38,14 +40,13 @@ unless-long : (long : ℕ) (x : Answer) → 1 ≤ long → Err (Long long) ≡ u
 unless-long long x h = rw (ne_eqb long 0 (λ e. omega arith)) refl
 
 -- a fault of form, where the first line that is too long is looked for behind it
-pub form-long : (found long form : ℕ) → found ≡ long → (found ≡ 0 → ⊥) → Err (Long found) ≡ unless_long long (Err (Form form))
-form-long found long form e h = let k : 1 ≤ found = omega (arith, some found h) in unless-long found (Err (Form form)) k ∙ ap (λ (n : ℕ). unless_long n (Err (Form form))) e
-  where
-    some : (n : ℕ) → (n ≡ 0 → ⊥) → 1 ≤ n
-    some n f = omega arith
+pub form-long : (line long form : ℕ) (rest : List ℕ) → 1 ≤ line → long_line line (lines rest) ≡ Some long → Err (Long long) ≡ unless_long (first_long line (lines rest)) (Err (Form form))
+form-long line long form rest h e =
+    let k : 1 ≤ long = omega (arith, line-from line (lines rest) long e) in
+    unless-long long (Err (Form form)) k ∙ ap (λ (n : ℕ). unless_long n (Err (Form form))) (sym (long-number line (lines rest) ∙ ap (λ o. unwrap_or o 0) e))
 
-pub form-short : (found long form : ℕ) → found ≡ long → found ≡ 0 → Err (Form form) ≡ unless_long long (Err (Form form))
-form-short found long form e z = ap (λ (n : ℕ). unless_long n (Err (Form form))) (sym z ∙ e)
+pub form-short : (line form : ℕ) (rest : List ℕ) → long_line line (lines rest) ≡ None → Err (Form form) ≡ unless_long (first_long line (lines rest)) (Err (Form form))
+form-short line form rest e = ap (λ (n : ℕ). unless_long n (Err (Form form))) (sym (long-number line (lines rest) ∙ ap (λ o. unwrap_or o 0) e))
 
 -- then its front of short lines is all of it
 whole : (t : Table) (d : List ℕ) → first_long 1 (lines d) ≡ 0 → short_items t d ≡ items_of t d
@@ -99,8 +100,8 @@ module _ (t : Table) (register : List ℕ) (sender : ℕ) (d st₀ : List ℕ) w
         later : first_long 1 (lines d) ≡ first_long n.line (lines rest')
         later = now.long ∙ (bytes-short rest some size is s.line rest' short after-it).0 ∙ ap (λ (i : ℕ). first_long i (lines rest')) (sym counts)
 
-        pub going-fewer : n.line + length rest' ≤ length d + 1
-        going-fewer = omega (arith, counts, now.bytes, ap length after-it, after-line-shorter rest some)
+        pub going-fewer : (1 ≤ n.line) × (n.line + length rest' ≤ length d + 1)
+        going-fewer = (omega (arith, counts), omega (arith, counts, now.bytes, ap length after-it, after-line-shorter rest some))
 
         -- with a fault of form: what is too long behind it goes before it
         pub going-ends : (n.form ≡ 0 → ⊥) → (r : Answer) → r ≡ unless_long (first_long n.line (lines rest')) (Err (Form n.form)) → Settles r st'
@@ -118,7 +119,7 @@ module _ (t : Table) (register : List ℕ) (sender : ℕ) (d st₀ : List ℕ) w
             record {
               reading = reading-turn t register sender (short_front (lines d)) st₀ s l (short_front (lines rest')) st next n line-step st' line-staged reads fronts h;
               long = later;
-              bytes = going-fewer;
+              bytes = going-fewer.1;
             }
 
 -- the staging area keeps its length

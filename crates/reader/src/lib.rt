@@ -38,14 +38,13 @@ fn settle(last: State) -> Result<usize, Fault>
 
 // A fault of form, unless a line of what is left behind it is too long. `line` is the number of the first of these.
 fn form_unless_long(form: usize, rest: &[u8], line: usize) -> Result<usize, Fault>
-    requires { line + length rest.now < 4294967296 }
+    requires { (1 ≤ line) × (line + length rest.now < 4294967296) }
     ensures { result ≡ unless_long (first_long line (lines rest.now)) (Err (Form form)) }
 {
-    let long = turbo_lines::first_long(rest, line);
-    if long != 0 {
-        return Err(Fault::Long(long));
+    match turbo_lines::first_long(rest, line) {
+        Some(long) => Err(Fault::Long(long)),
+        None => Err(Fault::Form(form)),
     }
-    Err(Fault::Form(form))
 }
 
 // The lines of a dossier within its size, one after another. Behind a fault of form only a line that is too long is looked for, since that goes before it.
@@ -63,12 +62,11 @@ fn read_lines(
     let mut state = reader_step::start();
     let mut rest = dossier;
     while 0 < rest.len() {
-        let mut size: usize = 0;
-        let next = turbo_lines::read_line(rest, &mut size);
-        if 4094 < size {
+        let (line, next) = turbo_lines::read_line(rest);
+        if 4094 < line.len() {
             return Err(Fault::Long(state.line));
         }
-        state = reader_step::line_step(table, state, &rest[..size], register, sender, staging);
+        state = reader_step::line_step(table, state, line, register, sender, staging);
         if state.form != 0 {
             return form_unless_long(state.form, next, state.line);
         }

@@ -1,5 +1,5 @@
 -- What labels without a fault say of a column, and when they have none. Assumes nothing.
-use mathlib.Core.Path.{◌≡◌, refl, ap, ◌∙◌}
+use mathlib.Core.Path.{◌≡◌, refl, sym, ap, ◌∙◌}
 use mathlib.Core.Bool.{Bool, true, false}
 use mathlib.Core.List.{List, [], ◌∷◌}
 use Prim.Native.Nat.{ℕ, suc, ◌≤◌, ◌<◌}
@@ -9,7 +9,9 @@ use borrow.Author.Tests.{lt-ltb}
 use lib.Dec.{ltb}
 use lib.ListN.{length, get_or}
 use Rattle.lists.specs.Logic.{on}
-use Rattle.turbo_labels.specs.Columns.{column_of, any_twice}
+use Rattle.turbo_labels.specs.Columns.{column_of, repeated, any_twice}
+use Rattle.turbo_labels.proofs.ColumnLaws.{found-twice}
+use Rattle.rows.specs.Shape.{places_of}
 use Rattle.turbo_labels.specs.Claims.{Twice}
 use Rattle.turbo_labels.proofs.PlaceLaws.{place-there, place-before, second-find, place-once}
 use Rattle.columns.specs.declared.Table.{Table}
@@ -18,7 +20,7 @@ use Rattle.columns.specs.Tables.{Column, must, columns_in, names, name_of, is_op
 use Rattle.columns.specs.Layout.{wanted, column_at, optional_at}
 use Rattle.columns.proofs.LayoutLaws.{names-wanted}
 use Rattle.rows.specs.Claims.{Stands}
-use Rattle.rows.proofs.ShapeLaws.{found-twice}
+use Rattle.rows.proofs.ShapeLaws.{found-is}
 use Rattle.rows.proofs.SoundLaws.{name-at, fault-parts, place_at, places-there}
 
 misses-none : (cs : List Column) (labels : List (List ℕ)) (d : Column) → ((k : ℕ) → k < length cs → is_optional (get_or cs k d) ≡ false → column_of (name_of (get_or cs k d)) labels < length labels) → misses_in cs labels ≡ false
@@ -53,7 +55,7 @@ module _ (t : Table) (labels : List (List ℕ)) where
     where
       go : (b : Bool) → any_twice (names t) labels ≡ b → b ≡ false
       go true e =
-          let s = (second-find (names t) labels).0 (found-twice t labels ∙ e) in
+          let s = (second-find (names t) labels).0 (found-is t labels ∙ rw e) in
           let h : s.0 < wanted t = let l = s.1 in let n = names-wanted t in omega arith in
           absurd (f s.0 h (rw (name-at t s.0 h) at s.2))
       go false e = refl
@@ -74,7 +76,7 @@ module _ (t : Table) (labels : List (List ℕ)) where
         let n : j < length (names t) = let l = names-wanted t in omega arith in
         let v : Twice (get_or (names t) j []) labels = rw (name-at t j h) w in
         let y = (second-find (names t) labels).1 (j, n, v) in
-        let x = found-twice t labels ∙ (fault-parts t labels e).0 in
+        let x = sym (found-twice (any_twice (names t) labels) (places_of t labels) repeated (sym (found-is t labels) ∙ y)) ∙ (fault-parts t labels e).0 in
         let z : ◌≡◌ {A = ℕ} 0 1 = cc in
         omega arith
 

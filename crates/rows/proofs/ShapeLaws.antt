@@ -8,8 +8,10 @@ use lib.ListN.{length, take, replicate}
 use Rattle.lists.specs.Logic.{on}
 use Rattle.lists.specs.Part.{over}
 use Rattle.lists.proofs.LogicLaws.{or-true}
-use Rattle.turbo_labels.specs.declared.Columns.{Columns}
-use Rattle.turbo_labels.specs.Columns.{any_twice, places_from, columns_of, most}
+use Rattle.std.specs.Prelude.{Result, Ok, Err}
+use Rattle.turbo_labels.specs.declared.Repeated.{Repeated}
+use Rattle.turbo_labels.specs.Columns.{repeated, any_twice, places_from, columns_of, most}
+use Rattle.turbo_labels.proofs.ColumnLaws.{found-once, found-twice}
 use Rattle.columns.specs.declared.Table.{Table}
 use Rattle.columns.specs.declared.Table.TheVariants.{Message, Planning, Calendar}
 use Rattle.columns.specs.Tables.{message_columns, planning_columns, calendar_columns, columns_in, names, misses, stop_place, label_fault}
@@ -27,21 +29,13 @@ misses-lacking Calendar labels = refl
 -- ---- what the search for the names says
 
 -- the search for the names that a table's constant has
-pub names-found : {t u : Table} (ws labels : List (List ℕ)) {c : Columns} → c ≡ columns_of ws labels → ws ≡ names u → t ≡ u → c ≡ columns_of (names t) labels
+pub names-found : {t u : Table} (ws labels : List (List ℕ)) {c : Result (List ℕ) Repeated} → c ≡ columns_of ws labels → ws ≡ names u → t ≡ u → c ≡ columns_of (names t) labels
 names-found ws labels e n q = e ∙ rw (n, q)
 
-module _ (t : Table) (labels : List (List ℕ)) where
-  search-cases : (b : Bool) → any_twice (names t) labels ≡ b →
-      ((columns_of (names t) labels).twice ≡ b) × (b ≡ false → (columns_of (names t) labels).places ≡ places_of t labels)
-  unfolding columns_of
-  search-cases true e = (rw e, λ q. absurd (let z : ◌≡◌ {A = ℕ} 0 1 = cc in omega arith))
-  search-cases false e = (rw e, λ q. rw e)
-
-  pub found-twice : (columns_of (names t) labels).twice ≡ any_twice (names t) labels
-  found-twice = (search-cases (any_twice (names t) labels) refl).0
-
-  pub found-places : (columns_of (names t) labels).twice ≡ false → (columns_of (names t) labels).places ≡ places_of t labels
-  found-places e = (search-cases (any_twice (names t) labels) refl).1 (sym found-twice ∙ e)
+-- it answers by whether one of them stands twice
+pub found-is : (t : Table) (labels : List (List ℕ)) → columns_of (names t) labels ≡ on (any_twice (names t) labels) (Err repeated) (Ok (places_of t labels))
+unfolding columns_of
+found-is t labels = refl
 
 -- ---- the shape, by the ways out of the code
 
@@ -51,19 +45,16 @@ pub record Searched (t : Table) (labels : List (List ℕ)) (ps : List ℕ) (n : 
   pub places : ps ≡ places_of t labels
   pub count : n ≡ length labels
 
-module _ (t : Table) (labels : List (List ℕ)) {c : Columns} (e : c ≡ columns_of (names t) labels) where
-  told : c.twice ≡ any_twice (names t) labels
-  told = ap (λ (d : Columns). d.twice) e ∙ found-twice t labels
-
-  pub searched : {n : ℕ} → c.twice ≡ false → n ≡ length labels → Searched t labels c.places n
-  searched q l =
-      let w : (columns_of (names t) labels).twice ≡ false = found-twice t labels ∙ sym told ∙ q in
-      record { once = sym told ∙ q; places = ap (λ (d : Columns). d.places) e ∙ found-places t labels w; count = l }
+module _ (t : Table) (labels : List (List ℕ)) {c : Result (List ℕ) Repeated} (e : c ≡ columns_of (names t) labels) where
+  pub searched : {ps : List ℕ} {n : ℕ} → c ≡ Ok ps → n ≡ length labels → Searched t labels ps n
+  searched {ps} q l =
+      let o = found-once (any_twice (names t) labels) (places_of t labels) ps (sym (found-is t labels) ∙ sym e ∙ q) in
+      record { once = o.0; places = sym o.1; count = l }
 
   -- one stands twice
-  pub shape-twice : c.twice ≡ true → no_shape ≡ shape_of t labels
+  pub shape-twice : (r : Repeated) → c ≡ Err r → no_shape ≡ shape_of t labels
   unfolding shape_of label_fault
-  shape-twice q = rw (sym told ∙ q)
+  shape-twice r q = rw (found-twice (any_twice (names t) labels) (places_of t labels) r (sym (found-is t labels) ∙ sym e ∙ q))
 
 module _ {t : Table} {labels : List (List ℕ)} {ps : List ℕ} {n : ℕ} {b : Bool} (g : Searched t labels ps n) (l : b ≡ lacking n (columns_in t) ps) where
   missing : misses t labels ≡ b

@@ -25,7 +25,8 @@ use Rattle.columns.proofs.LayoutLaws.{wanted-most, names-wanted}
 use Rattle.rows.specs.declared.Shape.{Shape}
 use Rattle.rows.specs.Shape.{IsShape, places_of, reading_order, shape_of}
 use Rattle.rows.proofs.AheadLaws.{visits-length}
-use Rattle.rows.proofs.ShapeLaws.{found-twice, found-places}
+use Rattle.std.specs.Prelude.{Ok}
+use Rattle.rows.proofs.ShapeLaws.{found-is}
 
 -- ---- the wanted names are all different
 
@@ -116,8 +117,8 @@ module _ (t : Table) (labels : List (List ℕ)) (e : label_fault t labels ≡ fa
   place_at k h =
       let n = names-wanted t in
       let w = wanted-most t in
-      let f : (columns_of (names t) labels).twice ≡ false = found-twice t labels ∙ fault-parts.0 in
-      rw (← (found-places t labels f)) (each-place (names t) labels (omega arith) f k (omega arith))
+      let f : columns_of (names t) labels ≡ Ok (places_of t labels) = found-is t labels ∙ rw fault-parts.0 in
+      each-place (names t) labels (places_of t labels) (omega arith) f k (omega arith)
 
   pub places-apart : (j k : ℕ) → j < wanted t → k < wanted t → get_or (places_of t labels) j 0 ≡ get_or (places_of t labels) k 0 → get_or (places_of t labels) j 0 < length labels → j ≡ k
   places-apart j k a b q h =

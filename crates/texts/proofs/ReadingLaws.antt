@@ -10,6 +10,7 @@ use lib.ListN.{length, get_or, drop, set, replicate, length-append}
 use lib.Seq.{drop-cons, drop-length, append_snoc, set_at}
 use Rattle.texts.specs.declared.Step.{Step}
 use Rattle.texts.specs.declared.Step.TheVariants.{Mark, Byte, Bad}
+use Rattle.std.specs.Option.{unwrap_or}
 use Rattle.lists.specs.Logic.{on, within}
 use Rattle.turbo.specs.Escape.{escaped, decode_after, decode}
 use Rattle.texts.specs.Texts.{all_text, padded, text_given, text}
@@ -31,7 +32,7 @@ kept-told x rest = go (within 32 126 x) refl
 
 step-told : (after : Bool) (b : ℕ) (rest : List ℕ) → Told (step_of after b) (decode_after after (b ∷ rest)) rest
 unfolding step_of
-step-told true b rest = kept-told (escaped b) rest
+step-told true b rest = kept-told (unwrap_or (escaped b) 0) rest
 step-told false b rest = go (eqb b 92)
   where
     go : (t : Bool) → Told (on t Mark (kept_step b)) (on t (decode_after true rest) (b ∷ decode_after false rest)) rest

@@ -38,7 +38,10 @@ fn step_at(after: bool, b: u8) -> Step
     ensures { result ≡ step_of after b }
 {
     if after {
-        return kept_step(turbo::escaped(b));
+        return match turbo::escaped(b) {
+            Some(v) => kept_step(v),
+            None => Step::Bad,
+        };
     }
     if b == b'\\' {
         return Step::Mark;

@@ -15,6 +15,8 @@ use Rattle.turbo.proofs.rest_after_bars.Kinds as rest-after-bars
 use Rattle.turbo.proofs.rest_after_bars.Reads as rest-after-bars-reads
 use Rattle.turbo.proofs.read_field.Kinds as read-field
 use Rattle.turbo.proofs.read_field.Reads as read-field-reads
+use Rattle.turbo.proofs.cut.Kinds as cut
+use Rattle.turbo.proofs.cut.Reads as cut-reads
 use Rattle.turbo.proofs.field_of.Kinds as field_of
 use Rattle.turbo.proofs.field_of.Reads as field-of-reads
 use Rattle.turbo.proofs.count_fields.Kinds as count-fields
@@ -38,11 +40,17 @@ rest-after-bar-determined κs a x y s t p q = p ∙ sym q
 pub rest-after-bars-determined : Determined 1 rest-after-bars.ps rest-after-bars.r rest-after-bars-reads.Post (λ κs x s. x.now)
 rest-after-bars-determined κs a x y s t p q = p ∙ sym q
 
-pub read-field-tail-determined : Determined 2 read-field.ps read-field.r read-field-reads.Post (λ κs x s. x.now)
-read-field-tail-determined κs a x y s t p q = p.0 ∙ sym q.0
+pub read-field-determined : Determined 1 read-field.ps read-field.r read-field-reads.Post (λ κs x s. x.0.now)
+read-field-determined κs a x y s t p q = p.0 ∙ sym q.0
 
-pub read-field-size-determined : Determined 2 read-field.ps read-field.r read-field-reads.Post (λ κs x s. s.1.0.now)
-read-field-size-determined κs a x y s t p q = p.1 ∙ sym q.1
+pub read-field-tail-determined : Determined 1 read-field.ps read-field.r read-field-reads.Post (λ κs x s. x.1.now)
+read-field-tail-determined κs a x y s t p q = p.1 ∙ sym q.1
+
+pub cut-before-determined : Determined 1 cut.ps cut.r cut-reads.Post (λ κs x s. x.0.now)
+cut-before-determined κs a x y s t p q = p.0 ∙ sym q.0
+
+pub cut-behind-determined : Determined 1 cut.ps cut.r cut-reads.Post (λ κs x s. x.1.now)
+cut-behind-determined κs a x y s t p q = p.1 ∙ sym q.1
 
 pub field-of-determined : Determined 1 field_of.ps field_of.r field-of-reads.Post (λ κs x s. x.now)
 field-of-determined κs a x y s t p q = p ∙ sym q

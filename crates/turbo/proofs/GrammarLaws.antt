@@ -2,6 +2,8 @@ use Prim.Native.Nat.{ℕ, ◌<◌}
 use native.Mathlib.Omega.{arith}
 use mathlib.Core.Path.{◌≡◌, refl, ap, ◌∙◌}
 use mathlib.Core.Bool.{false}
+use Rattle.std.specs.Prelude.{Some}
+use Rattle.std.specs.Option.{unwrap_or}
 use mathlib.Core.List.{List, [], ◌∷◌, ◌++◌}
 use borrow.Author.Tests.{ne_eqb}
 use Rattle.grammar.specs.Grammar.{Esc, Text, Field, Fields}
@@ -51,7 +53,7 @@ fields-grammar (Fields.one f) = field-alone (field-bar f)
 fields-grammar (Fields.more {f} {l} g r) = field-before l (field-bar g) ∙ ap (λ (fs : List (List ℕ)). f ∷ fs) (fields-grammar r)
 
 -- decoding
-escape-grammar : {e : ℕ} (p : Esc e) → escaped e ≡ escape_in p
+escape-grammar : {e : ℕ} (p : Esc e) → escaped e ≡ Some (escape_in p)
 unfolding escaped
 escape-grammar Esc.slash = refl
 escape-grammar Esc.lf = refl
@@ -61,7 +63,7 @@ escape-grammar Esc.cr = refl
 decode-text : {l : List ℕ} (t : Text l) → decode_after false l ≡ content_in t
 decode-text Text.empty = refl
 decode-text (Text.plain {b} p t) = rw (ne_eqb b 92 p.no_slash) (ap (λ (l : List ℕ). b ∷ l) (decode-text t))
-decode-text (Text.esc {l} p t) = ap (λ (b : ℕ). b ∷ decode_after false l) (escape-grammar p) ∙ ap (λ (m : List ℕ). escape_in p ∷ m) (decode-text t)
+decode-text (Text.esc {l} p t) = ap (λ b. unwrap_or b 0 ∷ decode_after false l) (escape-grammar p) ∙ ap (λ (m : List ℕ). escape_in p ∷ m) (decode-text t)
 
 pub decode-grammar : {l : List ℕ} (t : Text l) → decode l ≡ content_in t
 unfolding decode

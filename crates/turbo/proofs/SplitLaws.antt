@@ -111,6 +111,9 @@ upto_is x n l e = rw e (until-take x l)
 pub rest-is : (x n : ℕ) (l : List ℕ) → n ≡ length (until x l) → take (length l - (n + 1)) (drop (n + 1) l) ≡ past x l
 rest-is x n l e = tail_all (n + 1) l ∙ rw (e, add-one) (sym (past-drop x l))
 
+pub past_is : (x n : ℕ) (l : List ℕ) → n ≡ length (until x l) → drop (n + 1) l ≡ past x l
+past_is x n l e = rw (e, add-one) (sym (past-drop x l))
+
 pub rest-none : (x n : ℕ) (l : List ℕ) → n ≡ length (until x l) → length l ≤ n → take (length l - n) (drop n l) ≡ past x l
 rest-none x n l e h = tail_all n l ∙ drop_of_length-le l h ∙ sym (past-none x l (omega arith))
 

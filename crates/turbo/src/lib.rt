@@ -1,23 +1,23 @@
 // The walk over a line: escapes, where a byte stands, the fields as parts of the lent bytes, and how many there are. A dossier's lines are `turbo_lines`.
 #![tactic(auto)]
 
-ghost use Rattle.std.specs.Prelude.{◌≡◌, false, ℕ, ◌+◌, ◌≤◌, ◌<◌, length, drop, get_or};
+ghost use Rattle.std.specs.Prelude.{◌≡◌, false, ℕ, ◌+◌, ◌≤◌, ◌<◌, length, take, drop, get_or};
 ghost use Rattle.turbo.specs.Escape.{escaped};
 ghost use Rattle.turbo.specs.Split.{until, past, field_at, tail_at, fields};
 ghost use Rattle.turbo.specs.inner.Bars.{BarsIn, BarsBefore};
 
 // ---- escapes
 
-// The byte that a backslash and the letter stand for, 0 for none.
-pub fn escaped(letter: u8) -> u8
+// The byte that a backslash and the letter stand for.
+pub fn escaped(letter: u8) -> Option<u8>
     ensures { result ≡ escaped letter }
 {
     match letter {
-        b'r' => b'\r',
-        b'n' => b'\n',
-        b'i' => b'\\',
-        b'p' => b'|',
-        _ => 0,
+        b'r' => Some(b'\r'),
+        b'n' => Some(b'\n'),
+        b'i' => Some(b'\\'),
+        b'p' => Some(b'|'),
+        _ => None,
     }
 }
 
@@ -112,60 +112,54 @@ pub fn find_far(bytes: &[u8], byte: u8) -> usize
 
 // ---- fields
 
+// What stands before place n, and what behind the so many bytes from there on; nothing where no more are left.
+pub fn cut<'a>(bytes: &'a [u8], n: usize, width: usize) -> (&'a [u8], &'a [u8])
+    requires { n ≤ length bytes.now }
+    ensures before { result.0.now ≡ take n bytes.now }
+    ensures behind { result.1.now ≡ drop (n + width) bytes.now }
+{
+    let (before, rest) = bytes.split_at(n);
+    (before, rest.get(width..).unwrap_or(&[]))
+}
+
+// The first field of a tail, and the tail that starts after its bar; nothing where there is no bar.
+pub fn read_field<'a>(tail: &'a [u8]) -> (&'a [u8], &'a [u8])
+    ensures field { result.0.now ≡ until 124 tail.now }
+    ensures tail { result.1.now ≡ past 124 tail.now }
+{
+    cut(tail, find(tail, b'|'), 1)
+}
+
 // The first field of a tail.
 pub fn first_field<'a>(tail: &'a [u8]) -> &'a [u8]
     ensures { result.now ≡ until 124 tail.now }
 {
-    let n = find(tail, b'|');
-    &tail[..n]
+    read_field(tail).0
 }
 
 // The tail that starts after the bar; nothing where there is no bar.
 pub fn rest_after_bar<'a>(tail: &'a [u8]) -> &'a [u8]
     ensures { result.now ≡ past 124 tail.now }
 {
-    let n = find(tail, b'|');
-    if n < tail.len() {
-        let a = n + 1;
-        return &tail[a..];
-    }
-    &tail[n..]
+    read_field(tail).1
 }
 
 // The tail after so many bars: past the columns that nobody wants.
 pub fn rest_after_bars<'a>(line: &'a [u8], bars: usize) -> &'a [u8]
     ensures { result.now ≡ tail_at bars line.now }
 {
-    let mut t = line;
-    let mut left = bars;
-    while 0 < left {
-        let u = rest_after_bar(t);
-        t = u;
-        left -= 1;
+    let mut tail = line;
+    for passed in 0..bars {
+        tail = rest_after_bar(tail);
     }
-    t
-}
-
-// One field in a single walk: how many bytes it has, and the tail that starts after its bar.
-pub fn read_field<'a>(tail: &'a [u8], size: &mut usize) -> &'a [u8]
-    ensures tail { result.now ≡ past 124 tail.now }
-    ensures size { size.new ≡ length (until 124 tail.now) }
-{
-    let n = find(tail, b'|');
-    *size = n;
-    if n < tail.len() {
-        let a = n + 1;
-        return &tail[a..];
-    }
-    &tail[n..]
+    tail
 }
 
 // The field at a place of a line, counted from 0, as a part of it.
 pub fn field_of<'a>(line: &'a [u8], place: usize) -> &'a [u8]
     ensures { result.now ≡ field_at place line.now }
 {
-    let t = rest_after_bars(line, place);
-    first_field(t)
+    first_field(rest_after_bars(line, place))
 }
 
 // ---- how many fields a line has: its bars counted by blocks, and one

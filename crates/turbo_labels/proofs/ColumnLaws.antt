@@ -1,50 +1,49 @@
-use Prim.Native.Nat.{ℕ, suc, ◌+◌, ◌≤◌, ◌<◌, ◌-◌}
+use Prim.Native.Nat.{ℕ, suc, ◌+◌, ◌≤◌, ◌<◌}
 use native.Mathlib.Omega.{arith}
 use native.Mathlib.Numerals.{add-one}
 use native.Mathlib.Decide.{dec_lt}
 use mathlib.Core.Path.{◌≡◌, refl, sym, ap, ◌∙◌}
 use mathlib.Core.Bool.{Bool, true, false}
 use mathlib.Core.List.{List, [], ◌∷◌}
-use borrow.Author.Tests.{leb-true, leb-false, ltb-true, ltb-false, eq-eqb, ne_eqb, le-leb, lt-leb}
-use lib.ListN.{length, get_or, take, drop, set, replicate}
-use lib.Seq.{get_or-set_same, get_or-set_other}
-use lib.Dec.{ltb, leb}
+use borrow.Author.Tests.{leb-true, leb-false, le-leb, lt-leb}
+use lib.ListN.{length, get_or, drop, set, replicate, drop_of_length-le}
+use lib.Seq.{drop-cons, get_or-set_same, get_or-set_other}
+use lib.Dec.{leb}
+use Rattle.std.specs.Prelude.{Option, Some, None, Result, Ok, Err, IsErr}
+use Rattle.std.specs.Option.{unwrap_or}
 use Rattle.lists.specs.Logic.{on}
 use Rattle.lists.specs.Text.{same}
-use Rattle.turbo_labels.specs.declared.Columns.{Columns}
-use Rattle.turbo_labels.specs.declared.Seen.TheVariants.{First, Twice}
-use Rattle.turbo.specs.Split.{until, past, fields, tail_at}
-use Rattle.turbo_labels.specs.Columns.{count, column_of, any_twice, places_from, columns_of, most}
-use Rattle.turbo.proofs.SplitLaws.{rest-is, tail-past, fields-cons, fields-last}
+use Rattle.turbo_labels.specs.declared.Repeated.{Repeated}
+use Rattle.turbo.specs.Split.{until, fields, field_at, tail_at}
+use Rattle.turbo_labels.specs.Columns.{count, column_of, repeated, place_of, any_twice, places_from, columns_of, most}
+use Rattle.turbo.proofs.SplitLaws.{field-tail}
 use Rattle.turbo_labels.specs.inner.Search.{seen_after, seen_by, sought}
 
 -- Laws of the search for column names. Assumes nothing.
 
--- the place of a name, n where the first bar of what is left was found
-module _ (name l : List ℕ) (n : ℕ) (e : n ≡ length (until 124 l)) where
-  pub place-hit : n ≤ length l → same (take n l) name ≡ true → column_of name (fields l) ≡ 0
-  unfolding column_of
-  place-hit h y = go (ltb n (length l)) refl
-    where
-      go : (t : Bool) → ltb n (length l) ≡ t → column_of name (fields l) ≡ 0
-      go true k = rw (fields-cons l n e (ltb-true _ _ k)) (rw y)
-      go false k = let k' : length l ≤ n = ltb-false _ _ k in rw (fields-last l n e (omega arith)) (rw y)
+-- the fields of a line from the k-th on: the first is that of the tail behind k bars
+pub fields-at : (l : List ℕ) (k : ℕ) → k < length (fields l) → drop k (fields l) ≡ until 124 (tail_at k l) ∷ drop (k + 1) (fields l)
+unfolding field_at
+fields-at l k h = rw (add-one, field-tail k l) (drop-cons (fields l) k [] h)
 
-  pub place-last : n ≡ length l → same (take n l) name ≡ false → column_of name (fields l) ≡ 1
-  unfolding column_of
-  place-last h y = rw (fields-last l n e h) (rw y)
+pub fields-end : (l : List ℕ) (k : ℕ) → length (fields l) ≤ k → drop k (fields l) ≡ []
+fields-end l k h = drop_of_length-le (fields l) h
 
-  pub place-more : n < length l → same (take n l) name ≡ false → column_of name (fields l) ≡ suc (column_of name (fields (take (length l - (n + 1)) (drop (n + 1) l))))
+-- the place of a name, column by column
+module _ (w : List ℕ) where
+  pub place-hit : (f : List ℕ) (fs : List (List ℕ)) → same f w ≡ true → column_of w (f ∷ fs) ≡ 0
   unfolding column_of
-  place-more h y = rw (fields-cons l n e h) (rw y)
+  place-hit f fs e = rw e
+
+  pub place-on : (f : List ℕ) (fs : List (List ℕ)) → same f w ≡ false → column_of w (f ∷ fs) ≡ suc (column_of w fs)
+  unfolding column_of
+  place-on f fs e = rw e
+
+  pub place-none : column_of w [] ≡ 0
+  unfolding column_of
+  place-none = refl
 
 -- the search for one name, column by column, is by its count and its place
-on-true : {A : Type 0} (t : Bool) (x y : A) → t ≡ true → on t x y ≡ x
-on-true t x y e = rw e
-
-on-false : {A : Type 0} (t : Bool) (x y : A) → t ≡ false → on t x y ≡ y
-on-false t x y e = rw e
-
 less_one : (n : ℕ) → leb 1 n ≡ leb 2 (suc n)
 less_one n = go (leb 1 n) refl
   where
@@ -52,115 +51,123 @@ less_one n = go (leb 1 n) refl
     go true e = sym (le-leb 2 (suc n) (let h : 1 ≤ n = leb-true _ _ e in omega arith))
     go false e = sym (lt-leb 2 (suc n) (let h : n < 1 = leb-false _ _ e in omega arith))
 
-sought-again : (none first k : ℕ) (w : List ℕ) (fs : List (List ℕ)) → (first ≡ none → ⊥) → sought none first k w fs ≡ on (leb 1 (count w fs)) Twice (First first)
+sought-again : (p k : ℕ) (w : List ℕ) (fs : List (List ℕ)) → sought (Some p) k w fs ≡ on (leb 1 (count w fs)) (Err repeated) (Ok (Some p))
 unfolding sought count
-sought-again none first k w [] h = refl
-sought-again none first k w (f ∷ fs) h = go (same f w) (sought-again none first (suc k) w fs h)
+sought-again p k w [] = refl
+sought-again p k w (f ∷ fs) = go (same f w) (sought-again p (suc k) w fs)
   where
-    go : (t : Bool) → sought none first (suc k) w fs ≡ on (leb 1 (count w fs)) Twice (First first) → seen_by (seen_after none first k t) (λ at. sought none at (suc k) w fs) Twice ≡ on (leb 1 (on t (suc (count w fs)) (count w fs))) Twice (First first)
-    go true ih = rw (ne_eqb first none h, le-leb 1 (suc (count w fs)) (omega arith))
+    go : (t : Bool) → sought (Some p) (suc k) w fs ≡ on (leb 1 (count w fs)) (Err repeated) (Ok (Some p)) → seen_by (seen_after (Some p) k t) (λ at. sought at (suc k) w fs) ≡ on (leb 1 (on t (suc (count w fs)) (count w fs))) (Err repeated) (Ok (Some p))
+    go true ih = rw (le-leb 1 (suc (count w fs)) (omega arith))
     go false ih = ih
 
-sought-first : (none k : ℕ) (w : List ℕ) (fs : List (List ℕ)) → k + length fs ≡ none → sought none none k w fs ≡ on (leb 2 (count w fs)) Twice (First (k + column_of w fs))
+-- a find, or the number of columns
+abbrev pub placed : ℕ → Result (Option ℕ) Repeated → Result ℕ Repeated
+placed n (Ok o) = Ok (unwrap_or o n)
+placed n (Err e) = Err e
+
+placed-on : (n k : ℕ) (t : Bool) → placed n (on t (Err repeated) (Ok (Some k))) ≡ on t (Err repeated) (Ok k)
+placed-on n k true = refl
+placed-on n k false = refl
+
+sought-first : (n k : ℕ) (w : List ℕ) (fs : List (List ℕ)) → k + length fs ≡ n → placed n (sought None k w fs) ≡ on (leb 2 (count w fs)) (Err repeated) (Ok (k + column_of w fs))
 unfolding sought count column_of
-sought-first none k w [] h = ap First (sym h)
-sought-first none k w (f ∷ fs) h = go (same f w) (sought-first none (suc k) w fs (omega arith))
+sought-first n k w [] h = ap Ok (sym h)
+sought-first n k w (f ∷ fs) h = go (same f w) (sought-first n (suc k) w fs (omega arith))
   where
-    go : (t : Bool) → sought none none (suc k) w fs ≡ on (leb 2 (count w fs)) Twice (First (suc k + column_of w fs)) → seen_by (seen_after none none k t) (λ at. sought none at (suc k) w fs) Twice ≡ on (leb 2 (on t (suc (count w fs)) (count w fs))) Twice (First (k + on t 0 (suc (column_of w fs))))
+    go : (t : Bool) → placed n (sought None (suc k) w fs) ≡ on (leb 2 (count w fs)) (Err repeated) (Ok (suc k + column_of w fs)) → placed n (seen_by (seen_after None k t) (λ at. sought at (suc k) w fs)) ≡ on (leb 2 (on t (suc (count w fs)) (count w fs))) (Err repeated) (Ok (k + on t 0 (suc (column_of w fs))))
     go true ih =
         let z : k + 0 ≡ k = omega arith in
-        rw (eq-eqb none none refl, z, ← less_one (count w fs)) (sought-again none k (suc k) w fs (λ e. omega arith))
+        rw (z, ← less_one (count w fs)) (ap (placed n) (sought-again k (suc k) w fs) ∙ placed-on n k (leb 1 (count w fs)))
     go false ih =
         let z : k + suc (column_of w fs) ≡ suc k + column_of w fs = omega arith in
         rw z ih
 
-pub sought-is : (none : ℕ) (w : List ℕ) (fs : List (List ℕ)) → none ≡ length fs → sought none none 0 w fs ≡ on (leb 2 (count w fs)) Twice (First (column_of w fs))
-sought-is none w fs h =
+pub sought-is : (n : ℕ) (w : List ℕ) (fs : List (List ℕ)) → n ≡ length fs → placed n (sought None 0 w fs) ≡ place_of w fs
+unfolding place_of
+sought-is n w fs h =
     let z : 0 + column_of w fs ≡ column_of w fs = omega arith in
-    sought-first none 0 w fs (omega arith) ∙ ap (λ (p : ℕ). on (leb 2 (count w fs)) Twice (First p)) z
+    sought-first n 0 w fs (omega arith) ∙ ap (λ (p : ℕ). on (leb 2 (count w fs)) (Err repeated) (Ok p)) z
 
-found-once : (t : Bool) (p q : ℕ) → on t Twice (First p) ≡ First q → (t ≡ false) × (p ≡ q)
-found-once true p q e = absurd (let z : ◌≡◌ {A = ℕ} 0 1 = cc in omega arith)
-found-once false p q e = (refl, cc)
-
-found-twice : (t : Bool) (p : ℕ) → on t Twice (First p) ≡ Twice → t ≡ true
-found-twice true p e = refl
-found-twice false p e = absurd (let z : ◌≡◌ {A = ℕ} 0 1 = cc in omega arith)
-
--- a turn over the columns, n where the first bar of what is left was found
-module _ (none first k : ℕ) (name l : List ℕ) (n : ℕ) (e : n ≡ length (until 124 l)) where
-  pub column-next : (p : ℕ) → n < length l → seen_after none first k (same (take n l) name) ≡ First p
-      → sought none first k name (fields l) ≡ sought none p (k + 1) name (fields (take (length l - (n + 1)) (drop (n + 1) l)))
+-- a turn over the columns
+module _ (found : Option ℕ) (k : ℕ) (w f : List ℕ) (fs : List (List ℕ)) where
+  pub column-next : (o : Option ℕ) → seen_after found k (same f w) ≡ Ok o → sought found k w (f ∷ fs) ≡ sought o (k + 1) w fs
   unfolding sought
-  column-next p h q = rw (fields-cons l n e h, q, add-one k)
+  column-next o q = rw (q, add-one k)
 
-  pub column-last : (p : ℕ) → n ≡ length l → seen_after none first k (same (take n l) name) ≡ First p → sought none first k name (fields l) ≡ First p
+  pub column-twice : (e : Repeated) → seen_after found k (same f w) ≡ Err e → sought found k w (f ∷ fs) ≡ Err e
   unfolding sought
-  column-last p h q = rw (fields-last l n e h, q)
+  column-twice e q = rw q
 
-  pub column-twice : n ≤ length l → seen_after none first k (same (take n l) name) ≡ Twice → sought none first k name (fields l) ≡ Twice
-  unfolding sought
-  column-twice h q = go (ltb n (length l)) refl
-    where
-      go : (t : Bool) → ltb n (length l) ≡ t → sought none first k name (fields l) ≡ Twice
-      go true m = rw (fields-cons l n e (ltb-true _ _ m), q)
-      go false m = let m' : length l ≤ n = ltb-false _ _ m in rw (fields-last l n e (omega arith), q)
+pub column-end : (found : Option ℕ) (k : ℕ) (w : List ℕ) → sought found k w [] ≡ Ok found
+unfolding sought
+column-end found k w = refl
+
+-- an error is the one that there is
+pub refused : {A : Type 0} (r : Result A Repeated) → IsErr r → r ≡ Err repeated
+refused (Ok a) h = let q : ◌≡◌ {A = Bool} false true = h in absurd (let z : ◌≡◌ {A = ℕ} 0 1 = cc in omega arith)
+refused (Err e) h = refl
+
+-- a turn over the columns of a label line
+module _ (name labels : List ℕ) (found : Option ℕ) (k : ℕ) (i : sought found k name (drop k (fields labels)) ≡ sought None 0 name (fields labels)) where
+  module _ (h : k < length (fields labels)) (r : Result (Option ℕ) Repeated) (s : r ≡ seen_after found k (same (until 124 (tail_at k labels)) name)) where
+    pub turn-on : (o : Option ℕ) → r ≡ Ok o → sought o (k + 1) name (drop (k + 1) (fields labels)) ≡ sought None 0 name (fields labels)
+    turn-on o q =
+        sym (column-next found k name (until 124 (tail_at k labels)) (drop (k + 1) (fields labels)) o (sym s ∙ q))
+        ∙ sym (ap (sought found k name) (fields-at labels k h))
+        ∙ i
+
+    pub turn-twice : (n : ℕ) → n ≡ length (fields labels) → (e : Repeated) → r ≡ Err e → Err repeated ≡ place_of name (fields labels)
+    turn-twice n w e q =
+        let t : sought None 0 name (fields labels) ≡ Err e = sym i ∙ ap (sought found k name) (fields-at labels k h) ∙ column-twice found k name (until 124 (tail_at k labels)) (drop (k + 1) (fields labels)) e (sym s ∙ q) in
+        sym (ap (placed n) t) ∙ sought-is n name (fields labels) w
+
+  pub turn-end : (n : ℕ) → n ≡ length (fields labels) → length (fields labels) ≤ k → Ok (unwrap_or found n) ≡ place_of name (fields labels)
+  turn-end n w h =
+      let t : Ok found ≡ sought None 0 name (fields labels) = sym (column-end found k name) ∙ sym (ap (sought found k name) (fields-end labels k h)) ∙ i in
+      ap (placed n) t ∙ sought-is n name (fields labels) w
 
 -- the answer for the names ws from the i-th on, where ps holds the places of those before
-abbrev pub columns_from : ℕ → List (List ℕ) → List (List ℕ) → List ℕ → Columns
-columns_from i ws fs ps =
-    on (any_twice ws fs) (record { twice = true; places = replicate most 0 }) (record { twice = false; places = places_from i ws fs ps })
+abbrev pub columns_from : ℕ → List (List ℕ) → List (List ℕ) → List ℕ → Result (List ℕ) Repeated
+columns_from i ws fs ps = on (any_twice ws fs) (Err repeated) (Ok (places_from i ws fs ps))
 
 pub columns-start : (ws fs : List (List ℕ)) → columns_from 0 ws fs (replicate most 0) ≡ columns_of ws fs
 unfolding columns_of
 columns-start ws fs = refl
 
--- a turn over the names, n where the first bar of what is left of them was found
-module _ (none i : ℕ) (w : List ℕ) (fs : List (List ℕ)) (ps : List ℕ) (z : none ≡ length fs) (n : ℕ) (e : n ≡ length (until 124 w)) where
-  pub name-next : (p : ℕ) → n < length w → sought none none 0 (take n w) fs ≡ First p
-      → columns_from i (fields w) fs ps ≡ columns_from (i + 1) (fields (take (length w - (n + 1)) (drop (n + 1) w))) fs (set ps i p)
-  unfolding any_twice places_from
-  name-next p h q =
-      let o = found-once (leb 2 (count (take n w) fs)) _ p (sym (sought-is none (take n w) fs z) ∙ q) in
-      rw (fields-cons w n e h, o.0, ← o.1, add-one i)
+-- an answer by a test
+pub found-once : {A : Type 0} (t : Bool) (p q : A) → on {A = Result A Repeated} t (Err repeated) (Ok p) ≡ Ok q → (t ≡ false) × (p ≡ q)
+found-once true p q e = absurd (let z : ◌≡◌ {A = ℕ} 0 1 = cc in omega arith)
+found-once false p q e = (refl, cc)
 
-  pub name-last : (p : ℕ) → n ≡ length w → sought none none 0 (take n w) fs ≡ First p
-      → columns_from i (fields w) fs ps ≡ record { twice = false; places = set ps i p }
-  unfolding any_twice places_from
-  name-last p h q =
-      let o = found-once (leb 2 (count (take n w) fs)) _ p (sym (sought-is none (take n w) fs z) ∙ q) in
-      rw (fields-last w n e h, o.0, ← o.1)
+pub found-twice : {A : Type 0} (t : Bool) (p : A) (r : Repeated) → on {A = Result A Repeated} t (Err repeated) (Ok p) ≡ Err r → t ≡ true
+found-twice true p r e = refl
+found-twice false p r e = absurd (let z : ◌≡◌ {A = ℕ} 0 1 = cc in omega arith)
 
-  pub name-twice : n ≤ length w → sought none none 0 (take n w) fs ≡ Twice
-      → columns_from i (fields w) fs ps ≡ record { twice = true; places = replicate most 0 }
-  unfolding any_twice
-  name-twice h q = go (ltb n (length w)) refl
-    where
-      two : leb 2 (count (take n w) fs) ≡ true
-      two = found-twice (leb 2 (count (take n w) fs)) _ (sym (sought-is none (take n w) fs z) ∙ q)
+-- a turn over the names
+module _ (i : ℕ) (w : List ℕ) (ws fs : List (List ℕ)) (ps : List ℕ) where
+  pub name-next : (p : ℕ) → place_of w fs ≡ Ok p → columns_from i (w ∷ ws) fs ps ≡ columns_from (i + 1) ws fs (set ps i p)
+  unfolding place_of any_twice places_from
+  name-next p q =
+      let o = found-once (leb 2 (count w fs)) _ p q in
+      rw (o.0, ← o.1, add-one i)
 
-      go : (t : Bool) → ltb n (length w) ≡ t → columns_from i (fields w) fs ps ≡ record { twice = true; places = replicate most 0 }
-      go true m = rw (fields-cons w n e (ltb-true _ _ m), two)
-      go false m = let m' : length w ≤ n = ltb-false _ _ m in rw (fields-last w n e (omega arith), two)
+  pub name-twice : (r : Repeated) → place_of w fs ≡ Err r → columns_from i (w ∷ ws) fs ps ≡ Err repeated
+  unfolding place_of any_twice
+  name-twice r q = rw (found-twice (leb 2 (count w fs)) _ r q)
 
--- one field fewer is left
-pub fields-fewer : (l : List ℕ) (n : ℕ) → n ≡ length (until 124 l) → n < length l → length (fields l) ≡ suc (length (fields (take (length l - (n + 1)) (drop (n + 1) l))))
-fields-fewer l n e h = ap length (fields-cons l n e h)
+pub names-end : (i : ℕ) (fs : List (List ℕ)) (ps : List ℕ) → columns_from i [] fs ps ≡ Ok ps
+unfolding any_twice places_from
+names-end i fs ps = refl
 
--- one label more is measured
+-- one label more measured
 pub measured-next :
-    (labels sizes l : List ℕ) (k n : ℕ) → k < length sizes → l ≡ tail_at k labels → n ≡ length (until 124 l)
+    (labels : List ℕ) (sizes : List ℕ) (k n : ℕ) → k < length sizes → n ≡ length (until 124 (tail_at k labels))
     → ((m : ℕ) → m < k → get_or sizes m 0 ≡ length (until 124 (tail_at m labels)))
     → (m : ℕ) → m < k + 1 → get_or (set sizes k n) m 0 ≡ length (until 124 (tail_at m labels))
-measured-next labels sizes l k n h e q f m b = go (dec_lt m k)
+measured-next labels sizes k n h q f m b = go (dec_lt m k)
   where
     go : Dec (m < k) → get_or (set sizes k n) m 0 ≡ length (until 124 (tail_at m labels))
-    go (yes a) = get_or-set_other sizes k m n 0 (λ z. omega arith) ∙ f m a
+    go (yes a) = get_or-set_other sizes k m n 0 (λ e. omega arith) ∙ f m a
     go (no a) =
         let z : m ≡ k = omega (arith, a) in
-        rw z (get_or-set_same sizes k n 0 h ∙ q ∙ ap (λ (x : List ℕ). length (until 124 x)) e)
-
--- the labels behind one, n where its bar was found
-pub tail-labels :
-    (labels l : List ℕ) (k n : ℕ) → l ≡ tail_at k labels → n ≡ length (until 124 l) → take (length l - (n + 1)) (drop (n + 1) l) ≡ tail_at (k + 1) labels
-tail-labels labels l k n e q = rest-is 124 n l q ∙ ap (past 124) e ∙ tail-past k labels ∙ ap (λ (i : ℕ). tail_at i labels) (sym (add-one k))
+        rw z (get_or-set_same sizes k n 0 h ∙ q)

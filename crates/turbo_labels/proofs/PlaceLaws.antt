@@ -12,9 +12,10 @@ use lib.Dec.{leb}
 use Rattle.lists.specs.Logic.{on}
 use Rattle.lists.specs.Text.{same}
 use Rattle.lists.proofs.TextLaws.{same_refl, same-equal}
-use Rattle.turbo_labels.specs.declared.Columns.{Columns}
-use Rattle.turbo_labels.specs.Columns.{count, column_of, any_twice, places_from, columns_of, most}
+use Rattle.std.specs.Prelude.{Ok, Err}
+use Rattle.turbo_labels.specs.Columns.{count, column_of, repeated, any_twice, places_from, columns_of, most}
 use Rattle.turbo_labels.specs.Claims.{Twice}
+use Rattle.turbo_labels.proofs.ColumnLaws.{found-once, found-twice}
 
 -- What a place and a count among names say of the names. Assumes nothing.
 
@@ -121,17 +122,18 @@ any-there (w ∷ ws) fs (suc i) h t = go (leb 2 (count w fs)) (any-there ws fs i
     go true e = refl
     go false e = e
 
-columns_twice : (ws fs : List (List ℕ)) → (columns_of ws fs).twice ≡ any_twice ws fs
+-- the answer by the test
+columns-none : (ws fs : List (List ℕ)) → any_twice ws fs ≡ true → columns_of ws fs ≡ Err repeated
 unfolding columns_of
-columns_twice ws fs = go (any_twice ws fs)
-  where
-    go : (t : Bool) → (on {A = Columns} t (record { twice = true; places = replicate most 0 }) (record { twice = false; places = places_from 0 ws fs (replicate most 0) })).twice ≡ t
-    go true = refl
-    go false = refl
+columns-none ws fs e = rw e
 
-pub second-find : (ws fs : List (List ℕ)) → ((columns_of ws fs).twice ≡ true) ↔ ((i : ℕ) × (i < length ws) × Twice (get_or ws i []) fs)
+columns-twice : (ws fs : List (List ℕ)) → columns_of ws fs ≡ Err repeated → any_twice ws fs ≡ true
+unfolding columns_of
+columns-twice ws fs e = found-twice (any_twice ws fs) (places_from 0 ws fs (replicate most 0)) repeated e
+
+pub second-find : (ws fs : List (List ℕ)) → (columns_of ws fs ≡ Err repeated) ↔ ((i : ℕ) × (i < length ws) × Twice (get_or ws i []) fs)
 second-find ws fs =
-    (λ e. any_found ws fs (sym (columns_twice ws fs) ∙ e), λ r. columns_twice ws fs ∙ any-there ws fs r.0 r.1 r.2)
+    (λ e. any_found ws fs (columns-twice ws fs e), λ r. columns-none ws fs (any-there ws fs r.0 r.1 r.2))
 
 -- the places as they are written
 places-kept : (i : ℕ) (ws fs : List (List ℕ)) (ps : List ℕ) (j : ℕ) → j < i → get_or (places_from i ws fs ps) j 0 ≡ get_or ps j 0
@@ -150,11 +152,12 @@ places-at i (w ∷ ws) fs ps (suc j) h k =
     let l : length (set ps i (column_of w fs)) ≡ length ps = length-set ps i (column_of w fs) in
     rw e (places-at (suc i) ws fs (set ps i (column_of w fs)) j (omega arith) (omega arith))
 
-pub each-place : (ws fs : List (List ℕ)) → length ws ≤ most → (columns_of ws fs).twice ≡ false → (i : ℕ) → i < length ws → get_or (columns_of ws fs).places i 0 ≡ column_of (get_or ws i []) fs
+pub each-place : (ws fs : List (List ℕ)) (places : List ℕ) → length ws ≤ most → columns_of ws fs ≡ Ok places → (i : ℕ) → i < length ws → get_or places i 0 ≡ column_of (get_or ws i []) fs
 unfolding columns_of
-each-place ws fs h e i k =
+each-place ws fs places h e i k =
     let z : 0 + i ≡ i = omega arith in
-    rw (sym (columns_twice ws fs) ∙ e) (ap (λ (n : ℕ). get_or (places_from 0 ws fs (replicate most 0)) n 0) (sym z) ∙ places-at 0 ws fs (replicate most 0) i k (omega (arith, length-replicate {A = ℕ} most 0)))
+    let p = found-once (any_twice ws fs) (places_from 0 ws fs (replicate most 0)) places e in
+    ap (λ ps. get_or ps i 0) (sym p.1) ∙ ap (λ (n : ℕ). get_or (places_from 0 ws fs (replicate most 0)) n 0) (sym z) ∙ places-at 0 ws fs (replicate most 0) i k (omega (arith, length-replicate {A = ℕ} most 0))
 
 -- a name that stands once stands at its place
 pub place-once : (w : List ℕ) (fs : List (List ℕ)) (j : ℕ) → j < length fs → get_or fs j [] ≡ w → (Twice w fs → ⊥) → column_of w fs ≡ j

@@ -1,7 +1,7 @@
 -- What is certain of the search for column names. `proofs/Claims.antt` proves `All`. Assumes nothing.
-use Rattle.std.specs.Prelude.{ℕ, ◌≤◌, ◌<◌, ◌≡◌, true, false, List, [], ◌↔◌, length, get_or}
+use Rattle.std.specs.Prelude.{ℕ, ◌≤◌, ◌<◌, ◌≡◌, List, [], ◌↔◌, Ok, Err, length, get_or}
 use Rattle.turbo.specs.Split.{field_at}
-use Rattle.turbo_labels.specs.Columns.{column_of, field_under, columns_of, most}
+use Rattle.turbo_labels.specs.Columns.{column_of, field_under, repeated, columns_of, most}
 
 -- a place among the columns is the first column with the name
 abbrev pub PlaceIsFirst : Type 0
@@ -22,13 +22,13 @@ Twice w fs = (j : ℕ) × (k : ℕ) × (j < k) × (k < length fs) × (get_or fs 
 -- the search ends at a second find exactly where some wanted name stands twice
 abbrev pub SecondFind : Type 0
 SecondFind =
-    (ws fs : List (List ℕ)) → ((columns_of ws fs).twice ≡ true) ↔ ((i : ℕ) × (i < length ws) × Twice (get_or ws i []) fs)
+    (ws fs : List (List ℕ)) → (columns_of ws fs ≡ Err repeated) ↔ ((i : ℕ) × (i < length ws) × Twice (get_or ws i []) fs)
 
 -- else it answers the place of each wanted name
 abbrev pub EachPlace : Type 0
 EachPlace =
-    (ws fs : List (List ℕ)) → length ws ≤ most → (columns_of ws fs).twice ≡ false →
-    (i : ℕ) → i < length ws → get_or (columns_of ws fs).places i 0 ≡ column_of (get_or ws i []) fs
+    (ws fs : List (List ℕ)) (places : List ℕ) → length ws ≤ most → columns_of ws fs ≡ Ok places →
+    (i : ℕ) → i < length ws → get_or places i 0 ≡ column_of (get_or ws i []) fs
 
 -- a field that is looked up by its column's name, where that stands once, is the field in that column and no neighbour's; where the name is missing it has no bytes
 abbrev pub LookupIsByName : Type 0

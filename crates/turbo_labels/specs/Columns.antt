@@ -1,9 +1,9 @@
 -- The search for column names in a label line. Names are compared as raw bytes. Assumes nothing.
-use Rattle.std.specs.Prelude.{ℕ, suc, Bool, true, false, List, [], ◌∷◌, set, replicate, leb, ltb}
+use Rattle.std.specs.Prelude.{ℕ, suc, Bool, true, false, List, [], ◌∷◌, Result, Ok, Err, set, replicate, leb, ltb}
 use Rattle.lists.specs.Logic.{on}
 use Rattle.lists.specs.Text.{same}
 use Rattle.turbo.specs.Split.{field_at}
-use Rattle.turbo_labels.specs.declared.Columns.{Columns}
+use Rattle.turbo_labels.specs.declared.Repeated.{Repeated}
 
 -- how often w stands among the names fs
 unfoldable pub count : List ℕ → List (List ℕ) → ℕ
@@ -19,6 +19,14 @@ column_of w (f ∷ fs) = on (same f w) 0 (suc (column_of w fs))
 unfoldable pub field_under : ℕ → ℕ → List ℕ → List ℕ
 field_under column columns line = on (ltb column columns) (field_at column line) []
 
+-- a name stands twice
+abbrev pub repeated : Repeated
+repeated = record {}
+
+-- where w stands among the names, their number where it does not; not where it stands twice
+unfoldable pub place_of : List ℕ → List (List ℕ) → Result ℕ Repeated
+place_of w fs = on (leb 2 (count w fs)) (Err repeated) (Ok (column_of w fs))
+
 -- how many names a table's reader can want
 abbrev pub most : ℕ
 most = 20
@@ -33,9 +41,6 @@ unfoldable pub places_from : ℕ → List (List ℕ) → List (List ℕ) → Lis
 places_from i [] fs ps = ps
 places_from i (w ∷ ws) fs ps = places_from (suc i) ws fs (set ps i (column_of w fs))
 
--- what the search for the names ws answers: a name stands twice, or the place of each, and 0 behind the last
-unfoldable pub columns_of : List (List ℕ) → List (List ℕ) → Columns
-columns_of ws fs =
-    on (any_twice ws fs)
-    (record { twice = true; places = replicate most 0 })
-    (record { twice = false; places = places_from 0 ws fs (replicate most 0) })
+-- what the search for the names ws answers: the place of each, and 0 behind the last; not where a name stands twice
+unfoldable pub columns_of : List (List ℕ) → List (List ℕ) → Result (List ℕ) Repeated
+columns_of ws fs = on (any_twice ws fs) (Err repeated) (Ok (places_from 0 ws fs (replicate most 0)))

@@ -39,8 +39,8 @@ mark-of-determined κs a x y s t p q = p ∙ sym q
 pub after-mark-determined : Determined 1 after-mark.ps after-mark.r after-mark-reads.Post (λ κs x s. x.now)
 after-mark-determined κs a x y s t p q = p ∙ sym q
 
-pub read-line-tail-determined : Determined 2 read-line.ps read-line.r read-line-reads.Post (λ κs x s. x.now)
-read-line-tail-determined κs a x y s t p q = p.0 ∙ sym q.0
+pub read-line-determined : Determined 1 read-line.ps read-line.r read-line-reads.Post (λ κs x s. x.0.now)
+read-line-determined κs a x y s t p q = p.0 ∙ sym q.0
 
-pub read-line-size-determined : Determined 2 read-line.ps read-line.r read-line-reads.Post (λ κs x s. s.1.0.now)
-read-line-size-determined κs a x y s t p q = p.1 ∙ sym q.1
+pub read-line-tail-determined : Determined 1 read-line.ps read-line.r read-line-reads.Post (λ κs x s. x.1.now)
+read-line-tail-determined κs a x y s t p q = p.1 ∙ sym q.1

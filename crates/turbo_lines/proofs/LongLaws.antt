@@ -1,5 +1,8 @@
 use Prim.Native.Nat.{ℕ, suc, ◌+◌, ◌≤◌, ◌<◌}
+use native.Mathlib.Numerals.{add-one}
 use native.Mathlib.Omega.{arith}
+use Rattle.std.specs.Prelude.{Some, None}
+use Rattle.std.specs.Option.{unwrap_or}
 use mathlib.Core.Path.{◌≡◌, refl, sym, ap, ◌∙◌}
 use mathlib.Core.Bool.{Bool, true, false}
 use mathlib.Core.List.{List, [], ◌∷◌, ◌++◌}
@@ -8,7 +11,7 @@ use lib.ListN.{length, drop}
 use Rattle.lists.specs.Logic.{on}
 use Rattle.lists.specs.Each.{Each}
 use Rattle.turbo.specs.Split.{until, past}
-use Rattle.turbo_lines.specs.Lines.{lines, longest_line, is_long, first_long, short_front}
+use Rattle.turbo_lines.specs.Lines.{lines, longest_line, is_long, long_line, first_long, short_front}
 use Rattle.turbo_lines.specs.Claims.{Short, LongAt, LongFound, NoneLong, FrontIsBefore}
 use Rattle.turbo_lines.proofs.LineLaws.{lines_cons, lines_none}
 
@@ -61,6 +64,44 @@ module _ (rest : List ℕ) where
         let e = lines_cons rest some ∙ ap (λ (x : List ℕ). until 13 rest ∷ lines x) (sym after-it) in
         let k : Short (until 13 rest) = omega arith in
         (ap (first_long n) e ∙ long-later n (until 13 rest) (lines rest') k, ap short_front e ∙ front-more (until 13 rest) (lines rest') k)
+
+-- ---- the number as an Option, and as a number with 0 for none
+
+pub line-none : (n : ℕ) (rest : List ℕ) → length rest ≤ 0 → long_line n (lines rest) ≡ None
+unfolding long_line
+line-none n rest h = rw (lines_none rest h) refl
+
+module _ (rest : List ℕ) (some : 0 < length rest) where
+  pub line-long : (n : ℕ) → 4094 < length (until 13 rest) → long_line n (lines rest) ≡ Some n
+  unfolding long_line
+  line-long n h =
+      let k : longest_line < length (until 13 rest) + 2 = omega arith in
+      rw (lines_cons rest some, lt-ltb longest_line (length (until 13 rest) + 2) k) refl
+
+  pub line-short : (n : ℕ) (rest' : List ℕ) → length (until 13 rest) ≤ 4094 → rest' ≡ drop 1 (past 13 rest) → long_line n (lines rest) ≡ long_line (n + 1) (lines rest')
+  unfolding long_line
+  line-short n rest' h e =
+      let k : Short (until 13 rest) = omega arith in
+      rw (add-one, e, lines_cons rest some, le-ltb longest_line (length (until 13 rest) + 2) k) refl
+
+pub long-number : (n : ℕ) (ls : List (List ℕ)) → first_long n ls ≡ unwrap_or (long_line n ls) 0
+unfolding first_long long_line
+long-number n [] = refl
+long-number n (l ∷ ls) = go (is_long l) (long-number (suc n) ls)
+  where
+    go : (b : Bool) → first_long (suc n) ls ≡ unwrap_or (long_line (suc n) ls) 0 → on b n (first_long (suc n) ls) ≡ unwrap_or (on b (Some n) (long_line (suc n) ls)) 0
+    go true e = refl
+    go false e = e
+
+-- it is not below that of the first of all
+pub line-from : (n : ℕ) (ls : List (List ℕ)) (m : ℕ) → long_line n ls ≡ Some m → n ≤ m
+unfolding long_line
+line-from n [] m e = absurd (let z : ◌≡◌ {A = ℕ} 0 1 = cc in omega arith)
+line-from n (l ∷ ls) m e = go (is_long l) e (line-from (suc n) ls m)
+  where
+    go : (b : Bool) → on b (Some n) (long_line (suc n) ls) ≡ Some m → (long_line (suc n) ls ≡ Some m → suc n ≤ m) → n ≤ m
+    go true q ih = let z : n ≡ m = cc in omega arith
+    go false q ih = omega (arith, ih q)
 
 -- ---- all lines
 

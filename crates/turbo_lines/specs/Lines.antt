@@ -1,5 +1,5 @@
 -- A dossier's lines, which of them are too long, and their marks. In a well-formed dossier CR stands only in line ends, so lines are found by one byte. Assumes nothing.
-use Rattle.std.specs.Prelude.{ℕ, suc, ◌+◌, Bool, true, false, List, [], ◌∷◌, length, drop, eqb, ltb}
+use Rattle.std.specs.Prelude.{ℕ, suc, ◌+◌, Bool, true, false, List, [], ◌∷◌, Option, Some, None, length, drop, eqb, ltb}
 use Rattle.lists.specs.Logic.{on}
 use Rattle.turbo.specs.Split.{into_first}
 use Rattle.turbo_lines.specs.declared.Mark.{Mark}
@@ -24,7 +24,12 @@ longest_line = 4096
 abbrev pub is_long : List ℕ → Bool
 is_long l = ltb longest_line (length l + 2)
 
--- the number of the first line that is too long, where the first of all has the number n; 0 for none
+-- the number of the first line that is too long, where the first of all has the number n
+unfoldable pub long_line : ℕ → List (List ℕ) → Option ℕ
+long_line n [] = None
+long_line n (l ∷ ls) = on (is_long l) (Some n) (long_line (suc n) ls)
+
+-- the same with 0 for none, as a table of refusals has it
 unfoldable pub first_long : ℕ → List (List ℕ) → ℕ
 first_long n [] = 0
 first_long n (l ∷ ls) = on (is_long l) n (first_long (suc n) ls)

@@ -3,77 +3,61 @@
 
 ghost use Rattle.std.specs.Prelude.{◌≡◌, ◌+◌, ◌≤◌, ◌<◌, length, drop};
 ghost use Rattle.turbo.specs.Split.{until, past};
-ghost use Rattle.turbo_lines.specs.Lines.{lines, first_long, letter, mark_of, after_mark};
+ghost use Rattle.turbo_lines.specs.Lines.{lines, long_line, letter, mark_of, after_mark};
 
 // ---- lines
+
+// The first line of what is left of a dossier, without its CR LF, and what is left behind that.
+pub fn read_line<'a>(dossier: &'a [u8]) -> (&'a [u8], &'a [u8])
+    ensures line { result.0.now ≡ until 13 dossier.now }
+    ensures tail { result.1.now ≡ drop 1 (past 13 dossier.now) }
+{
+    turbo::cut(dossier, turbo::find_far(dossier, b'\r'), 2)
+}
 
 // The first line of what is left of a dossier, without its CR LF.
 pub fn first_line<'a>(dossier: &'a [u8]) -> &'a [u8]
     ensures { result.now ≡ until 13 dossier.now }
 {
-    let n = turbo::find_far(dossier, b'\r');
-    &dossier[..n]
+    read_line(dossier).0
 }
 
 // What is left after that line's CR LF.
 pub fn rest_after_line<'a>(dossier: &'a [u8]) -> &'a [u8]
     ensures { result.now ≡ drop 1 (past 13 dossier.now) }
 {
-    let n = turbo::find_far(dossier, b'\r');
-    if 2 <= dossier.len() - n {
-        let a = n + 2;
-        return &dossier[a..];
-    }
-    let e = dossier.len();
-    &dossier[e..]
-}
-
-// One line in a single walk: how many bytes it has, and what is left after its CR LF.
-pub fn read_line<'a>(dossier: &'a [u8], size: &mut usize) -> &'a [u8]
-    ensures tail { result.now ≡ drop 1 (past 13 dossier.now) }
-    ensures size { size.new ≡ length (until 13 dossier.now) }
-{
-    let n = turbo::find_far(dossier, b'\r');
-    *size = n;
-    if 2 <= dossier.len() - n {
-        let next = n + 2;
-        return &dossier[next..];
-    }
-    let e = dossier.len();
-    &dossier[e..]
+    read_line(dossier).1
 }
 
 // How many lines a dossier has.
 pub fn count_lines(dossier: &[u8]) -> usize
     ensures { result ≡ length (lines dossier.now) }
 {
-    let mut n: usize = 0;
-    let mut t = dossier;
-    while 0 < t.len() {
-        let u = rest_after_line(t);
-        t = u;
-        n += 1;
-    }
-    n
-}
-
-// The number of the first line of more than 4,096 bytes with its CR LF, where the first of all has the number `first`; 0 for none.
-pub fn first_long(dossier: &[u8], first: usize) -> usize
-    requires { first + length dossier.now < 4294967296 }
-    ensures { result ≡ first_long first (lines dossier.now) }
-{
-    let mut line = first;
+    let mut count: usize = 0;
     let mut rest = dossier;
     while 0 < rest.len() {
-        let mut size: usize = 0;
-        let next = read_line(rest, &mut size);
-        if 4094 < size {
-            return line;
-        }
-        line += 1;
-        rest = next;
+        rest = rest_after_line(rest);
+        count += 1;
     }
-    0
+    count
+}
+
+// The number of the first line of more than 4,096 bytes with its CR LF, where the first of all has the number `first`.
+pub fn first_long(dossier: &[u8], first: usize) -> Option<usize>
+    requires { first + length dossier.now < 4294967296 }
+    ensures { result ≡ long_line first (lines dossier.now) }
+{
+    let mut number = first;
+    let mut rest = dossier;
+    while 0 < rest.len() {
+        let (line, behind) = read_line(rest);
+        if 4094 < line.len() {
+            return Some(number);
+        }
+        number += 1;
+        rest = behind;
+    }
+    None
 }
 
 // ---- parts
@@ -113,13 +97,10 @@ fn mark_letter(b: u8) -> Mark
 pub fn mark_of(line: &[u8]) -> Mark
     ensures { result ≡ mark_of line.now }
 {
-    if line.len() < 2 {
-        return Mark::Data;
+    match line {
+        [b'\\', letter, ..] => mark_letter(*letter),
+        _ => Mark::Data,
     }
-    if line[0] != b'\\' {
-        return Mark::Data;
-    }
-    mark_letter(line[1])
 }
 
 // How many bytes the line's mark takes.
@@ -139,6 +120,5 @@ fn mark_size(line: &[u8]) -> usize
 pub fn after_mark<'a>(line: &'a [u8]) -> &'a [u8]
     ensures { result.now ≡ after_mark line.now }
 {
-    let a = mark_size(line);
-    &line[a..]
+    &line[mark_size(line)..]
 }

@@ -25,10 +25,10 @@ pub fn columns(out: Stdout, vector: &[u8]) {
         return;
     }
     let found = turbo_labels::find_columns(wanted, parts::tail(vector));
-    if found.twice {
+    if found.is_err() {
         let _ = out.print(" twice,");
     }
-    for place in found.places {
+    for place in found.unwrap_or([0; 20]) {
         say::size(out, place);
     }
 }
@@ -36,8 +36,7 @@ pub fn columns(out: Stdout, vector: &[u8]) {
 // A byte with the one that it stands for after a backslash, if any, and what follows as it is.
 pub fn escape(out: Stdout, vector: &[u8]) {
     let byte = script_text::at(vector, 0);
-    let escaped = turbo::escaped(byte);
-    if escaped != 0 {
+    if let Some(escaped) = turbo::escaped(byte) {
         let _ = print!(out; " {}={}", Byte(byte), Byte(escaped));
     }
     say::words(out, script_text::after(vector, 0));

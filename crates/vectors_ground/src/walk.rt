@@ -44,12 +44,11 @@ pub fn tails(out: Stdout, line: &[u8]) {
 pub fn row(out: Stdout, line: &[u8]) {
     let mut rest = line;
     for _ in 0..turbo::count_fields(line) {
-        let field = turbo::first_field(rest);
-        let mut size = 0;
-        rest = turbo::read_field(rest, &mut size);
-        say::size(out, size);
+        let (field, behind) = turbo::read_field(rest);
+        say::size(out, field.len());
         say::text(out, field);
-        say::text(out, rest);
+        say::text(out, behind);
+        rest = behind;
     }
 }
 

@@ -1,5 +1,6 @@
 -- A field as the code reads it, byte by byte. Assumes nothing.
 use Rattle.std.specs.Prelude.{ℕ, List, [], ◌∷◌, Bool, true, false, ◌&&◌, length, eqb}
+use Rattle.std.specs.Option.{unwrap_or}
 use Rattle.lists.specs.Logic.{on, within}
 use Rattle.turbo.specs.Escape.{escaped}
 use Rattle.texts.specs.declared.Step.{Step}
@@ -21,6 +22,6 @@ plain f = within 1 10 (length f) && all_plain f
 abbrev pub kept_step : ℕ → Step
 kept_step b = on (within 32 126 b) (Byte b) Bad
 
--- what one more byte of a field does; the Bool says that it stands after a backslash
+-- what one more byte of a field does; the Bool says that it stands after a backslash, where a byte that is no escape's letter stands for 0, which no text holds
 unfoldable pub step_of : Bool → ℕ → Step
-step_of after b = on after (kept_step (escaped b)) (on (eqb b 92) Mark (kept_step b))
+step_of after b = on after (kept_step (unwrap_or (escaped b) 0)) (on (eqb b 92) Mark (kept_step b))

@@ -5,4 +5,4 @@ use Rattle.turbo.proofs.SplitLaws.{field-tail}
 use Rattle.turbo.proofs.field_of.Goals as goal
 
 pub returns : goal.returns
-returns c = c.first_field.ensures ∙ ap (until 124) c.rest_after_bars-t.ensures ∙ field-tail _ _
+returns c = c.first_field.ensures ∙ ap (until 124) c.rest_after_bars.ensures ∙ field-tail _ _

@@ -1,32 +1,41 @@
-use Prim.Native.Nat.{◌+◌, ◌-◌, ◌<◌}
+use Prim.Native.Nat.{◌-◌, ◌+◌, ◌<◌}
 use native.Mathlib.Omega.{arith}
-use mathlib.Core.Path.{sym, ◌∙◌}
-use lib.ListN.{length}
-use lib.Seq.{length-take-le}
-use Rattle.lists.proofs.PartLaws.{tail-length}
-use Rattle.turbo_labels.proofs.ColumnLaws.{place-hit, place-last, place-more}
+use native.Mathlib.Numerals.{add-one}
+use mathlib.Core.Path.{◌≡◌, refl, sym, ap, ◌∙◌}
+use lib.ListN.{length, drop}
+use Rattle.lists.specs.Text.{same}
+use Rattle.turbo.specs.Split.{until, past, fields, tail_at}
+use Rattle.turbo.proofs.SplitLaws.{tail-zero, tail-past}
+use Rattle.turbo_labels.specs.Columns.{column_of}
+use Rattle.turbo_labels.proofs.ColumnLaws.{fields-at, fields-end, place-hit, place-on, place-none}
 use Rattle.turbo_labels.proofs.column_of.Goals as goal
 
-pub loop-l-init : goal.loop-l-init
-loop-l-init c = omega arith
-
-pub slice_bounds-same_bytes-end : goal.slice_bounds-same_bytes-end
-slice_bounds-same_bytes-end c = sym (length-take-le _ _ c.find-n.ensures.within)
+pub loop-column-init : goal.loop-column-init
+loop-column-init c = (sym (tail-zero _), omega arith)
 
 pub returns-then-same_bytes : goal.returns-then-same_bytes
-returns-then-same_bytes c = omega (arith, place-hit c.args.name.now c.loop-l.l.now c.find-n.result c.find-n.ensures.is c.find-n.ensures.within (sym c.same_bytes.ensures ∙ c.if-same_bytes.true), c.loop-l.invariant.1)
+returns-then-same_bytes c =
+    let l = c.loop-column in
+    let labels = c.args.labels.now in
+    let h : l.column < length (fields labels) = omega (arith, c.count_fields-columns.ensures) in
+    let e = c.read_field.ensures.field ∙ ap (until 124) l.invariant.0 in
+    let s = sym (ap (λ f. same f c.args.name.now) e) ∙ sym c.same_bytes.ensures ∙ c.if-same_bytes.true in
+    omega (arith, l.invariant.1, ap (column_of c.args.name.now) (fields-at labels l.column h), place-hit c.args.name.now (until 124 (tail_at l.column labels)) (drop (l.column + 1) (fields labels)) s)
 
-pub overflow_add-column : goal.overflow_add-column
-overflow_add-column c = omega (arith, c.loop-l.invariant.0, c.well_formed)
+pub loop-column-preserved : goal.loop-column-preserved
+loop-column-preserved c =
+    let l = c.loop-column in
+    let labels = c.args.labels.now in
+    let h : l.column < length (fields labels) = omega (arith, c.count_fields-columns.ensures) in
+    let e = c.read_field.ensures.field ∙ ap (until 124) l.invariant.0 in
+    let s = sym (ap (λ f. same f c.args.name.now) e) ∙ sym c.same_bytes.ensures ∙ c.if-same_bytes.false in
+    (
+      c.read_field.ensures.tail ∙ ap (past 124) l.invariant.0 ∙ tail-past l.column labels ∙ ap (λ n. tail_at n labels) (sym (add-one l.column)),
+      omega (arith, l.invariant.1, ap (column_of c.args.name.now) (fields-at labels l.column h), place-on c.args.name.now (until 124 (tail_at l.column labels)) (drop (l.column + 1) (fields labels)) s),
+    )
 
-pub returns-then-n-l : goal.returns-then-n-l
-returns-then-n-l c = omega (arith, place-last c.args.name.now c.loop-l.l.now c.find-n.result c.find-n.ensures.is c.if-n-l.true (sym c.same_bytes.ensures ∙ c.if-same_bytes.false), c.loop-l.invariant.1)
-
-pub overflow_add-a : goal.overflow_add-a
-overflow_add-a c = omega (arith, c.loop-l.invariant.0, c.find-n.ensures.within, c.well_formed)
-
-pub loop-l-smaller : goal.loop-l-smaller
-loop-l-smaller c = omega (arith, tail-length (c.find-n.result + 1) c.loop-l.l.now, c.if-n-l.false, c.find-n.ensures.within)
-
-pub loop-l-preserved : goal.loop-l-preserved
-loop-l-preserved c = let h : c.find-n.result < length c.loop-l.l.now = omega (arith, c.if-n-l.false, c.find-n.ensures.within) in (omega (arith, tail-length (c.find-n.result + 1) c.loop-l.l.now, c.loop-l.invariant.0), omega (arith, place-more c.args.name.now c.loop-l.l.now c.find-n.result c.find-n.ensures.is h (sym c.same_bytes.ensures ∙ c.if-same_bytes.false), c.loop-l.invariant.1))
+pub returns : goal.returns
+returns c =
+    let l = c.loop-column in
+    let labels = c.args.labels.now in
+    omega (arith, c.count_fields-columns.ensures, l.invariant.1, ap (column_of c.args.name.now) (fields-end labels l.column (omega (arith, c.count_fields-columns.ensures))), place-none c.args.name.now)

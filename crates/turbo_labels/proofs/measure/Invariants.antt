@@ -1,4 +1,4 @@
-use Prim.Native.Nat.{ℕ, ◌-◌, ◌≤◌, ◌<◌}
+use Prim.Native.Nat.{ℕ, ◌<◌}
 use mathlib.Core.Path.{◌≡◌}
 use lib.ListN.{length, get_or}
 use Rattle.turbo.specs.Split.{until, tail_at}
@@ -6,8 +6,6 @@ use Rattle.turbo_labels.proofs.measure.Given as goal
 
 abbrev pub invariant-loop-k : goal.invariant-loop-k
 invariant-loop-k l =
-    (l.k ≤ length l.sizes) × (length l.sizes ≡ length l.initial.sizes) × (l.l ≡ tail_at l.k l.labels)
+    (length l.sizes ≡ length l.initial.sizes)
+    × (l.rest ≡ tail_at l.k l.labels)
     × ((m : ℕ) → m < l.k → get_or l.sizes m 0 ≡ length (until 124 (tail_at m l.labels)))
-
-abbrev pub decreases-loop-k : goal.decreases-loop-k
-decreases-loop-k l = length l.sizes - l.k

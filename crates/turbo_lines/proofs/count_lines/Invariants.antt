@@ -4,8 +4,8 @@ use lib.ListN.{length}
 use Rattle.turbo_lines.specs.Lines.{lines}
 use Rattle.turbo_lines.proofs.count_lines.Given as goal
 
-abbrev pub invariant-loop-t : goal.invariant-loop-t
-invariant-loop-t l = (l.n + length l.t ≤ length l.dossier) × (l.n + length (lines l.t) ≡ length (lines l.dossier))
+abbrev pub invariant-loop-rest : goal.invariant-loop-rest
+invariant-loop-rest l = (l.count + length l.rest ≤ length l.dossier) × (l.count + length (lines l.rest) ≡ length (lines l.dossier))
 
-abbrev pub decreases-loop-t : goal.decreases-loop-t
-decreases-loop-t l = length l.t
+abbrev pub decreases-loop-rest : goal.decreases-loop-rest
+decreases-loop-rest l = length l.rest

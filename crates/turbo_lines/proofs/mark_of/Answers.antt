@@ -1,14 +1,15 @@
 use Prim.Native.Nat.{◌-◌}
 use native.Mathlib.Omega.{arith}
+use borrow.Author.Rules.{rules}
 use mathlib.Core.Path.{◌∙◌}
 use Rattle.turbo_lines.proofs.MarkLaws.{mark-short, mark-plain, mark-slash}
 use Rattle.turbo_lines.proofs.mark_of.Goals as goal
 
-pub returns-then-line-lt2 : goal.returns-then-line-lt2
-returns-then-line-lt2 c = mark-short _ c.if-line-lt2.true
+pub returns-in-92 : goal.returns-in-92
+returns-in-92 c = c.mark_letter.ensures ∙ mark-slash c.args.line.now (omega arith) (search rules)
 
-pub returns-then-line-ne92 : goal.returns-then-line-ne92
-returns-then-line-ne92 c = mark-plain _ c.if-line-ne92.true
+pub returns-in_default : goal.returns-in_default
+returns-in_default c = mark-short c.args.line.now (omega arith)
 
-pub returns : goal.returns
-returns c = c.mark_letter.ensures ∙ mark-slash c.args.line.now (omega arith) c.if-line-ne92.false
+pub returns-in_default-2 : goal.returns-in_default-2
+returns-in_default-2 c = mark-plain c.args.line.now (search rules)

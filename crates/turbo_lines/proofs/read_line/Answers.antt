@@ -1,9 +1,11 @@
 use Prim.Native.Nat.{◌-◌}
-use Rattle.turbo_lines.proofs.LineLaws.{after-line-tail, after-line-none}
+use mathlib.Core.Path.{◌∙◌}
+use Rattle.turbo.proofs.SplitLaws.{upto_is}
+use Rattle.turbo_lines.proofs.LineLaws.{after_line}
 use Rattle.turbo_lines.proofs.read_line.Goals as goal
 
-pub returns-then-dossier-n-ge2 : goal.returns-then-dossier-n-ge2
-returns-then-dossier-n-ge2 c = record { tail = after-line-tail _ _ c.find_far-n.ensures.is; size = c.find_far-n.ensures.is }
+pub returns-clause-line : goal.returns-clause-line
+returns-clause-line c = c.cut.ensures.before ∙ upto_is 13 _ _ c.find_far.ensures.is
 
-pub returns : goal.returns
-returns c = record { tail = after-line-none _ _ c.find_far-n.ensures.is c.if-dossier-n-ge2.false; size = c.find_far-n.ensures.is }
+pub returns-clause-tail : goal.returns-clause-tail
+returns-clause-tail c = c.cut.ensures.behind ∙ after_line _ _ c.find_far.ensures.is

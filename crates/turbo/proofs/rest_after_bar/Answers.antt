@@ -1,9 +1,0 @@
-use Prim.Native.Nat.{◌-◌}
-use Rattle.turbo.proofs.SplitLaws.{rest-is, rest-none}
-use Rattle.turbo.proofs.rest_after_bar.Goals as goal
-
-pub returns-then-n-tail : goal.returns-then-n-tail
-returns-then-n-tail c = rest-is 124 _ _ c.find-n.ensures.is
-
-pub returns : goal.returns
-returns c = rest-none 124 _ _ c.find-n.ensures.is c.if-n-tail.false

@@ -1,9 +1,0 @@
-use Prim.Native.Nat.{◌-◌}
-use Rattle.turbo_lines.proofs.LineLaws.{after-line-tail, after-line-none}
-use Rattle.turbo_lines.proofs.rest_after_line.Goals as goal
-
-pub returns-then-dossier-n-ge2 : goal.returns-then-dossier-n-ge2
-returns-then-dossier-n-ge2 c = after-line-tail _ _ c.find_far-n.ensures.is
-
-pub returns : goal.returns
-returns c = after-line-none _ _ c.find_far-n.ensures.is c.if-dossier-n-ge2.false
