@@ -28,8 +28,7 @@ loop-column-preserved c =
     let labels = c.args.labels.now in
     let h : l.column < length (fields labels) = omega (arith, c.count_fields-columns.ensures) in
     let e = c.read_field.ensures.field ∙ ap (until 124) l.invariant.0 in
-    let s = sym (ap (λ f. same f c.args.name.now) e) ∙ sym c.same_bytes.ensures ∙ c.if-same_bytes.false in
-    (
+    let s = sym (ap (λ f. same f c.args.name.now) e) ∙ sym c.same_bytes.ensures ∙ c.if-same_bytes.false in (
       c.read_field.ensures.tail ∙ ap (past 124) l.invariant.0 ∙ tail-past l.column labels ∙ ap (λ n. tail_at n labels) (sym (add-one l.column)),
       omega (arith, l.invariant.1, ap (column_of c.args.name.now) (fields-at labels l.column h), place-on c.args.name.now (until 124 (tail_at l.column labels)) (drop (l.column + 1) (fields labels)) s),
     )

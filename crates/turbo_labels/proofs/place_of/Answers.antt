@@ -32,8 +32,7 @@ loop-column-preserved c =
     let l = c.loop-column in
     let a = c.args in
     let e = c.cut.ensures.before ∙ upto_is 124 _ _ c.size_at.ensures.is ∙ ap (until 124) l.invariant.0 in
-    let s = c.noted.ensures ∙ ap (λ b. seen_after l.found l.column b) (c.same_bytes.ensures ∙ ap (λ f. same f a.name.now) e) in
-    (
+    let s = c.noted.ensures ∙ ap (λ b. seen_after l.found l.column b) (c.same_bytes.ensures ∙ ap (λ f. same f a.name.now) e) in (
       c.cut.ensures.behind ∙ past_is 124 _ _ c.size_at.ensures.is ∙ ap (past 124) l.invariant.0 ∙ tail-past l.column a.labels.now ∙ ap (λ n. tail_at n a.labels.now) (sym (add-one l.column)),
       turn-on a.name.now a.labels.now l.found l.column l.invariant.1 (omega (arith, c.requires.0)) _ s c.in_ok-found.found c.in_ok-found.was,
     )

@@ -33,13 +33,12 @@ loop-i-preserved c =
     let place = c.in_ok-places.field-0 in
     let h : l.i < length (fields wanted) = omega (arith, c.count_fields-i-end.ensures) in
     let e = c.read_field.ensures.field ∙ ap (until 124) l.invariant.1 in
-    let q = sym (c.place_of.ensures ∙ ap (λ n. place_of n labels) e) ∙ c.in_ok-places.was in
-    (
+    let q = sym (c.place_of.ensures ∙ ap (λ n. place_of n labels) e) ∙ c.in_ok-places.was in (
       length-set l.places l.i place ∙ l.invariant.0,
       c.read_field.ensures.tail ∙ ap (past 124) l.invariant.1 ∙ tail-past l.i wanted ∙ ap (λ n. tail_at n wanted) (sym (add-one l.i)),
       sym (name-next l.i (until 124 (tail_at l.i wanted)) (drop (l.i + 1) (fields wanted)) labels l.places place q)
-      ∙ sym (ap (λ ws. columns_from l.i ws labels l.places) (fields-at wanted l.i h))
-      ∙ l.invariant.2,
+          ∙ sym (ap (λ ws. columns_from l.i ws labels l.places) (fields-at wanted l.i h))
+          ∙ l.invariant.2,
     )
 
 pub returns : goal.returns

@@ -13,8 +13,7 @@ loop-rest-smaller c = omega (arith, ap length c.rest_after_line-rest.ensures, af
 pub loop-rest-preserved : goal.loop-rest-preserved
 loop-rest-preserved c =
     let rest = c.loop-rest.rest.now in
-    let e = ap length c.rest_after_line-rest.ensures in
-    (
+    let e = ap length c.rest_after_line-rest.ensures in (
       omega (arith, e, after-line-shorter rest c.loop-rest-test.true, c.loop-rest.invariant.0),
       omega (arith, ap (λ (m : List ℕ). length (lines m)) c.rest_after_line-rest.ensures, ap length (lines_cons rest c.loop-rest-test.true), c.loop-rest.invariant.1),
     )
