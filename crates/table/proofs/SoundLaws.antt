@@ -2,7 +2,7 @@
 use mathlib.Core.Path.{◌≡◌, refl, sym, ◌∙◌}
 use mathlib.Core.Bool.{Bool, true, false, ◌&&◌}
 use mathlib.Core.List.{List, [], ◌∷◌, map}
-use Prim.Native.Nat.{ℕ, ◌+◌, ◌*◌, ◌-◌, ◌/◌, ◌≤◌, ◌<◌}
+use Prim.Native.Nat.{ℕ, ◌+◌, ◌*◌, ◌-◌, ◌/◌, ◌≤◌, ◌<◌, min}
 use native.Mathlib.Nat.{mul-le-mul_right, le_trans}
 use native.Mathlib.Omega.{arith}
 use borrow.Author.Tests.{le-leb, lt-leb, leb-true, leb-false}
@@ -29,13 +29,13 @@ use Rattle.passage.specs.inner.Roles.{all_common}
 -- ---- room
 
 module _ (t : List ℕ) where
-  pub room-all : length t / row_wide ≤ most_rows → table_room t ≡ length t / row_wide
+  pub room-min : min (length t / row_wide) most_rows ≡ table_room t
   unfolding table_room
-  room-all h = rw (le-leb (length t / row_wide) most_rows h)
-
-  pub room_cut : most_rows < length t / row_wide → table_room t ≡ most_rows
-  unfolding table_room
-  room_cut h = rw (lt-leb (length t / row_wide) most_rows h)
+  room-min = go (leb (length t / row_wide) most_rows) refl
+    where
+      go : (b : Bool) → leb (length t / row_wide) most_rows ≡ b → min (length t / row_wide) most_rows ≡ on b (length t / row_wide) most_rows
+      go true e = let h = leb-true (length t / row_wide) most_rows e in omega arith
+      go false e = let h = leb-false (length t / row_wide) most_rows e in omega arith
 
   room-both : (table_room t ≤ most_rows) × (table_room t * row_wide ≤ length t)
   unfolding table_room

@@ -19,8 +19,7 @@ pub const MOST_ROWS: usize = 2048;
 pub fn rows_room(table: &[u8]) -> usize
     ensures { result ≡ table_room table.now }
 {
-    let fit = table.len() / passage::ROW_WIDE;
-    if fit <= MOST_ROWS { fit } else { MOST_ROWS }
+    (table.len() / passage::ROW_WIDE).min(MOST_ROWS)
 }
 
 // Whether each of the first `count` rows is in its range, where what is common is.
@@ -29,12 +28,8 @@ fn all_in_range(table: &[u8], count: usize) -> bool
     requires table_value { all_common (map body_of (rows count table.now)) ≡ true }
     ensures { result ≡ all_in_range (rows count table.now) }
 {
-    let mut i = 0;
-    while i < count {
-        let good = passage::row_in_range(table, i * passage::ROW_WIDE);
-        if good {
-            i += 1;
-        } else {
+    for row in 0..count {
+        if !passage::row_in_range(table, row * passage::ROW_WIDE) {
             return false;
         }
     }
@@ -45,21 +40,12 @@ fn all_in_range(table: &[u8], count: usize) -> bool
 pub fn table_is_sound(table: &[u8], count: usize) -> bool
     ensures { result ≡ table_sound count table.now }
 {
-    let most = rows_room(table);
-    if most < count {
+    if rows_room(table) < count {
         return false;
     }
-    let common = passage::all_common(table, 0, passage::ROW_WIDE, 0, count);
-    if common {
-        let good = all_in_range(table, count);
-        if good {
-            keys::keys_rise(table, passage::ROW_WIDE, 0, count)
-        } else {
-            false
-        }
-    } else {
-        false
-    }
+    passage::all_common(table, 0, passage::ROW_WIDE, 0, count)
+        && all_in_range(table, count)
+        && keys::keys_rise(table, passage::ROW_WIDE, 0, count)
 }
 
 // ---- where a key stands
@@ -78,15 +64,15 @@ fn probe(lo: usize, hi: usize, wish: usize) -> usize
     requires { lo < hi }
     ensures { (lo ≤ result) × (result < hi) }
 {
-    if lo <= wish {
-        if wish < hi {
-            return wish;
-        }
+    if lo <= wish && wish < hi {
+        wish
+    } else {
+        lo + (hi - lo) / 2
     }
-    lo + (hi - lo) / 2
 }
 
 // The same as `find`, but it looks first at the place `hint`, then a little behind it: quick where the key stands there or soon after.
+// kept: (d) its own loop beside `keys::search_by`: where it looks next follows from its last steps, which one search for both would have to be told at each step.
 pub fn find_near(
     table: &[u8],
     count: usize,
@@ -113,12 +99,8 @@ pub fn find_near(
                 leap = next;
                 next = count;
             }
-            Ordering::Equal => {
-                return Ok(look);
-            }
-            Ordering::Greater => {
-                high = look;
-            }
+            Ordering::Equal => return Ok(look),
+            Ordering::Greater => high = look,
         }
     }
     Err(low)

@@ -1,47 +1,40 @@
 use mathlib.Core.Path.{◌≡◌, sym, ap, ◌∙◌}
-use mathlib.Core.Bool.{true, ◌&&◌}
+use mathlib.Core.Bool.{◌&&◌}
 use Prim.Native.Nat.{◌+◌, ◌*◌}
 use native.Mathlib.Omega.{arith}
 use borrow.Author.Rules.{rules}
-use Rattle.lists.specs.Part.{part}
-use Rattle.passage.specs.Layout.{body_wide, row_wide}
-use Rattle.passage.specs.Ranges.{common_in_range}
-use Rattle.passage.proofs.CommonLaws.{left, common-start, common-now}
+use Rattle.passage.specs.Layout.{row_wide}
+use Rattle.passage.proofs.CommonLaws.{common-start, common-now}
 use Rattle.table.specs.Rules.{rows, all_in_range}
 use Rattle.table.proofs.SoundLaws.{rest, rest-start, range-step, range-end}
-use Rattle.passage.specs.inner.Roles.{all_common}
 use Rattle.table.proofs.all_in_range.Goals as goal
 
-pub loop-i-init : goal.loop-i-init
-loop-i-init c =
+pub loop-row-init : goal.loop-row-init
+loop-row-init c =
     let s = c.args in
-    (search rules, ap all_in_range (rest-start s.count s.table.now), sym (common-start row_wide 0 s.count 0 s.table.now) ∙ c.requires.table_value)
+    (ap all_in_range (rest-start s.count s.table.now), sym (common-start row_wide 0 s.count 0 s.table.now) ∙ c.requires.table_value)
 
-pub row_in_range-good-requires : goal.row_in_range-good-requires
-row_in_range-good-requires c =
-    let common : let s = c.args in let i = c.loop-i.i in (common_in_range (part (0 + i * row_wide + 0) body_wide s.table.now) ≡ true) × (all_common (left row_wide 0 s.count 0 s.table.now (i + 1)) ≡ true) = let s = c.args in
-    common-now row_wide 0 s.count 0 s.table.now c.loop-i.i c.loop-i-test.true (omega arith) c.loop-i.invariant.2 in
-    let i = c.loop-i.i in
-    let e : 0 + i * row_wide + 0 ≡ i * row_wide = omega arith in
+pub row_in_range-requires : goal.row_in_range-requires
+row_in_range-requires c =
+    let s = c.args in
+    let row = c.loop-row.row in
+    let e : 0 + row * row_wide + 0 ≡ row * row_wide = omega arith in
+    let common = common-now row_wide 0 s.count 0 s.table.now row c.loop-row-test.true (omega arith) c.loop-row.invariant.1 in
     record { row_wide_in_bounds = search rules; bytes_value = rw e at common.0 }
 
-pub loop-i-preserved : goal.loop-i-preserved
-loop-i-preserved c =
-    let common : let s = c.args in let i = c.loop-i.i in (common_in_range (part (0 + i * row_wide + 0) body_wide s.table.now) ≡ true) × (all_common (left row_wide 0 s.count 0 s.table.now (i + 1)) ≡ true) = let s = c.args in
-    common-now row_wide 0 s.count 0 s.table.now c.loop-i.i c.loop-i-test.true (omega arith) c.loop-i.invariant.2 in
-    let step : let s = c.args in all_in_range (rows s.count s.table.now) ≡ (c.row_in_range-good.result && all_in_range (rest s.count s.table.now (c.loop-i.i + 1))) = let s = c.args in
-    let i = c.loop-i.i in
-    c.loop-i.invariant.1 ∙ range-step s.count s.table.now i c.loop-i-test.true ∙ rw (← c.row_in_range-good.ensures) in
-    (omega arith, step ∙ rw c.if-good.true, common.1)
+pub loop-row-preserved : goal.loop-row-preserved
+loop-row-preserved c =
+    let s = c.args in
+    let row = c.loop-row.row in
+    let common = common-now row_wide 0 s.count 0 s.table.now row c.loop-row-test.true (omega arith) c.loop-row.invariant.1 in
+    (c.loop-row.invariant.0 ∙ range-step s.count s.table.now row c.loop-row-test.true ∙ rw (← c.row_in_range.ensures, c.if-not-row_in_range.false), common.1)
 
-pub returns-else-good : goal.returns-else-good
-returns-else-good c =
-    let step : let s = c.args in all_in_range (rows s.count s.table.now) ≡ (c.row_in_range-good.result && all_in_range (rest s.count s.table.now (c.loop-i.i + 1))) = let s = c.args in
-    let i = c.loop-i.i in
-    c.loop-i.invariant.1 ∙ range-step s.count s.table.now i c.loop-i-test.true ∙ rw (← c.row_in_range-good.ensures) in
-    rw (step, c.if-good.false)
+pub returns-then-not-row_in_range : goal.returns-then-not-row_in_range
+returns-then-not-row_in_range c =
+    let s = c.args in
+    sym (c.loop-row.invariant.0 ∙ range-step s.count s.table.now c.loop-row.row c.loop-row-test.true ∙ rw (← c.row_in_range.ensures, c.if-not-row_in_range.true))
 
 pub returns : goal.returns
 returns c =
     let s = c.args in
-    sym (c.loop-i.invariant.1 ∙ range-end s.count s.table.now c.loop-i.i c.loop-i-test.false)
+    sym (c.loop-row.invariant.0 ∙ range-end s.count s.table.now c.loop-row.row c.loop-row-test.false)
