@@ -1,5 +1,9 @@
 -- The promise of each public function allows one outcome: its answer, or the lent bytes afterwards, follows from what was passed. Assumes nothing.
 use mathlib.Core.Path.{sym, ◌∙◌}
+use mir.Syntax.{Dict}
+use denote.RattleType.{RattleType}
+use denote.Param.Laws.{Laws, IsCopy}
+use Rattle.std.specs.declared.clone.Clone.{Ghosts}
 use Rattle.lists.proofs.Promise.{Determined, OneResult}
 use Rattle.lists.proofs.same_bytes.Kinds as same_bytes
 use Rattle.lists.proofs.same_bytes.Reads as same-bytes-reads
@@ -26,17 +30,17 @@ get-number-determined κs a x y s t p q = p ∙ sym q
 
 -- ---- functions that write into their first parameter, and answer nothing
 
-pub copy-to-determined : Determined 2 copy-to.ps copy-to.r copy-to-reads.Post (λ κs x s. s.0.now)
-copy-to-determined κs a x y s t p q = p ∙ sym q
+pub copy-to-determined : (T : RattleType) (l : Laws T) (k : IsCopy T) (c : Ghosts T.Denot) (d : Dict) → Determined 3 (copy-to.ps T l k) (copy-to.r T l k) (copy-to-reads.Post T l k c d) (λ κs x s. s.0.now)
+copy-to-determined T l k c d κs a x y s t p q = p ∙ sym q
 
 pub clear-determined : Determined 1 clear.ps clear.r clear_reads.Post (λ κs x s. s.0.now)
 clear-determined κs a x y s t p q = p ∙ sym q
 
-pub shift-up-determined : Determined 1 shift-up.ps shift-up.r shift-up-reads.Post (λ κs x s. s.0.now)
-shift-up-determined κs a x y s t p q = p ∙ sym q
+pub shift-up-determined : (T : RattleType) (l : Laws T) (k : IsCopy T) (c : Ghosts T.Denot) (d : Dict) → Determined 2 (shift-up.ps T l k) (shift-up.r T l k) (shift-up-reads.Post T l k c d) (λ κs x s. s.0.now)
+shift-up-determined T l k c d κs a x y s t p q = p ∙ sym q
 
-pub shift-down-determined : Determined 1 shift-down.ps shift-down.r shift-down-reads.Post (λ κs x s. s.0.now)
-shift-down-determined κs a x y s t p q = p ∙ sym q
+pub shift-down-determined : (T : RattleType) (l : Laws T) (k : IsCopy T) (c : Ghosts T.Denot) (d : Dict) → Determined 2 (shift-down.ps T l k) (shift-down.r T l k) (shift-down-reads.Post T l k c d) (λ κs x s. s.0.now)
+shift-down-determined T l k c d κs a x y s t p q = p ∙ sym q
 
 pub put-number-determined : Determined 1 put-number.ps put-number.r put-number-reads.Post (λ κs x s. s.0.now)
 put-number-determined κs a x y s t p q = p ∙ sym q

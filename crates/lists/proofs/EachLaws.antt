@@ -48,3 +48,7 @@ bytes-part at n l h = each_take (λ (b : ℕ). b < 256) n (drop at l) (each-drop
 
 pub bytes-known : (l : List ℕ) → ((i : ℕ) → get_or l i 0 < 256) → Bytes l
 bytes-known l f = each-known (λ (b : ℕ). b < 256) l 0 f
+
+-- those of a part that is read as `&l[at..at + n]`
+pub bytes-lent : (at n : ℕ) (l : List ℕ) → ((i : ℕ) → get_or l i 0 < 256) → Bytes (take n (drop at l))
+bytes-lent at n l f = each_take (λ (b : ℕ). b < 256) n (drop at l) (each-drop (λ (b : ℕ). b < 256) at l (bytes-known l f))

@@ -4,16 +4,17 @@ use mathlib.Core.List.{List}
 use Prim.Native.Nat.{ℕ, suc, ◌+◌, ◌*◌, ◌-◌, ◌/◌, ◌%◌, ◌^◌, ◌≤◌, ◌<◌}
 use native.Mathlib.Nat.{sub_self, add-zero, div-one, div-div-eq-div-mul, lt_of_lt_of_le, pow-suc, pow-le-pow_right}
 use native.Mathlib.Omega.{arith}
-use lib.ListN.{length, get_or, set}
+use lib.ListN.{length, take, get_or, set}
+use lib.Seq.{length-take-le}
 use Rattle.lists.specs.Each.{Bytes}
 use Rattle.lists.specs.Part.{part, over}
 use Rattle.lists.specs.BigEndian.{number, spelled}
-use Rattle.lists.proofs.EachLaws.{bytes-part}
-use Rattle.lists.proofs.PartLaws.{part-zero, part-snoc, length_part}
+use Rattle.lists.proofs.EachLaws.{each_take}
+use Rattle.lists.proofs.PartLaws.{part-zero, part-snoc, take_snoc}
 use Rattle.lists.proofs.OverLaws.{over-nil, over-cons}
 use Rattle.lists.proofs.BigEndianLaws.{number-nil, number-snoc, number-below, spelled_suc, spelled-zero}
 
--- ---- reading: n is the number of the i bytes passed
+-- ---- reading: n is the number of the i bytes passed, from `at` on or of a list by itself
 
 pub read-start : (at : ℕ) (s : List ℕ) → 0 ≡ number (part at 0 s)
 read-start at s = sym (ap number (part-zero at s) ∙ number-nil)
@@ -21,12 +22,17 @@ read-start at s = sym (ap number (part-zero at s) ∙ number-nil)
 pub read-turn : (at i n : ℕ) (s : List ℕ) → n ≡ number (part at i s) → at + i < length s → n * 256 + get_or s (at + i) 0 ≡ number (part at (i + 1) s)
 read-turn at i n s e h = rw (part-snoc at i s h, number-snoc, e)
 
--- up to three bytes leave room for one more in 32 bits
-pub read_fits : (at i n : ℕ) (s : List ℕ) → n ≡ number (part at i s) → Bytes s → at + i ≤ length s → i ≤ 3 → n < 256 ^ 3
-read_fits at i n s e b h k =
-    let l = length_part at i s h in
-    let f : number (part at i s) < 256 ^ i = rw l at (number-below (part at i s) (bytes-part at i s b)) in
-    rw e (lt_of_lt_of_le f (pow-le-pow_right {n = 256} (omega arith) k))
+pub read-next : (i n : ℕ) (l : List ℕ) → n ≡ number (take i l) → i < length l → n * 256 + get_or l i 0 ≡ number (take (i + 1) l)
+read-next i n l e h = rw (take_snoc i l h, number-snoc, e)
+
+-- of up to four bytes, those passed and the next one fit into 32 bits
+pub read-room : (i n : ℕ) (l : List ℕ) → n ≡ number (take i l) → Bytes l → i < length l → length l ≤ 4 → n * 256 + get_or l i 0 < 256 ^ 4
+read-room i n l e b h k =
+    let t : number (take (i + 1) l) < 256 ^ length (take (i + 1) l) = number-below (take (i + 1) l) (each_take (λ (b : ℕ). b < 256) (i + 1) l b) in
+    let f : number (take (i + 1) l) < 256 ^ (i + 1) = rw (length-take-le (i + 1) l (omega arith)) at t in
+    let j : i + 1 ≤ 4 = omega arith in
+    let m : 256 ^ (i + 1) ≤ 256 ^ 4 = pow-le-pow_right {n = 256} (omega arith) j in
+    rw (read-next i n l e h) (lt_of_lt_of_le f m)
 
 -- ---- writing: i bytes are still to be written, and `rest` is what of v is left for them
 

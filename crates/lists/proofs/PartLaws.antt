@@ -9,19 +9,19 @@ use lib.Seq.{drop-cons, take-nil, take_all, take-suc, take-add, take-take, drop-
 use Rattle.lists.specs.Part.{part}
 
 -- a part, as `&l[a..e]` is written out
-pub part-is : (at n : ℕ) (l : List ℕ) → part at n l ≡ take n (drop at l)
+pub part-is : {A : Type 0} (at n : ℕ) (l : List A) → part at n l ≡ take n (drop at l)
 unfolding part
 part-is at n l = refl
 
-pub part-zero : (at : ℕ) (l : List ℕ) → part at 0 l ≡ []
+pub part-zero : {A : Type 0} (at : ℕ) (l : List A) → part at 0 l ≡ []
 unfolding part
 part-zero at l = refl
 
-pub part-all : (l : List ℕ) → part 0 (length l) l ≡ l
+pub part-all : {A : Type 0} (l : List A) → part 0 (length l) l ≡ l
 unfolding part
 part-all l = take_all (length l) l (omega arith)
 
-pub length_part : (at n : ℕ) (l : List ℕ) → at + n ≤ length l → length (part at n l) ≡ n
+pub length_part : {A : Type 0} (at n : ℕ) (l : List A) → at + n ≤ length l → length (part at n l) ≡ n
 unfolding part
 length_part at n l h = simp (length-take, length-drop) (omega arith)
 
@@ -29,15 +29,23 @@ pub part_at : (at n : ℕ) (l : List ℕ) (i : ℕ) → i < n → get_or (part a
 unfolding part
 part_at at n l i h = get_or-take n (drop at l) i 0 h ∙ get_or-drop at l i 0
 
+-- a part by its first element, and by its last
+module _ {A : Type 0} (at n : ℕ) (l : List A) (d : A) where
+  pub part-first : at < length l → part at (suc n) l ≡ get_or l at d ∷ part (suc at) n l
+  unfolding part
+  part-first h = rw (drop-cons l at d)
+
+  pub part-last : at + n < length l → part at (n + 1) l ≡ part at n l ++ get_or l (at + n) d ∷ []
+  unfolding part
+  part-last h =
+      let k : n < length (drop at l) = rw length-drop (omega arith) in
+      rw (add-one, take-suc (drop at l) n d k, get_or-drop)
+
 pub part-cons : (at n : ℕ) (l : List ℕ) → at < length l → part at (suc n) l ≡ get_or l at 0 ∷ part (suc at) n l
-unfolding part
-part-cons at n l h = rw (drop-cons l at 0)
+part-cons at n l h = part-first at n l 0 h
 
 pub part-snoc : (at n : ℕ) (l : List ℕ) → at + n < length l → part at (n + 1) l ≡ part at n l ++ get_or l (at + n) 0 ∷ []
-unfolding part
-part-snoc at n l h =
-    let k : n < length (drop at l) = rw length-drop (omega arith) in
-    rw (add-one, take-suc (drop at l) n 0 k, get_or-drop)
+part-snoc at n l h = part-last at n l 0 h
 
 pub part-add : (at n m : ℕ) (l : List ℕ) → part at (n + m) l ≡ part at n l ++ part (at + n) m l
 unfolding part

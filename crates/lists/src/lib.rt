@@ -10,29 +10,15 @@ ghost use Rattle.lists.specs.BigEndian.{number, spelled};
 pub fn same_bytes(left: &[u8], right: &[u8]) -> bool
     ensures { result ≡ same left.now right.now }
 {
-    if left.len() != right.len() {
-        return false;
-    }
-    let mut i = 0;
-    while i < left.len() {
-        if left[i] != right[i] {
-            return false;
-        }
-        i += 1;
-    }
-    true
+    left == right
 }
 
 // All of `source` is written from `at` on.
-pub fn copy_to(bytes: &mut [u8], at: usize, source: &[u8])
-    requires { at + length source.now ≤ length bytes.old }
-    ensures { bytes.new ≡ over at source.now bytes.old }
+pub fn copy_to<T: Copy>(elements: &mut [T], at: usize, source: &[T])
+    requires { at + length source.now ≤ length elements.old }
+    ensures { elements.new ≡ over at source.now elements.old }
 {
-    let mut i = 0;
-    while i < source.len() {
-        bytes[at + i] = source[i];
-        i += 1;
-    }
+    elements[at..at + source.len()].copy_from_slice(source);
 }
 
 // `count` zero bytes from `at` on.
@@ -40,35 +26,27 @@ pub fn clear(bytes: &mut [u8], at: usize, count: usize)
     requires { at + count ≤ length bytes.old }
     ensures { bytes.new ≡ over at (replicate count 0) bytes.old }
 {
-    let mut i = 0;
-    while i < count {
-        bytes[at + i] = 0;
-        i += 1;
+    bytes[at..at + count].fill(0);
+}
+
+// The elements from `start` up to `end` are copied to the place `by` further on.
+// kept: (d) a function for each direction: the two places overlap, so that this one has to run from the end and the other from the start, and std has no `copy_within`.
+pub fn shift_up<T: Copy>(elements: &mut [T], start: usize, end: usize, by: usize)
+    requires { (start ≤ end) × (end + by ≤ length elements.old) }
+    ensures { elements.new ≡ over (start + by) (part start (end - start) elements.old) elements.old }
+{
+    for i in (start..end).rev() {
+        elements[i + by] = elements[i];
     }
 }
 
-// The bytes from `start` up to `end` are copied to the place `by` further on.
-pub fn shift_up(bytes: &mut [u8], start: usize, end: usize, by: usize)
-    requires { (start ≤ end) × (end + by ≤ length bytes.old) }
-    ensures { bytes.new ≡ over (start + by) (part start (end - start) bytes.old) bytes.old }
+// The `count` elements that stand `by` behind `at` are copied to `at`.
+pub fn shift_down<T: Copy>(elements: &mut [T], at: usize, count: usize, by: usize)
+    requires { at + by + count ≤ length elements.old }
+    ensures { elements.new ≡ over at (part (at + by) count elements.old) elements.old }
 {
-    let mut i = end;
-    while start < i {
-        i -= 1;
-        bytes[i + by] = bytes[i];
-    }
-}
-
-// The `count` bytes that stand `by` behind `at` are copied to `at`.
-pub fn shift_down(bytes: &mut [u8], at: usize, count: usize, by: usize)
-    requires { at + by + count ≤ length bytes.old }
-    ensures { bytes.new ≡ over at (part (at + by) count bytes.old) bytes.old }
-{
-    let mut done = 0;
-    while done < count {
-        let p = at + done;
-        bytes[p] = bytes[p + by];
-        done += 1;
+    for i in at..at + count {
+        elements[i] = elements[i + by];
     }
 }
 
@@ -78,11 +56,8 @@ pub fn get_number(bytes: &[u8], at: usize, width: usize) -> u32
     ensures { result ≡ number (part at width bytes.now) }
 {
     let mut n: u32 = 0;
-    let mut i = 0;
-    while i < width {
-        let b = bytes[at + i] as u32;
-        n = n * 256 + b;
-        i += 1;
+    for byte in &bytes[at..at + width] {
+        n = n * 256 + *byte as u32;
     }
     n
 }
@@ -93,10 +68,8 @@ pub fn put_number(bytes: &mut [u8], at: usize, width: usize, value: u32)
     ensures { bytes.new ≡ over at (spelled width value) bytes.old }
 {
     let mut rest = value;
-    let mut i = width;
-    while 0 < i {
-        i -= 1;
+    for i in (0..width).rev() {
         bytes[at + i] = (rest % 256) as u8;
-        rest = rest / 256;
+        rest /= 256;
     }
 }

@@ -53,7 +53,7 @@ bounds-out-at c =
 
 pub shape_of-out-in-Ok : goal.shape_of-out-in-Ok
 shape_of-out-in-Ok c =
-    length-set c.copy_to.new.bytes (c.args.at + body_wide) 0 ∙ ap length c.copy_to.ensures ∙ length_over c.args.at _ c.args.out.now
+    length-set c.copy_to.new.elements (c.args.at + body_wide) 0 ∙ ap length c.copy_to.ensures ∙ length_over c.args.at _ c.args.out.now
 
 pub returns-in-Ok : goal.returns-in-Ok
 returns-in-Ok c =
@@ -63,7 +63,7 @@ returns-in-Ok c =
     let g = row-found c.args.plans c.args.book.now (part c.args.from key_wide c.args.key.now) c.requires.plan_wide_in_bounds.0 i found in
     let h = below in
     let e = c.copy_to.ensures ∙ ap (λ (r : List ℕ). over c.args.at r c.args.out.now) (lent-part (i * plan_wide + 1) body_wide c.args.book.now) in
-    record { value = rw g (some-row (plan_body_at i c.args.book.now)); out_after = rw g (row_written c.args.at (i * plan_wide + 1) c.args.book.now c.args.out.now c.copy_to.new.bytes (omega arith) e) }
+    record { value = rw g (some-row (plan_body_at i c.args.book.now)); out_after = rw g (row_written c.args.at (i * plan_wide + 1) c.args.book.now c.args.out.now c.copy_to.new.elements (omega arith) e) }
 
 pub returns-in-Err : goal.returns-in-Err
 returns-in-Err c =

@@ -32,10 +32,10 @@ copy_to-requires c =
 pub shape_of-tail : goal.shape_of-tail
 shape_of-tail c =
     let a = c.args in
-    done-length a.at a.number a.sender a.tail.now c.put_number.new.bytes c.put_number.ensures (lent a.from a.bodies.now) c.copy_to.new.bytes c.copy_to.ensures
+    done-length a.at a.number a.sender a.tail.now c.put_number.new.bytes c.put_number.ensures (lent a.from a.bodies.now) c.copy_to.new.elements c.copy_to.ensures
 
 pub returns : goal.returns
 returns c =
     let a = c.args in
-    entry-written a.at a.number a.sender a.tail.now c.put_number.new.bytes c.put_number.ensures (lent a.from a.bodies.now) c.copy_to.new.bytes c.copy_to.ensures
+    entry-written a.at a.number a.sender a.tail.now c.put_number.new.bytes c.put_number.ensures (lent a.from a.bodies.now) c.copy_to.new.elements c.copy_to.ensures
     ∙ ap (λ (r : List ℕ). over a.at (entry_of a.number a.sender r) a.tail.now) (lent-part a.from body_wide a.bodies.now)

@@ -34,15 +34,15 @@ pub copy_to-requires : goal.copy_to-requires
 copy_to-requires c = let a = c.args in let g = c.lengthen-longer in omega (arith, join-room a.feed g.result (length a.text.now) (length a.line.now) g.ensures c.if-size-ge4096.false c.requires.0)
 
 pub slice_bounds-read_line-end : goal.slice_bounds-read_line-end
-slice_bounds-read_line-end c = let a = c.args in let g = c.lengthen-longer in let k = c.copy_to in joined-room a.feed g.result a.text.now a.line.now k.new.bytes c.if-size-ge4096.false c.requires.0 k.ensures
+slice_bounds-read_line-end c = let a = c.args in let g = c.lengthen-longer in let k = c.copy_to in joined-room a.feed g.result a.text.now a.line.now k.new.elements c.if-size-ge4096.false c.requires.0 k.ensures
 
 pub slice_bounds-read_line-end-2 : goal.slice_bounds-read_line-end-2
-slice_bounds-read_line-end-2 c = let a = c.args in let g = c.lengthen-longer in let k = c.copy_to in sym (length-take-le _ k.new.bytes (joined-room a.feed g.result a.text.now a.line.now k.new.bytes c.if-size-ge4096.false c.requires.0 k.ensures))
+slice_bounds-read_line-end-2 c = let a = c.args in let g = c.lengthen-longer in let k = c.copy_to in sym (length-take-le _ k.new.elements (joined-room a.feed g.result a.text.now a.line.now k.new.elements c.if-size-ge4096.false c.requires.0 k.ensures))
 
 pub read_line-requires-2 : goal.read_line-requires-2
 read_line-requires-2 c = let a = c.args in let g = c.lengthen-longer in read-room a.feed g.result a.text.now g.ensures c.requires.1 c.requires.2
 
 pub returns : goal.returns
 returns c = let a = c.args in let g = c.lengthen-longer in let r = c.read_line-2 in let k = c.copy_to in let few = c.if-size-ge4096.false in let size = g.result.size in
-    read-ends a.register.now a.text.now a.feed a.line.now a.staging.now k.new.bytes g.result g.ensures r.result few c.if-long-ne0.false r.new.staging (take (length (take size k.new.bytes) - 1) (take size k.new.bytes)) r.ensures.feed r.ensures.area
-    (joined-text a.feed.size size a.text.now a.line.now k.new.bytes (ap (λ (x : Feed). x.size) g.ensures) few c.requires.0 k.ensures)
+    read-ends a.register.now a.text.now a.feed a.line.now a.staging.now k.new.elements g.result g.ensures r.result few c.if-long-ne0.false r.new.staging (take (length (take size k.new.elements) - 1) (take size k.new.elements)) r.ensures.feed r.ensures.area
+    (joined-text a.feed.size size a.text.now a.line.now k.new.elements (ap (λ (x : Feed). x.size) g.ensures) few c.requires.0 k.ensures)

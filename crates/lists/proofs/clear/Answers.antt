@@ -1,24 +1,11 @@
-use mathlib.Core.Path.{◌≡◌, refl, sym, ap, ◌∙◌}
-use Prim.Native.Nat.{ℕ, ◌-◌}
-use native.Mathlib.Omega.{arith}
-use borrow.Author.Rules.{rules}
-use lib.ListN.{length-set, replicate}
-use Rattle.lists.specs.Part.{over}
-use Rattle.lists.proofs.OverLaws.{over-nil}
-use Rattle.lists.proofs.TurnLaws.{clear-turn}
+use Rattle.std.proofs.Common.{◌≡◌, ℕ, ◌-◌, ◌+◌, ap, ◌∙◌, arith, length, replicate}
+use lib.ListN.{take, drop, length-take, length-drop, length-replicate}
+use Rattle.lists.proofs.OverLaws.{over-put_mid}
 use Rattle.lists.proofs.clear.Goals as goal
-
-pub loop-i-init : goal.loop-i-init
-loop-i-init c = (search rules, refl, sym (over-nil _ _))
-
-pub loop-i-preserved : goal.loop-i-preserved
-loop-i-preserved c =
-    let l = c.loop-i in
-    let a = c.args in
-    (omega arith, simp length-set l.invariant.1, clear-turn a.at l.i a.bytes.now l.bytes l.invariant.2)
 
 pub returns : goal.returns
 returns c =
     let a = c.args in
-    let e : c.loop-i.i ≡ a.count = omega arith in
-    c.loop-i.invariant.2 ∙ ap (λ (i : ℕ). over a.at (replicate i 0) a.bytes.now) e
+    let n : length (take (a.at + a.count - a.at) (drop a.at a.bytes.now)) ≡ a.count = simp (length-take, length-drop) (omega arith) in
+    let z : c.fill.new.self ≡ replicate a.count 0 = c.fill.ensures.after (λ y h. h) ∙ ap (λ (k : ℕ). replicate k 0) n in
+    rw z (over-put_mid a.at _ a.bytes.now (replicate a.count 0) (simp length-replicate (omega arith)) (omega arith))

@@ -1,45 +1,33 @@
-use mathlib.Core.Path.{ap, ◌∙◌}
-use Prim.Native.Nat.{ℕ, ◌+◌, ◌-◌, ◌^◌, ◌<◌}
-use native.Mathlib.Omega.{arith}
-use borrow.Author.Rules.{rules}
-use lib.ListN.{get_or}
-use Rattle.lists.specs.Part.{part}
+use Rattle.std.proofs.Common.{ℕ, ◌-◌, ◌+◌, sym, ap, ◌∙◌, arith}
+use lib.ListN.{take, drop, length-take, length-drop}
+use lib.Seq.{take_all}
 use Rattle.lists.specs.BigEndian.{number}
-use Rattle.lists.proofs.EachLaws.{bytes-known}
-use Rattle.lists.proofs.NumberTurnLaws.{read-start, read-turn, read_fits}
+use Rattle.lists.proofs.EachLaws.{bytes-lent}
+use Rattle.lists.proofs.PartLaws.{part-is}
+use Rattle.lists.proofs.BigEndianLaws.{number-nil}
+use Rattle.lists.proofs.NumberTurnLaws.{read-next, read-room}
 use Rattle.lists.proofs.get_number.Goals as goal
 
-pub loop-i-init : goal.loop-i-init
-loop-i-init c = (search rules, read-start _ _)
-
--- each element is a byte, the one that was read too
-byte : (c : goal.After-shared_slice_known-1) (i : ℕ) → get_or c.args.bytes.now i 0 < 256
-byte c i = omega (arith, c.shared_slice_known-1.given i)
-
-read : (c : goal.After-shared_slice_known-1) → get_or c.args.bytes.now (c.args.at + c.loop-i.i) 0 < 256
-read c = byte c (c.args.at + c.loop-i.i)
-
-pub overflow_cast-b : goal.overflow_cast-b
-overflow_cast-b c = omega (arith, read c)
-
--- the number so far leaves room for one byte more
-room : (c : goal.After-shared_slice_known-1) → c.loop-i.n < 256 ^ 3
-room c =
-    let a = c.args in
-    read_fits a.at c.loop-i.i c.loop-i.n a.bytes.now c.loop-i.invariant.1 (bytes-known a.bytes.now (byte c)) (omega arith) (omega arith)
+pub loop-byte-init : goal.loop-byte-init
+loop-byte-init c = (omega arith, sym number-nil)
 
 pub overflow_mul-n : goal.overflow_mul-n
-overflow_mul-n c = omega (arith, room c, read c)
+overflow_mul-n c =
+    let l = c.loop-byte in
+    let a = c.args in
+    omega (arith, read-room l.byte-index l.n _ l.invariant.1 (bytes-lent a.at (a.at + a.width - a.at) a.bytes.now (λ i. omega (arith, c.type_inv.bytes i))) c.loop-byte-test.true (simp (length-take, length-drop) (omega arith)))
 
 pub overflow_add-n : goal.overflow_add-n
-overflow_add-n c = omega (arith, room c, read c)
-
-pub loop-i-preserved : goal.loop-i-preserved
-loop-i-preserved c =
+overflow_add-n c =
+    let l = c.loop-byte in
     let a = c.args in
-    (omega arith, read-turn a.at c.loop-i.i c.loop-i.n a.bytes.now c.loop-i.invariant.1 (omega arith))
+    omega (arith, read-room l.byte-index l.n _ l.invariant.1 (bytes-lent a.at (a.at + a.width - a.at) a.bytes.now (λ i. omega (arith, c.type_inv.bytes i))) c.loop-byte-test.true (simp (length-take, length-drop) (omega arith)))
+
+pub loop-byte-preserved : goal.loop-byte-preserved
+loop-byte-preserved c = (omega arith, read-next c.loop-byte.byte-index c.loop-byte.n _ c.loop-byte.invariant.1 (omega arith))
 
 pub returns : goal.returns
 returns c =
-    let s = c.args in
-    c.loop-i.invariant.1 ∙ ap (λ (i : ℕ). number (part s.at i s.bytes.now)) (omega arith)
+    let a = c.args in
+    c.loop-byte.invariant.1
+    ∙ ap number (take_all _ _ c.loop-byte-test.false ∙ ap (λ (n : ℕ). take n (drop a.at a.bytes.now)) (omega arith) ∙ sym (part-is a.at a.width a.bytes.now))

@@ -7,4 +7,4 @@ pub returns : goal.returns
 returns c =
     let moved = c.shift_up in
     c.copy_to.ensures
-    ∙ move_in c.args.count c.args.place c.args.table.now moved.new.bytes (omega arith) c.args.row.now c.requires.2 c.requires.0 moved.ensures
+    ∙ move_in c.args.count c.args.place c.args.table.now moved.new.elements (omega arith) c.args.row.now c.requires.2 c.requires.0 moved.ensures

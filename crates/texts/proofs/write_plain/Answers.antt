@@ -10,7 +10,7 @@ pub returns : goal.returns
 returns c =
     let a = c.args in
     let first = c.copy_to in
-    let laid : first.new.bytes ≡ over a.at (replicate 10 0) a.row.now = first.ensures in
+    let laid : first.new.elements ≡ over a.at (replicate 10 0) a.row.now = first.ensures in
     c.copy_to-2.ensures
     ∙ ap (λ (d : List ℕ). over a.at a.field.now d) laid
     ∙ over_zeros a.at a.field.now a.row.now c.requires.1

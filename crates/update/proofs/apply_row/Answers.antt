@@ -23,5 +23,5 @@ returns c =
     let flexible = c.kept_or-flexible in
     let monitored = c.kept_or-monitored in
     let copied = c.copy_to in
-    apply-writes a.row.now a.bodies.now a.at a.from c.requires.1 copied.new.bytes status.result show.result flexible.result monitored.result
+    apply-writes a.row.now a.bodies.now a.at a.from c.requires.1 copied.new.elements status.result show.result flexible.result monitored.result
     copied.ensures status.ensures show.ensures flexible.ensures monitored.ensures
