@@ -6,7 +6,7 @@ use Prim.Native.Nat.{ℕ, suc, ◌+◌, ◌-◌, ◌*◌, ◌/◌, ◌%◌, ◌<
 use native.Mathlib.Decide.{dec_le}
 use native.Mathlib.Omega.{arith}
 use lib.Dec.{T}
-use Rattle.clock.specs.Date.{leap, gregorian, is_date, next_date}
+use Rattle.clock.specs.Date.{leap, gregorian, next_date}
 use Rattle.clock.specs.Moment.{day_count, moment_of, date_on, date_at}
 use Rattle.clock.specs.Claims.{LeapYears, DatesOrdered, NextMoment, SameDayOrdered, MomentsRead, TimesRead, All}
 use Rattle.clock.proofs.BelowLaws.{below_at}

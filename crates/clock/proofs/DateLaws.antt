@@ -2,12 +2,12 @@
 use mathlib.Core.Path.{◌≡◌}
 use mathlib.Core.Bool.{Bool, true, false, ◌&&◌, ◌||◌}
 use mathlib.Core.Logic.{◌⊎◌, ⊎_elim}
-use Prim.Native.Nat.{ℕ, ◌%◌, ◌<◌, ◌≤◌}
+use Prim.Native.Nat.{ℕ, ◌%◌, ◌≤◌}
 use native.Mathlib.Omega.{arith}
-use borrow.Author.Tests.{eq-eqb, ne_eqb, le-leb}
-use lib.Dec.{eqb, leb, lit≤}
+use borrow.Author.Tests.{eq-eqb, ne_eqb}
+use lib.Dec.{eqb, lit≤}
 use Rattle.lists.specs.Logic.{on, within}
-use Rattle.lists.proofs.LogicLaws.{and-false, and-pass, within-true, in-range, below-range, above-range}
+use Rattle.lists.proofs.LogicLaws.{and-pass, within-true, in-range}
 use Rattle.clock.specs.Date.{year, month, day, date_from, leap, days_in, is_date}
 
 module _ (y m : ℕ) where
@@ -37,30 +37,6 @@ module _ (y m : ℕ) where
       go true false c = (lit≤ tt, lit≤ tt)
       go false b true = (lit≤ tt, lit≤ tt)
       go false b false = (lit≤ tt, lit≤ tt)
-
-module _ (n : ℕ) where
-  pub date-early : year n < 2000 → false ≡ is_date n
-  unfolding is_date
-  date-early h = rw (below-range 2000 2099 (year n) h)
-
-  pub date-late : 2099 < year n → false ≡ is_date n
-  unfolding is_date
-  date-late h = rw (above-range 2000 2099 (year n) h)
-
-  pub date-month : within 1 12 (month n) ≡ false → false ≡ is_date n
-  unfolding is_date
-  date-month e = rw (e, and-false (within 2000 2099 (year n)))
-
-  pub date-day-0 : day n < 1 → false ≡ is_date n
-  unfolding is_date
-  date-day-0 h =
-      rw (below-range 1 (days_in (year n) (month n)) (day n) h, and-false (within 2000 2099 (year n) && within 1 12 (month n)))
-
-  pub date-day :
-      (d : ℕ) → d ≡ days_in (year n) (month n) → 2000 ≤ year n → year n ≤ 2099 → 1 ≤ month n → month n ≤ 12 → 1 ≤ day n
-      → leb (day n) d ≡ is_date n
-  unfolding is_date
-  date-day d e a b p q h = rw (in-range 2000 2099 (year n) a b, in-range 1 12 (month n) p q, le-leb 1 (day n) h, e)
 
 -- a year, a month and a day that make a date
 pub record Real (y m d : ℕ) : Type 0 where

@@ -7,11 +7,11 @@ ghost use Rattle.clock.specs.Date.{days_in, is_date};
 ghost use Rattle.clock.specs.Moment.{month_start, month_of, day_count, moment_of, date_on, date_at, second_at};
 
 // Seconds within an operating day, 0 to 115,199.
-#[derive(Clone, Copy)]
+#[derive(Clone, Copy, PartialEq, Eq, PartialOrd, Ord)]
 pub struct OperatingSeconds(pub u32);
 
 // Seconds on the clock since 2000-01-01 00:00:00.
-#[derive(Clone, Copy)]
+#[derive(Clone, Copy, PartialEq, Eq, PartialOrd, Ord)]
 pub struct ClockSeconds(pub u32);
 
 // The days of month `m` of year `y`.
@@ -32,22 +32,7 @@ pub fn is_date(number: u32) -> bool
     let y = number / 10000;
     let m = number / 100 % 100;
     let d = number % 100;
-    if y < 2000 {
-        return false;
-    }
-    if 2099 < y {
-        return false;
-    }
-    if m < 1 {
-        return false;
-    }
-    if 12 < m {
-        return false;
-    }
-    if d < 1 {
-        return false;
-    }
-    d <= days_in(y, m)
+    (2000..=2099).contains(&y) & (1..=12).contains(&m) & (1..=days_in(y, m)).contains(&d)
 }
 
 // The days of a common year before each month.
@@ -61,16 +46,11 @@ fn month_start(k: u32) -> u32
     let y = k / 12;
     let m = (k % 12) as usize;
     let base = y * 365 + (y + 3) / 4 + BEFORE[m];
-    if m < 2 {
-        return base;
-    }
-    if y % 4 == 0 {
-        return base + 1;
-    }
-    base
+    if 2 <= m && y % 4 == 0 { base + 1 } else { base }
 }
 
 // The days from 2000-01-01 to a date YYYYMMDD.
+// kept: (a) a date is a number with a clause and no type of its own, here and in `moment`: docs/RULES.md names both, and their callers pass numbers.
 pub fn day_count(date: u32) -> u32
     requires { is_date date ≡ true }
     ensures { result ≡ day_count date }
@@ -93,10 +73,7 @@ fn month_at(day: u32) -> u32
     ensures { result ≡ month_of (date_on day) }
 {
     let k = (day * 16 + 26) / 487;
-    if day < month_start(k) {
-        return k - 1;
-    }
-    k
+    if day < month_start(k) { k - 1 } else { k }
 }
 
 // The date that the clock shows at a moment, 2100-01-01 too: the last operating day ends on it.

@@ -1,4 +1,5 @@
 pub mod LogicLaws
+pub mod RangeLaws
 pub mod EachLaws
 pub mod TextLaws
 pub mod PartLaws

@@ -107,12 +107,8 @@ fn texts_at(bytes: &[u8], at: usize) -> bool
     ensures { result ≡ texts_padded (part at body_wide bytes.now) }
 {
     let mut bad: u8 = 0;
-    let mut i = 0;
-    while i < ROLES_WIDE {
-        let b = bytes[at + i];
-        let next = bytes[at + i + 1];
-        bad += breaks(role(i), b, next) as u8;
-        i += 1;
+    for i in 0..ROLES_WIDE {
+        bad += breaks(role(i), bytes[at + i], bytes[at + i + 1]) as u8;
     }
     bad == 0
 }
@@ -131,10 +127,7 @@ fn is_date_beside(date: u32, known: u32) -> bool
     requires { is_date known ≡ true }
     ensures { result ≡ is_date date }
 {
-    if date == known {
-        return true;
-    }
-    clock::is_date(date)
+    date == known || clock::is_date(date)
 }
 
 // Whether what update, plan entry and row have in common is in range, from `at` on.
@@ -162,23 +155,19 @@ pub fn all_common(bytes: &[u8], at: usize, width: usize, offset: usize, count: u
     ensures { result ≡ all_common (map (part offset body_wide) (rows_of width count (drop at bytes.now))) }
 {
     let mut known: u32 = 20000101;
-    let mut p = at;
-    let mut i = 0;
-    while i < count {
-        let q = p + offset;
-        let date = lists::get_number(bytes, q + DATE_AT, DATE_WIDE);
-        if common_at(bytes, q, date, known) {
-            known = date;
-            p += width;
-            i += 1;
-        } else {
+    for i in 0..count {
+        let body = at + i * width + offset;
+        let date = lists::get_number(bytes, body + DATE_AT, DATE_WIDE);
+        if !common_at(bytes, body, date, known) {
             return false;
         }
+        known = date;
     }
     true
 }
 
 // ---- each by itself
+// kept: (a) that what is common holds stands as a clause in three functions, and in no type: docs/RULES.md names all three.
 
 // Whether an update's body stands from `at` on, every field in its range, where what is common is.
 pub fn update_in_range(bytes: &[u8], at: usize) -> bool

@@ -1,23 +1,15 @@
-use Rattle.lists.proofs.LogicLaws.{below-range, above-range}
-use Rattle.clock.proofs.DateLaws.{date-early, date-late, date-month, date-day-0, date-day}
+use Rattle.std.proofs.Common.{◌≡◌, ◌∙◌, ◌/◌, ◌%◌}
+use Rattle.lists.specs.Logic.{within}
+use Rattle.lists.proofs.RangeLaws.{range-within}
+use Rattle.clock.specs.Date.{is_date, days_in}
 use Rattle.clock.proofs.is_date.Goals as goal
 
-pub returns-then-y-lt2000 : goal.returns-then-y-lt2000
-returns-then-y-lt2000 c = date-early _ c.if-y-lt2000.true
-
-pub returns-then-y-gt2099 : goal.returns-then-y-gt2099
-returns-then-y-gt2099 c = date-late _ c.if-y-gt2099.true
-
-pub returns-then-m-lt1 : goal.returns-then-m-lt1
-returns-then-m-lt1 c = date-month _ (below-range 1 12 _ c.if-m-lt1.true)
-
-pub returns-then-m-gt12 : goal.returns-then-m-gt12
-returns-then-m-gt12 c = date-month _ (above-range 1 12 _ c.if-m-gt12.true)
-
-pub returns-then-d-lt1 : goal.returns-then-d-lt1
-returns-then-d-lt1 c = date-day-0 _ c.if-d-lt1.true
-
 pub returns : goal.returns
-returns c = date-day _ _ c.days_in.ensures
-    c.if-y-lt2000.false c.if-y-gt2099.false
-    c.if-m-lt1.false c.if-m-gt12.false c.if-d-lt1.false
+unfolding is_date
+returns c =
+    let n = c.args.number in
+    let y : c.contains.result ≡ within 2000 2099 (n / 10000) = c.contains.ensures.value ∙ range-within c.new.result 2000 2099 _ c.new.ensures.start c.new.ensures.end c.new.ensures.exhausted in
+    let m : c.contains-2.result ≡ within 1 12 (n / 100 % 100) = c.contains-2.ensures.value ∙ range-within c.new-2.result 1 12 _ c.new-2.ensures.start c.new-2.ensures.end c.new-2.ensures.exhausted in
+    let d : c.contains-3.result ≡ within 1 (days_in (n / 10000) (n / 100 % 100)) (n % 100) =
+    c.contains-3.ensures.value ∙ range-within c.new-3.result 1 _ _ c.new-3.ensures.start (c.new-3.ensures.end ∙ c.days_in.ensures) c.new-3.ensures.exhausted in
+    rw (y, m, d)

@@ -13,6 +13,6 @@ pub returns-then-day-month_start : goal.returns-then-day-month_start
 returns-then-day-month_start c =
     (guess-over c.args.day c.requires (omega (arith, c.if-day-month_start.true, c.month_start.ensures))).1
 
-pub returns : goal.returns
-returns c =
+pub returns-else-day-month_start : goal.returns-else-day-month_start
+returns-else-day-month_start c =
     guess-right c.args.day c.requires (omega (arith, c.if-day-month_start.false, c.month_start.ensures))

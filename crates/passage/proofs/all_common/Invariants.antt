@@ -1,7 +1,6 @@
 use mathlib.Core.Path.{◌≡◌}
 use mathlib.Core.Bool.{true}
 use mathlib.Core.List.{map}
-use Prim.Native.Nat.{◌+◌, ◌*◌, ◌-◌, ◌≤◌}
 use lib.ListN.{drop}
 use Rattle.lists.specs.Part.{part}
 use Rattle.lists.specs.Rows.{rows_of}
@@ -13,7 +12,4 @@ use Rattle.passage.proofs.all_common.Given as goal
 
 abbrev pub invariant-loop-i : goal.invariant-loop-i
 invariant-loop-i l =
-    (l.i ≤ l.count) × (is_date l.known ≡ true) × (l.p ≡ l.at + l.i * l.width) × (all_common (map (part l.offset body_wide) (rows_of l.width l.count (drop l.at l.bytes))) ≡ all_common (left l.width l.offset l.count l.at l.bytes l.i))
-
-abbrev pub decreases-loop-i : goal.decreases-loop-i
-decreases-loop-i l = l.count - l.i
+    (is_date l.known ≡ true) × (all_common (map (part l.offset body_wide) (rows_of l.width l.count (drop l.at l.bytes))) ≡ all_common (left l.width l.offset l.count l.at l.bytes l.i))

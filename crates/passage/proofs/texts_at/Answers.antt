@@ -7,7 +7,7 @@ use Rattle.passage.proofs.RoleLaws.{texts-start, texts-turn, texts-end}
 use Rattle.passage.proofs.texts_at.Goals as goal
 
 pub loop-i-init : goal.loop-i-init
-loop-i-init c = (omega arith, omega arith, texts-start _ _ (search rules))
+loop-i-init c = (omega arith, texts-start _ _ (search rules))
 
 pub overflow_add-bad : goal.overflow_add-bad
 overflow_add-bad c = omega (arith, bool-most c.breaks.result)
@@ -17,12 +17,11 @@ loop-i-preserved c =
     let l = c.loop-i in
     let a = c.args in (
       omega (arith, bool-most c.breaks.result),
-      omega arith,
-      rw (c.breaks.ensures, c.role.ensures) (texts-turn roles a.bytes.now a.at l.bad l.i (search rules) ∙ l.invariant.2),
+      rw (c.breaks.ensures, c.role.ensures) (texts-turn roles a.bytes.now a.at l.bad l.i (search rules) ∙ l.invariant.1),
     )
 
 pub returns : goal.returns
 returns c =
     let l = c.loop-i in
     let e : l.i ≡ roles_wide = omega arith in
-    sym (texts-end _ l.bad) ∙ (rw e at l.invariant.2)
+    sym (texts-end _ l.bad) ∙ (rw e at l.invariant.1)
