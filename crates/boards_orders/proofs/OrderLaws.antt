@@ -1,5 +1,5 @@
 -- What a line asks, at each way through the code. Assumes nothing.
-use mathlib.Core.Path.{◌≡◌, refl, sym, ap, ◌∙◌}
+use mathlib.Core.Path.{◌≡◌, refl, ap, ◌∙◌}
 use mathlib.Core.Bool.{Bool, true, false}
 use mathlib.Core.List.{List, [], ◌∷◌}
 use Prim.Native.Nat.{ℕ, ◌≤◌, ◌<◌}
@@ -7,8 +7,7 @@ use native.Mathlib.Omega.{arith}
 use borrow.Author.Tests.{eq-eqb, ne_eqb, lt-ltb, le-ltb}
 use lib.Dec.{eqb}
 use lib.ListN.{length, get_or}
-use Rattle.field_types.specs.declared.Number.{Number}
-use Rattle.field_types.specs.declared.Number.TheVariants.{Is, Wrong}
+use Rattle.std.specs.Prelude.{Option}
 use Rattle.field_types.specs.Digits.{numeral}
 use Rattle.field_types.specs.Times.{clock}
 use Rattle.field_types.specs.Dates.{date}
@@ -19,29 +18,17 @@ use Rattle.boards_orders.specs.Orders.{command_of, or_none, no_number, no-day, n
 
 -- ---- numbers
 
-pub number_is : (k : ℕ) (line w : List ℕ) (r : Number) (n : ℕ) → w ≡ word_at k line → r ≡ numeral 9 w → r ≡ Is n → n ≡ number_word k line
+pub number-said : (k : ℕ) (line w : List ℕ) (r : Option ℕ) (n : ℕ) → w ≡ word_at k line → r ≡ numeral 9 w → n ≡ or_none r → n ≡ number_word k line
 unfolding number_word
-number_is k line w r n e f g = ap or_none (sym g ∙ f ∙ ap (numeral 9) e)
+number-said k line w r n e f g = g ∙ ap or_none (f ∙ ap (numeral 9) e)
 
-pub number-none : (k : ℕ) (line w : List ℕ) (r : Number) → w ≡ word_at k line → r ≡ numeral 9 w → r ≡ Wrong → no_number ≡ number_word k line
-unfolding number_word
-number-none k line w r e f g = ap or_none (sym g ∙ f ∙ ap (numeral 9) e)
-
-pub date-is : (line w : List ℕ) (r : Number) (n : ℕ) → w ≡ word_at 3 line → r ≡ date w → r ≡ Is n → n ≡ date_word line
+pub date-said : (line w : List ℕ) (r : Option ℕ) (n : ℕ) → w ≡ word_at 3 line → r ≡ date w → n ≡ or_none r → n ≡ date_word line
 unfolding date_word
-date-is line w r n e f g = ap or_none (sym g ∙ f ∙ ap date e)
+date-said line w r n e f g = g ∙ ap or_none (f ∙ ap date e)
 
-pub date-none : (line w : List ℕ) (r : Number) → w ≡ word_at 3 line → r ≡ date w → r ≡ Wrong → no_number ≡ date_word line
-unfolding date_word
-date-none line w r e f g = ap or_none (sym g ∙ f ∙ ap date e)
-
-pub time-is : (line w : List ℕ) (r : Number) (n : ℕ) → w ≡ word_at 4 line → r ≡ clock 31 w → r ≡ Is n → n ≡ time_word line
+pub time-said : (line w : List ℕ) (r : Option ℕ) (n : ℕ) → w ≡ word_at 4 line → r ≡ clock 31 w → n ≡ or_none r → n ≡ time_word line
 unfolding time_word
-time-is line w r n e f g = ap or_none (sym g ∙ f ∙ ap (clock 31) e)
-
-pub time-none : (line w : List ℕ) (r : Number) → w ≡ word_at 4 line → r ≡ clock 31 w → r ≡ Wrong → no_number ≡ time_word line
-unfolding time_word
-time-none line w r e f g = ap or_none (sym g ∙ f ∙ ap (clock 31) e)
+time-said line w r n e f g = g ∙ ap or_none (f ∙ ap (clock 31) e)
 
 -- ---- commands
 

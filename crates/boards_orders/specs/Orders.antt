@@ -1,11 +1,9 @@
 -- What a line of the script asks. Assumes nothing.
-use Rattle.std.specs.Prelude.{ℕ, ◌+◌, min, Bool, true, false, List, [], ◌∷◌, eqb, ltb, length}
+use Rattle.std.specs.Prelude.{ℕ, ◌+◌, min, Bool, true, false, List, [], ◌∷◌, eqb, ltb, length, Option, unwrap_or}
 use Rattle.lists.specs.Logic.{on, first_held}
 use Rattle.lists.specs.Text.{bytes}
 use Rattle.turbo.specs.Split.{fields}
 use Rattle.turbo_labels.specs.Columns.{column_of}
-use Rattle.field_types.specs.declared.Number.{Number}
-use Rattle.field_types.specs.declared.Number.TheVariants.{Is, Wrong}
 use Rattle.field_types.specs.Digits.{numeral}
 use Rattle.field_types.specs.Times.{clock}
 use Rattle.field_types.specs.Dates.{date}
@@ -62,9 +60,8 @@ wants c = Bad 0 (15 + min c 10)
 abbrev pub no_number : ℕ
 no_number = 4294967295
 
-abbrev pub or_none : Number → ℕ
-or_none (Is n) = n
-or_none Wrong = no_number
+abbrev pub or_none : Option ℕ → ℕ
+or_none n = unwrap_or n no_number
 
 -- word k as a number of at most nine digits
 unfoldable pub number_word : ℕ → List ℕ → ℕ

@@ -4,8 +4,6 @@
 ghost use Rattle.std.specs.Prelude.{◌≡◌};
 ghost use Rattle.boards_orders.specs.Orders.{command_of, number_word, date_word, time_word, has_words, is_whole, is_of_day, is_silent, places_at, form_at, register_order, message_order, parts_order, withdraw_order, board_order, wants, order_by, commanded, order_in};
 
-use field_types::Number;
-
 // What a line asks, with the numbers in it; its words and files are read when it is done. `Bad` has the place of the word that is wrong, and why.
 #[derive(Clone, Copy)]
 pub enum Order {
@@ -97,10 +95,7 @@ const NONE: u32 = 4294967295;
 fn number(line: &[u8], k: usize) -> u32
     ensures { result ≡ number_word k line.now }
 {
-    match field_types::read_number(script_text::word(line, k), 9) {
-        Number::Is(n) => n,
-        Number::Wrong => NONE,
-    }
+    field_types::read_number(script_text::word(line, k), 9).unwrap_or(NONE)
 }
 
 // REGISTER sender owner: the sender from 1 on, since the desk, 0, is registered for nobody.
@@ -199,20 +194,14 @@ fn places(line: &[u8]) -> u32
 fn date(line: &[u8]) -> u32
     ensures { result ≡ date_word line.now }
 {
-    match field_types::read_date(script_text::word(line, 3)) {
-        Number::Is(n) => n,
-        Number::Wrong => NONE,
-    }
+    field_types::read_date(script_text::word(line, 3)).unwrap_or(NONE)
 }
 
 // The fifth word as a time: its hours to 31, so that what is outside a board's range is the board's to refuse.
 fn second(line: &[u8]) -> u32
     ensures { result ≡ time_word line.now }
 {
-    match field_types::read_clock(script_text::word(line, 4), 31) {
-        Number::Is(n) => n,
-        Number::Wrong => NONE,
-    }
+    field_types::read_clock(script_text::word(line, 4), 31).unwrap_or(NONE)
 }
 
 // BOARD owner stop date time horizon [places].

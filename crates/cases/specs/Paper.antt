@@ -1,10 +1,8 @@
 -- Document 01's cases P1 to P11, one statement each. `proofs/Paper.antt` proves them together. Assumes nothing.
-use Rattle.std.specs.Prelude.{ℕ, ◌≤◌, ◌≡◌, true, List, [], ◌∷◌, ◌++◌, Err}
+use Rattle.std.specs.Prelude.{ℕ, ◌≤◌, ◌≡◌, true, List, [], ◌∷◌, ◌++◌, Some, None, Err}
 use Rattle.lists.specs.Text.{bytes}
 use Rattle.syntax.specs.Machine.{fault}
 use Rattle.turbo.specs.Escape.{decode}
-use Rattle.field_types.specs.declared.Time.TheVariants as Times
-use Rattle.field_types.specs.declared.Number.TheVariants.{Is, Wrong}
 use Rattle.field_types.specs.Times.{time}
 use Rattle.field_types.specs.Dates.{date}
 use Rattle.field_types.specs.Stamps.{stamp}
@@ -20,15 +18,15 @@ use Rattle.cases.specs.Day.{says, says_of, sent, cancelled, withdrawn, board, re
 
 -- P1: 31:59:59 is 115,199; 32:00:00 is refused
 abbrev pub P1 : Type 0
-P1 = (time (bytes "31:59:59") ≡ Times.Is (record { 0 = 115199 })) × (time (bytes "32:00:00") ≡ Times.Wrong)
+P1 = (time (bytes "31:59:59") ≡ Some (record { 0 = 115199 })) × (time (bytes "32:00:00") ≡ None)
 
 -- P2: 2000-02-29 is a date, 2023-02-29 not
 abbrev pub P2 : Type 0
-P2 = (date (bytes "2000-02-29") ≡ Is 20000229) × (date (bytes "2023-02-29") ≡ Wrong)
+P2 = (date (bytes "2000-02-29") ≡ Some 20000229) × (date (bytes "2023-02-29") ≡ None)
 
 -- P3: 2016-03-01T15:15:30+01:00 is 1,456,841,730
 abbrev pub P3 : Type 0
-P3 = stamp (bytes "2016-03-01T15:15:30+01:00") ≡ Is 1456841730
+P3 = stamp (bytes "2016-03-01T15:15:30+01:00") ≡ Some 1456841730
 
 -- P4: `a\pb\i` is `a|b\`; `\x` faults
 abbrev pub P4 : Type 0

@@ -6,6 +6,7 @@ use Prim.Native.Nat.{ℕ, zero, suc, ◌-◌, ◌<◌}
 use native.Mathlib.Nat.{not-suc-le-zero}
 use native.Mathlib.Omega.{arith}
 use lib.ListN.{length, replicate}
+use Rattle.std.specs.Prelude.{Option, Some, None}
 use Rattle.lists.specs.Part.{some}
 use Rattle.lists.specs.Logic.{on, within}
 use Rattle.lists.specs.Each.{Bytes}
@@ -13,11 +14,8 @@ use Rattle.lists.specs.Text.{bytes, same}
 use Rattle.lists.proofs.LogicLaws.{and-pass, within-true}
 use Rattle.lists.proofs.EachLaws.{each_append}
 use Rattle.lists.proofs.BigEndianLaws.{length-spelled, bytes-spelled}
+use Rattle.clock.specs.declared.OperatingSeconds.{OperatingSeconds}
 use Rattle.turbo.specs.Escape.{decode}
-use Rattle.field_types.specs.declared.Number.{Number}
-use Rattle.field_types.specs.declared.Number.TheVariants as Numbers
-use Rattle.field_types.specs.declared.Time.{Time}
-use Rattle.field_types.specs.declared.Time.TheVariants as Times
 use Rattle.field_types.specs.Digits as Digits
 use Rattle.field_types.specs.Dates as Dates
 use Rattle.field_types.specs.Times.{time}
@@ -85,13 +83,13 @@ Wide w l = some l ≡ true → length l ≡ w
 wide-none : (w : ℕ) → Wide w []
 wide-none w e = absurd (let z : ◌≡◌ {A = ℕ} 0 1 = cc in omega arith)
 
-wide-number : (w : ℕ) (n : Number) → Wide w (number_cell w n)
-wide-number w (Numbers.Is v) e = length-spelled w v
-wide-number w Numbers.Wrong e = wide-none w e
+wide-number : (w : ℕ) (n : Option ℕ) → Wide w (number_cell w n)
+wide-number w (Some v) e = length-spelled w v
+wide-number w None e = wide-none w e
 
-wide-time : (t : Time) → Wide 3 (time_cell t)
-wide-time (Times.Is s) e = length-spelled 3 s.0
-wide-time Times.Wrong e = wide-none 3 e
+wide-time : (t : Option OperatingSeconds) → Wide 3 (time_cell t)
+wide-time (Some s) e = length-spelled 3 s.0
+wide-time None e = wide-none 3 e
 
 wide-text : (f : List ℕ) → Wide 10 (text_cell (Texts.text f))
 wide-text f = go (Texts.text f).ok
@@ -153,13 +151,13 @@ bytes-kept f = go (Texts.text f).ok refl
         (bytes-text (decode f) (text-is (decode f) (sym (ok-is f) ∙ e)).2) (bytes-zeros (10 - length (decode f))))
     go false e = tt
 
-bytes-number : (w : ℕ) (n : Number) → Bytes (number_cell w n)
-bytes-number w (Numbers.Is v) = bytes-spelled w v
-bytes-number w Numbers.Wrong = tt
+bytes-number : (w : ℕ) (n : Option ℕ) → Bytes (number_cell w n)
+bytes-number w (Some v) = bytes-spelled w v
+bytes-number w None = tt
 
-bytes-time : (t : Time) → Bytes (time_cell t)
-bytes-time (Times.Is s) = bytes-spelled 3 s.0
-bytes-time Times.Wrong = tt
+bytes-time : (t : Option OperatingSeconds) → Bytes (time_cell t)
+bytes-time (Some s) = bytes-spelled 3 s.0
+bytes-time None = tt
 
 bytes-choice : (b : Bool) (x y : List ℕ) → Bytes x → Bytes y → Bytes (on b x y)
 bytes-choice true x y h k = h

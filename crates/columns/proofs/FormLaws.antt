@@ -2,7 +2,6 @@
 use mathlib.Core.Path.{◌≡◌, refl, sym, ap, ◌∙◌}
 use mathlib.Core.Bool.{Bool, true, false}
 use mathlib.Core.List.{List, [], ◌∷◌, ◌++◌, map}
-use Prim.Native.String.{String}
 use Prim.Native.Nat.{ℕ, zero, suc, ◌+◌}
 use native.Mathlib.Omega.{arith}
 use borrow.Author.Tests.{le-ltb}
@@ -18,7 +17,7 @@ use Rattle.columns.specs.declared.Table.{Table}
 use Rattle.columns.specs.declared.Table.TheVariants.{Message}
 use Rattle.columns.specs.declared.Kind.TheVariants.{Text, Date, Journey, Fortify, Order, Stamp, Status, Arrival, Departure, StopType, Flexible}
 use Rattle.columns.specs.Cell.{width}
-use Rattle.columns.specs.Tables.{Column, must, may, stays, cancelled_name, cancelled_kind, yes_no_kind, message_columns, columns_in, table_name, name_of, names, row_width, cell_under, cells_of, row_of, lesser, wrong_in, wrong_column, misses_in, misses, label_fault}
+use Rattle.columns.specs.Tables.{Column, must, may, stays, cancelled_name, cancelled_kind, yes_no_kind, message_columns, columns_in, table_name, name_of, names, row_width, cell_under, cells_of, row_of, lesser, wrong_in, wrong_column, misses, label_fault}
 use Rattle.columns.specs.Layout.{column_at, kind_at, width_in, widths, total, offset}
 use Rattle.columns.specs.Claims.{OldFormStays, FormsShareLayout, FormsDifferInTwo, Unlabelled, FormsAgree}
 

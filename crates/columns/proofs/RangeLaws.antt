@@ -6,6 +6,7 @@ use mathlib.Core.Logic.{◌↔◌, inl, inr}
 use Prim.Native.Nat.{ℕ, ◌^◌, ◌<◌, ◌≤◌}
 use native.Mathlib.Nat.{lt_of_lt_of_le}
 use native.Mathlib.Omega.{arith}
+use Rattle.std.specs.Prelude.{Option, Some, None}
 use Rattle.lists.specs.Part.{some}
 use Rattle.lists.specs.Logic.{on}
 use Rattle.lists.specs.Text.{bytes, same}
@@ -13,13 +14,10 @@ use Rattle.lists.specs.BigEndian.{number, spelled}
 use Rattle.lists.proofs.LogicLaws.{in-range}
 use Rattle.lists.proofs.TextLaws.{same-equal, same_refl}
 use Rattle.lists.proofs.BigEndianLaws.{number_spelled}
+use Rattle.clock.specs.declared.OperatingSeconds.{OperatingSeconds}
 use Rattle.clock.specs.Date.{is_date}
 use Rattle.clock.proofs.DateLaws.{parts}
 use Rattle.turbo.specs.Escape.{decode}
-use Rattle.field_types.specs.declared.Number.{Number}
-use Rattle.field_types.specs.declared.Number.TheVariants as Numbers
-use Rattle.field_types.specs.declared.Time.{Time}
-use Rattle.field_types.specs.declared.Time.TheVariants as Times
 use Rattle.field_types.specs.Digits as Digits
 use Rattle.field_types.specs.Dates as Dates
 use Rattle.field_types.specs.Times as Clock
@@ -45,9 +43,9 @@ never e = absurd (let z : ◌≡◌ {A = ℕ} 0 1 = cc in omega arith)
 -- ---- numbers
 
 -- what is kept of a number spells the number that was read
-spells : (P : ℕ → Type 0) (w : ℕ) (x : Number) → ((v : ℕ) → x ≡ Numbers.Is v → P v × (v < 256 ^ w)) → some (number_cell w x) ≡ true → P (number (number_cell w x))
-spells P w (Numbers.Is v) h e = let k = h v refl in rw (number_spelled w v k.1) k.0
-spells P w Numbers.Wrong h e = never e
+spells : (P : ℕ → Type 0) (w : ℕ) (x : Option ℕ) → ((v : ℕ) → x ≡ Some v → P v × (v < 256 ^ w)) → some (number_cell w x) ≡ true → P (number (number_cell w x))
+spells P w (Some v) h e = let k = h v refl in rw (number_spelled w v k.1) k.0
+spells P w None h e = never e
 
 date-small : (n : ℕ) → is_date n ≡ true → n < 256 ^ 4
 date-small n e = let p = parts n e in omega arith
@@ -78,7 +76,7 @@ stamps-in-range stop f =
     (in-range 946634400 4102495199 v r.0 r.1, omega arith))
 
 -- what is kept of a word spells its code
-words-below : (rule : List ℕ → Number) (k m : ℕ) → WordsWithin rule k m → m ≤ 256 → (f : List ℕ) → some (number_cell 1 (rule f)) ≡ true → (k ≤ number (number_cell 1 (rule f))) × (number (number_cell 1 (rule f)) < m)
+words-below : (rule : List ℕ → Option ℕ) (k m : ℕ) → WordsWithin rule k m → m ≤ 256 → (f : List ℕ) → some (number_cell 1 (rule f)) ≡ true → (k ≤ number (number_cell 1 (rule f))) × (number (number_cell 1 (rule f)) < m)
 words-below rule k m h l f =
     spells (λ (n : ℕ). (k ≤ n) × (n < m)) 1 (rule f) (λ v e. let b = h f v e in (b, omega arith))
 
@@ -110,9 +108,9 @@ texts-in-range stop f e = go (Texts.text f).ok refl e
 time-below : (f : List ℕ) → some (time_cell (time f)) ≡ true → number (time_cell (time f)) < 115200
 time-below f = go (time f) refl
   where
-    go : (t : Time) → time f ≡ t → some (time_cell t) ≡ true → number (time_cell t) < 115200
-    go (Times.Is s) p h = let b = read-time-below f s p in rw (number_spelled 3 s.0 (omega arith)) b
-    go Times.Wrong p h = never h
+    go : (t : Option OperatingSeconds) → time f ≡ t → some (time_cell t) ≡ true → number (time_cell t) < 115200
+    go (Some s) p h = let b = read-time-below f s p in rw (number_spelled 3 s.0 (omega arith)) b
+    go None p h = never h
 
 missing-number : number missing_time ≡ 16777215
 unfolding number

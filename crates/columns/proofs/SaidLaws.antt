@@ -4,22 +4,16 @@ use mathlib.Core.Bool.{Bool, true, false, ◌&&◌}
 use mathlib.Core.List.{List, [], ◌∷◌}
 use Prim.Native.Nat.{ℕ}
 use native.Mathlib.Omega.{arith}
+use Rattle.std.specs.Prelude.{Option, Some, None}
 use Rattle.lists.specs.Part.{some}
-use Rattle.lists.specs.Logic.{on}
 use Rattle.lists.specs.Text.{same}
-use Rattle.lists.specs.BigEndian.{spelled}
 use Rattle.lists.proofs.TextLaws.{same-equal, same_refl}
 use Rattle.clock.specs.declared.OperatingSeconds.{OperatingSeconds}
-use Rattle.turbo.specs.Escape.{decode}
-use Rattle.field_types.specs.declared.Time.{Time}
-use Rattle.field_types.specs.declared.Time.TheVariants as Times
 use Rattle.field_types.specs.Times.{time}
 use Rattle.field_types.proofs.Claims.{no-content-outside as outside}
-use Rattle.texts.specs.Texts.{padded, is_text}
-use Rattle.texts.specs.Texts as Texts
 use Rattle.texts.proofs.KeptLaws.{ok-is, kept-bytes}
-use Rattle.columns.specs.Cell.{null, missing_time, time_cell, time_at, cell}
-use Rattle.columns.specs.Tables.{Column, cell_of}
+use Rattle.columns.specs.Cell.{null, time_cell, time_at, cell}
+use Rattle.columns.specs.Tables.{cell_of}
 use Rattle.columns.specs.Claims.{TextsKept, NumbersKept, TimesKept, LeftOutAsAbsent}
 
 pub texts_kept : TextsKept
@@ -52,18 +46,18 @@ other f h = go (same f null) refl
     go true e = absurd (h (same-equal f null e))
     go false e = refl
 
-time-said : (word stop f : List ℕ) (t : Time) → time f ≡ t → (f ≡ null → ⊥) → time_at word stop f ≡ time_cell t
+time-said : (word stop f : List ℕ) (t : Option OperatingSeconds) → time f ≡ t → (f ≡ null → ⊥) → time_at word stop f ≡ time_cell t
 time-said word stop f t e h = rw (other f h, e)
 
 -- a T is not `\0`
-time-other : (f : List ℕ) (s : OperatingSeconds) → time f ≡ Times.Is s → f ≡ null → ⊥
-time-other f s e n = let z : Times.Wrong ≡ Times.Is s = sym outside.1 ∙ rw (← n) e in absurd (let y : ◌≡◌ {A = ℕ} 0 1 = cc in omega arith)
+time-other : (f : List ℕ) (s : OperatingSeconds) → time f ≡ Some s → f ≡ null → ⊥
+time-other f s e n = let z : None ≡ Some s = sym outside.1 ∙ rw (← n) e in absurd (let y : ◌≡◌ {A = ℕ} 0 1 = cc in omega arith)
 
 pub times_kept : TimesKept
 unfolding cell
 times_kept stop f = (
-  λ s e. (time-said _ stop f (Times.Is s) e (time-other f s e), time-said _ stop f (Times.Is s) e (time-other f s e)),
-  λ e h. (time-said _ stop f Times.Wrong e h, time-said _ stop f Times.Wrong e h),
+  λ s e. (time-said _ stop f (Some s) e (time-other f s e), time-said _ stop f (Some s) e (time-other f s e)),
+  λ e h. (time-said _ stop f None e h, time-said _ stop f None e h),
 )
 
 pub left-out-as-absent : LeftOutAsAbsent

@@ -1,12 +1,9 @@
 -- What a wanted column's field gives: the bytes that are kept of it, none where it is outside its type. Assumes nothing.
-use Rattle.std.specs.Prelude.{ℕ, List, [], ◌∷◌}
+use Rattle.std.specs.Prelude.{ℕ, List, [], ◌∷◌, Option, Some, None}
 use Rattle.lists.specs.Logic.{on}
 use Rattle.lists.specs.Text.{bytes, same}
 use Rattle.lists.specs.BigEndian.{spelled}
-use Rattle.field_types.specs.declared.Number.{Number}
-use Rattle.field_types.specs.declared.Number.TheVariants as Numbers
-use Rattle.field_types.specs.declared.Time.{Time}
-use Rattle.field_types.specs.declared.Time.TheVariants as Times
+use Rattle.clock.specs.declared.OperatingSeconds.{OperatingSeconds}
 use Rattle.texts.specs.declared.Text.{Text}
 use Rattle.field_types.specs.Digits as Digits
 use Rattle.field_types.specs.Dates as Dates
@@ -39,13 +36,13 @@ abbrev pub null : List ℕ
 null = bytes "\\0"
 
 -- a number in w bytes, a time in three, a text in ten
-abbrev pub number_cell : ℕ → Number → List ℕ
-number_cell w (Numbers.Is n) = spelled w n
-number_cell w Numbers.Wrong = []
+abbrev pub number_cell : ℕ → Option ℕ → List ℕ
+number_cell w (Some n) = spelled w n
+number_cell w None = []
 
-abbrev pub time_cell : Time → List ℕ
-time_cell (Times.Is s) = spelled 3 s.0
-time_cell Times.Wrong = []
+abbrev pub time_cell : Option OperatingSeconds → List ℕ
+time_cell (Some s) = spelled 3 s.0
+time_cell None = []
 
 abbrev pub text_cell : Text → List ℕ
 text_cell t = on t.ok t.bytes []

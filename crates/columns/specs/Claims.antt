@@ -1,5 +1,5 @@
 -- What is claimed of cells and of rows: what is kept is what the field says, and in range, field by field. Assumes nothing.
-use Rattle.std.specs.Prelude.{◌≡◌, true, List, [], ◌∷◌, ◌⊎◌, ◌↔◌, ℕ, ◌+◌, ◌<◌, ◌≤◌, length, take, get_or}
+use Rattle.std.specs.Prelude.{◌≡◌, true, List, [], ◌∷◌, ◌⊎◌, ◌↔◌, ℕ, ◌+◌, ◌<◌, ◌≤◌, length, take, get_or, Option, Some, None}
 use Prim.Native.String.{String}
 use Rattle.lists.specs.Each.{Bytes}
 use Rattle.lists.specs.Text.{bytes}
@@ -10,9 +10,6 @@ use Rattle.clock.specs.declared.OperatingSeconds.{OperatingSeconds}
 use Rattle.clock.specs.Date.{is_date}
 use Rattle.turbo.specs.Escape.{decode}
 use Rattle.turbo_labels.specs.Columns.{count}
-use Rattle.field_types.specs.declared.Number.{Number}
-use Rattle.field_types.specs.declared.Number.TheVariants as Numbers
-use Rattle.field_types.specs.declared.Time.TheVariants as Times
 use Rattle.field_types.specs.Digits.{numeral}
 use Rattle.field_types.specs.Dates.{date}
 use Rattle.field_types.specs.Times.{time}
@@ -46,8 +43,8 @@ abbrev pub TextsKept : Type 0
 TextsKept = (stop f : List ℕ) → is_text (decode f) ≡ true → cell Text stop f ≡ padded (decode f)
 
 -- Of a field that the rule reads as a number, that number is kept, in w bytes; of any other field nothing is.
-abbrev pub KeptAs : Kind → ℕ → (List ℕ → Number) → Type 0
-KeptAs k w rule = (stop f : List ℕ) → ((n : ℕ) → rule f ≡ Numbers.Is n → cell k stop f ≡ spelled w n) × (rule f ≡ Numbers.Wrong → cell k stop f ≡ [])
+abbrev pub KeptAs : Kind → ℕ → (List ℕ → Option ℕ) → Type 0
+KeptAs k w rule = (stop f : List ℕ) → ((n : ℕ) → rule f ≡ Some n → cell k stop f ≡ spelled w n) × (rule f ≡ None → cell k stop f ≡ [])
 
 -- A column of each kind keeps what its type reads: D, N6, N2, N3, U, a status, a stop type, B, a flexible, in the 8.5 form a yes or no and a ShowCancelledJourney.
 abbrev pub NumbersKept : Type 0
@@ -68,8 +65,8 @@ NumbersKept =
 abbrev pub TimesKept : Type 0
 TimesKept =
     (stop f : List ℕ)
-    → ((s : OperatingSeconds) → time f ≡ Times.Is s → (cell Arrival stop f ≡ spelled 3 s.0) × (cell Departure stop f ≡ spelled 3 s.0))
-    × (time f ≡ Times.Wrong → (f ≡ null → ⊥) → (cell Arrival stop f ≡ []) × (cell Departure stop f ≡ []))
+    → ((s : OperatingSeconds) → time f ≡ Some s → (cell Arrival stop f ≡ spelled 3 s.0) × (cell Departure stop f ≡ spelled 3 s.0))
+    × (time f ≡ None → (f ≡ null → ⊥) → (cell Arrival stop f ≡ []) × (cell Departure stop f ≡ []))
 
 -- `\0` in a column that may be absent is kept as an absent one is; every other field, and every field of a column that must be there, by its kind.
 abbrev pub LeftOutAsAbsent : Type 0

@@ -1,5 +1,5 @@
 -- The wanted tables, each with its columns in document order. Assumes nothing.
-use Rattle.std.specs.Prelude.{ℕ, ◌+◌, Bool, true, false, ◌&&◌, ◌||◌, List, [], ◌∷◌, map, eqb, ltb, leb, length, get_or}
+use Rattle.std.specs.Prelude.{ℕ, ◌+◌, Bool, true, false, ◌&&◌, ◌||◌, List, [], ◌∷◌, map, eqb, ltb, leb, length}
 use Prim.Native.String.{String}
 use Rattle.lists.specs.Part.{some}
 use Rattle.lists.specs.Logic.{on}

@@ -1,7 +1,5 @@
 -- The row of a message before its cells are written, in either form. Assumes nothing.
 use mathlib.Core.Path.{◌≡◌, refl}
-use mathlib.Core.List.{List}
-use Prim.Native.Nat.{ℕ}
 use lib.ListN.{replicate, set}
 use Rattle.lists.specs.Rows.{flat}
 use Rattle.passage.specs.Layout.{show_cancelled_at, flexible_at, monitored_at, kept}

@@ -10,7 +10,6 @@ ghost use Rattle.lists.specs.Text.{same};
 ghost use Rattle.texts.specs.Texts as Texts;
 
 use columns::{Kind, Table};
-use field_types::{Number, Time};
 
 // Whether a field has no content.
 pub fn is_null(field: &[u8]) -> bool
@@ -20,17 +19,17 @@ pub fn is_null(field: &[u8]) -> bool
 }
 
 // A number in so many bytes.
-pub fn write_number(number: Number, size: usize, row: &mut [u8], at: usize) -> bool
+pub fn write_number(number: Option<u32>, size: usize, row: &mut [u8], at: usize) -> bool
     requires { (0 < size) × (at + size ≤ length row.old) }
     ensures some { result ≡ some (number_cell size number) }
     ensures written { row.new ≡ over at (number_cell size number) row.old }
 {
     match number {
-        Number::Is(v) => {
+        Some(v) => {
             lists::put_number(row, at, size, v);
             true
         }
-        Number::Wrong => false,
+        None => false,
     }
 }
 
@@ -85,11 +84,11 @@ pub fn write_time(
         return false;
     }
     match field_types::read_time(field) {
-        Time::Is(s) => {
+        Some(s) => {
             lists::put_number(row, at, 3, s.0);
             true
         }
-        Time::Wrong => false,
+        None => false,
     }
 }
 

@@ -9,31 +9,30 @@ use native.Mathlib.Omega.{arith}
 use lib.Dec.{lit<}
 use lib.ListN.{length, get_or, drop, length-append}
 use lib.Seq.{drop-cons}
+use Rattle.std.specs.Prelude.{Option, Some, None}
 use Rattle.lists.specs.Logic.{within}
 use Rattle.lists.proofs.LogicLaws.{and-false, and-pass, within-true, in-range, below-range, above-range}
-use Rattle.field_types.specs.declared.Number.{Number}
-use Rattle.field_types.specs.declared.Number.TheVariants.{Is, Wrong}
 use Rattle.field_types.specs.Digits.{only_if, and_then, all_digits, value_from, value, numeral}
 use Rattle.field_types.specs.Written.{written}
 
 -- what an accepted number tells of the tests on the way
-pub never : {A : Type 0} {n : ℕ} → Is n ≡ Wrong → A
+pub never : {A : Type 0} {n : ℕ} → Some n ≡ None → A
 never {n = n} e = absurd (let z : ◌≡◌ {A = ℕ} 0 1 = cc in omega arith)
 
-pub same-is : {m n : ℕ} → Is m ≡ Is n → m ≡ n
+pub same-is : {m n : ℕ} → Some m ≡ Some n → m ≡ n
 same-is e = cc
 
-pub given_is : (b : Bool) (x : Number) {n : ℕ} → Is n ≡ only_if b x → (b ≡ true) × (Is n ≡ x)
+pub given_is : (b : Bool) (x : Option ℕ) {n : ℕ} → Some n ≡ only_if b x → (b ≡ true) × (Some n ≡ x)
 given_is true x e = (refl, e)
 given_is false x e = never e
 
-pub given-wrong : (b : Bool) → Wrong ≡ only_if b Wrong
+pub given-wrong : (b : Bool) → None ≡ only_if b None
 given-wrong true = refl
 given-wrong false = refl
 
-pub then_is : (x : Number) (k : ℕ → Number) {n : ℕ} → Is n ≡ and_then x k → (m : ℕ) × (Is m ≡ x) × (Is n ≡ k m)
-then_is (Is m) k e = (m, refl, e)
-then_is Wrong k e = never e
+pub then_is : (x : Option ℕ) (k : ℕ → Option ℕ) {n : ℕ} → Some n ≡ and_then x k → (m : ℕ) × (Some m ≡ x) × (Some n ≡ k m)
+then_is (Some m) k e = (m, refl, e)
+then_is None k e = never e
 
 -- one more byte
 module _ (f : List ℕ) (i : ℕ) (h : i < length f) where
@@ -56,19 +55,19 @@ nine-digits n i h k = omega (arith, pow-le-pow_right {n = 10} (lit< tt) k)
 
 -- which case of `numeral` holds
 module _ (most : ℕ) (f : List ℕ) where
-  pub number-none : length f ≡ 0 → Wrong ≡ numeral most f
+  pub number-none : length f ≡ 0 → None ≡ numeral most f
   unfolding numeral
   number-none e = rw (below-range 1 most (length f) (omega arith))
 
-  pub number-long : most < length f → Wrong ≡ numeral most f
+  pub number-long : most < length f → None ≡ numeral most f
   unfolding numeral
   number-long h = rw (above-range 1 most (length f) h)
 
-  pub number-other : all_digits f ≡ false → Wrong ≡ numeral most f
+  pub number-other : all_digits f ≡ false → None ≡ numeral most f
   unfolding numeral
   number-other e = rw (e, and-false (within 1 most (length f)))
 
-  pub number_is : (n : ℕ) → (length f ≡ 0 → ⊥) → length f ≤ most → all_digits f ≡ true → value f ≡ n → Is n ≡ numeral most f
+  pub number_is : (n : ℕ) → (length f ≡ 0 → ⊥) → length f ≤ most → all_digits f ≡ true → value f ≡ n → Some n ≡ numeral most f
   unfolding numeral
   number_is n h k d v = rw (in-range 1 most (length f) (omega arith) k, d, v)
 
@@ -90,7 +89,7 @@ pub record Told (most : ℕ) (f : List ℕ) (n : ℕ) : Type 0 where
   pub small : n < 10 ^ length f
   pub below : n < 10 ^ most
 
-pub number-told : (most : ℕ) (f : List ℕ) {n : ℕ} → Is n ≡ numeral most f → Told most f n
+pub number-told : (most : ℕ) (f : List ℕ) {n : ℕ} → Some n ≡ numeral most f → Told most f n
 unfolding numeral
 number-told most f {n} e =
     let g = given_is (within 1 most (length f) && all_digits f) _ e in
@@ -134,7 +133,7 @@ written-value (suc k) n h =
     let p : n < 10 ^ k * 10 = rw pow-suc at h in
     value-snoc (written k (n / 10)) 0 (48 + n % 10) ∙ omega (arith, written-value k (n / 10) (omega arith))
 
-pub written_read : (most k n : ℕ) → 1 ≤ k → k ≤ most → n < 10 ^ k → numeral most (written k n) ≡ Is n
+pub written_read : (most k n : ℕ) → 1 ≤ k → k ≤ most → n < 10 ^ k → numeral most (written k n) ≡ Some n
 written_read most k n h l b =
     let e = written-length k n in
     sym (number_is most (written k n) n (λ z. omega arith) (omega arith) (written-digits k n) (written-value k n b))

@@ -11,14 +11,10 @@ use borrow.Author.Tests.{eqb-true, leb-true}
 use lib.Dec.{eqb, leb}
 use lib.ListN.{length, get_or, take, drop, length-drop}
 use lib.Seq.{length-take-le, take_all, take-add, drop-cons, append_snoc}
+use Rattle.std.specs.Prelude.{Option, Some, None}
 use Rattle.lists.specs.Logic.{on, within}
 use Rattle.lists.proofs.LogicLaws.{and-pass, or-pass, within-true}
 use Rattle.clock.specs.Date.{year, month, day, is_date, date_from}
-use Rattle.clock.proofs.DateLaws.{parts}
-use Rattle.field_types.specs.declared.Number.{Number}
-use Rattle.field_types.specs.declared.Number.TheVariants.{Is, Wrong}
-use Rattle.field_types.specs.declared.Triple.{Triple}
-use Rattle.field_types.specs.declared.Triple.TheVariants.{Three, Other}
 use Rattle.field_types.specs.Digits.{all_digits, value_from, value, numeral, triple}
 use Rattle.field_types.specs.Times.{clock_of, clock}
 use Rattle.field_types.specs.Dates.{real_of, date}
@@ -46,7 +42,7 @@ digits-behind (x ∷ f) n j e =
     ∙ ap (λ (i : ℕ). written i (value_from m f)) k
 
 -- a number of k bytes is written with k digits
-pub number-exact : (most k : ℕ) (f : List ℕ) {n : ℕ} → length f ≡ k → Is n ≡ numeral most f → f ≡ written k n
+pub number-exact : (most k : ℕ) (f : List ℕ) {n : ℕ} → length f ≡ k → Some n ≡ numeral most f → f ≡ written k n
 number-exact most k f {n} l e =
     let t = number-told most f e in
     let z : length f + 0 ≡ k = omega arith in
@@ -60,7 +56,7 @@ module _ (f : List ℕ) (at n : ℕ) (h : at + suc n ≤ length f) where
   marked = take-add at (suc n) f ∙ rw (drop-cons f at 0 (omega arith), add-one at)
 
 module _ (w mark : ℕ) (f : List ℕ) where
-  triple-exact : {x y z : ℕ} → Three x y z ≡ triple w mark f → f ≡ written w x ++ mark ∷ written 2 y ++ mark ∷ written 2 z
+  triple-exact : {x y z : ℕ} → Some (x, y, z) ≡ triple w mark f → f ≡ written w x ++ mark ∷ written 2 y ++ mark ∷ written 2 z
   triple-exact {x} {y} {z} e =
       let t = triple-told w mark f e in
       let l = t.long in
@@ -76,8 +72,8 @@ module _ (w mark : ℕ) (f : List ℕ) where
 
 -- ---- times
 
-clock-of-exact : (most : ℕ) (f : List ℕ) (t : Triple) {n : ℕ} → t ≡ triple 2 58 f → Is n ≡ clock_of most t → f ≡ written_time n
-clock-of-exact most f (Three h m s) {n} p e =
+clock-of-exact : (most : ℕ) (f : List ℕ) (t : Option (ℕ × ℕ × ℕ)) {n : ℕ} → t ≡ triple 2 58 f → Some n ≡ clock_of most t → f ≡ written_time n
+clock-of-exact most f (Some (h, m, s)) {n} p e =
     let g = given_is (leb h most && leb m 59 && leb s 59) _ e in
     let a = and-pass (leb h most && leb m 59) (leb s 59) g.0 in
     let b = and-pass (leb h most) (leb m 59) a.0 in
@@ -88,16 +84,16 @@ clock-of-exact most f (Three h m s) {n} p e =
     let em : m ≡ n / 60 % 60 = omega arith in
     let es : s ≡ n % 60 = omega arith in
     triple-exact 2 58 f p ∙ rw (← eh, ← em, ← es)
-clock-of-exact most f Other p e = never e
+clock-of-exact most f None p e = never e
 
-pub clock-exact : (most : ℕ) (f : List ℕ) {n : ℕ} → Is n ≡ clock most f → f ≡ written_time n
+pub clock-exact : (most : ℕ) (f : List ℕ) {n : ℕ} → Some n ≡ clock most f → f ≡ written_time n
 unfolding clock
 clock-exact most f e = clock-of-exact most f (triple 2 58 f) refl e
 
 -- ---- dates
 
-date-of-exact : (f : List ℕ) (t : Triple) {n : ℕ} → t ≡ triple 4 45 f → Is n ≡ real_of t → f ≡ written_date n
-date-of-exact f (Three y m d) {n} p e =
+date-of-exact : (f : List ℕ) (t : Option (ℕ × ℕ × ℕ)) {n : ℕ} → t ≡ triple 4 45 f → Some n ≡ real_of t → f ≡ written_date n
+date-of-exact f (Some (y, m, d)) {n} p e =
     let g = given_is (is_date (date_from y m d)) _ e in
     let q : n ≡ y * 10000 + m * 100 + d = same-is g.1 in
     let r = triple-below 4 45 f p in
@@ -105,9 +101,9 @@ date-of-exact f (Three y m d) {n} p e =
     let em : m ≡ month n = omega arith in
     let ed : d ≡ day n = omega arith in
     triple-exact 4 45 f p ∙ rw (← ey, ← em, ← ed)
-date-of-exact f Other p e = never e
+date-of-exact f None p e = never e
 
-pub date-exact : (f : List ℕ) {n : ℕ} → Is n ≡ date f → f ≡ written_date n
+pub date-exact : (f : List ℕ) {n : ℕ} → Some n ≡ date f → f ≡ written_date n
 unfolding date
 date-exact f e = date-of-exact f (triple 4 45 f) refl e
 
@@ -128,7 +124,7 @@ offset-joined f h m l c p q k =
     let em : (h * 60 + m) % 60 ≡ m = omega arith in
     sym (take_all 5 f (omega arith)) ∙ marked f 2 2 (omega arith) ∙ rw (p, q, c, eh, em)
 
-offset-exact : (f : List ℕ) {o : ℕ} → Is o ≡ utc_offset f → Minutes f o
+offset-exact : (f : List ℕ) {o : ℕ} → Some o ≡ utc_offset f → Minutes f o
 unfolding utc_offset
 offset-exact f {o} e =
     let a = given_is (offset_shape f) _ e in
@@ -178,7 +174,7 @@ stamp-joined f x d s m l t k ed es em =
     ∙ marked f 19 5 (omega arith)
     ∙ rw (marked f 10 8 (omega arith), t, k, ed, es, em)
 
-pub stamp-exact : (f : List ℕ) {n : ℕ} → Is n ≡ stamp f → Stamped f n
+pub stamp-exact : (f : List ℕ) {n : ℕ} → Some n ≡ stamp f → Stamped f n
 unfolding stamp
 stamp-exact f {n} e =
     let g = given_is (stamp_shape f) _ e in

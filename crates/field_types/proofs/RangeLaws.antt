@@ -5,11 +5,11 @@ use mathlib.Core.List.{List}
 use Prim.Native.Nat.{ℕ, ◌+◌, ◌-◌, ◌*◌, ◌/◌, ◌%◌, ◌<◌, ◌≤◌}
 use native.Mathlib.Decide.{dec_le}
 use native.Mathlib.Omega.{arith}
+use Rattle.std.specs.Prelude.{Some}
 use Rattle.clock.specs.Date.{is_date}
 use Rattle.clock.specs.Moment.{day_count}
 use Rattle.clock.proofs.MonthLaws.{day-below}
 use Rattle.clock.proofs.DayLaws.{reached}
-use Rattle.field_types.specs.declared.Number.TheVariants.{Is}
 use Rattle.field_types.specs.Stamps.{stamp_seconds, stamp}
 use Rattle.field_types.specs.Written.{written_stamp}
 use Rattle.field_types.proofs.WrittenLaws.{stamp-written}
@@ -20,7 +20,7 @@ abbrev InRange : ℕ → Type 0
 InRange n = (946634400 ≤ n) × (n ≤ 4102495199)
 
 abbrev Given : ℕ → Type 0
-Given n = (f : List ℕ) × (stamp f ≡ Is n)
+Given n = (f : List ℕ) × (stamp f ≡ Some n)
 
 seconds-range : (west : Bool) (d s o : ℕ) → is_date d ≡ true → s < 86400 → o ≤ 50400 → InRange (stamp_seconds west d s o)
 unfolding stamp_seconds
@@ -48,7 +48,7 @@ local t h k =
 -- a stamp whose seconds are n
 given_by : (west : Bool) (t m n : ℕ) (l : Local t) → m ≤ 840 → stamp_seconds west l.date (t % 86400) (m * 60) ≡ n → Given n
 given_by west t m n l h e =
-    (written_stamp west l.date (t % 86400) m, stamp-written west l.date (t % 86400) m l.real (omega arith) h ∙ ap Is e)
+    (written_stamp west l.date (t % 86400) m, stamp-written west l.date (t % 86400) m l.real (omega arith) h ∙ ap Some e)
 
 -- at UTC, and where the year would leave the range 14 hours east or west of it
 at-utc : (n : ℕ) → Local n → Given n

@@ -1,12 +1,9 @@
 -- What is claimed of the types of fields. Assumes nothing.
-use Rattle.std.specs.Prelude.{ℕ, ◌+◌, ◌*◌, ◌^◌, ◌<◌, ◌≤◌, ◌≡◌, Bool, true, List, [], ◌∷◌, ◌↔◌, length, get_or}
+use Rattle.std.specs.Prelude.{ℕ, ◌+◌, ◌*◌, ◌^◌, ◌<◌, ◌≤◌, ◌≡◌, Bool, true, List, [], ◌∷◌, ◌↔◌, length, get_or, Option, Some, None}
 use Prim.Native.String.{String}
 use Rattle.lists.specs.Text.{bytes}
 use Rattle.clock.specs.declared.OperatingSeconds.{OperatingSeconds}
 use Rattle.clock.specs.Date.{is_date}
-use Rattle.field_types.specs.declared.Number.{Number}
-use Rattle.field_types.specs.declared.Number.TheVariants.{Is, Wrong}
-use Rattle.field_types.specs.declared.Time.TheVariants as Times
 use Rattle.field_types.specs.Digits.{numeral}
 use Rattle.field_types.specs.Times.{time}
 use Rattle.field_types.specs.Dates.{date}
@@ -20,16 +17,16 @@ use Rattle.field_types.specs.Written.{written, written_time, written_date, writt
 abbrev pub NumbersRead : Type 0
 NumbersRead =
     (most : ℕ) (f : List ℕ) (n : ℕ)
-    → (numeral most f ≡ Is n) ↔ ((k : ℕ) × (1 ≤ k) × (k ≤ most) × (n < 10 ^ k) × (f ≡ written k n))
+    → (numeral most f ≡ Some n) ↔ ((k : ℕ) × (1 ≤ k) × (k ≤ most) × (n < 10 ^ k) × (f ≡ written k n))
 
 -- A field is read as a time exactly where it is that time, from 0 to 115,199, written HH:MM:SS.
 abbrev pub TimesRead : Type 0
 TimesRead =
-    (f : List ℕ) (s : OperatingSeconds) → (time f ≡ Times.Is s) ↔ ((s.0 < 115200) × (f ≡ written_time s.0))
+    (f : List ℕ) (s : OperatingSeconds) → (time f ≡ Some s) ↔ ((s.0 < 115200) × (f ≡ written_time s.0))
 
 -- A field is read as a date exactly where it is that date, written YYYY-MM-DD.
 abbrev pub DatesRead : Type 0
-DatesRead = (f : List ℕ) (d : ℕ) → (date f ≡ Is d) ↔ ((is_date d ≡ true) × (f ≡ written_date d))
+DatesRead = (f : List ℕ) (d : ℕ) → (date f ≡ Some d) ↔ ((is_date d ≡ true) × (f ≡ written_date d))
 
 -- A field is a second of a date, written up to 14:00 west or east of UTC, and n its seconds since 1970.
 abbrev pub WrittenAs : List ℕ → ℕ → Type 0
@@ -43,11 +40,11 @@ WrittenAs f n =
 
 -- A field is read as a stamp exactly where it is written so.
 abbrev pub StampsRead : Type 0
-StampsRead = (f : List ℕ) (n : ℕ) → (stamp f ≡ Is n) ↔ WrittenAs f n
+StampsRead = (f : List ℕ) (n : ℕ) → (stamp f ≡ Some n) ↔ WrittenAs f n
 
 -- The stamps that a U field can give are exactly those from 946,634,400 to 4,102,495,199.
 abbrev pub StampsGiven : Type 0
-StampsGiven = (n : ℕ) → ((946634400 ≤ n) × (n ≤ 4102495199)) ↔ ((f : List ℕ) × (stamp f ≡ Is n))
+StampsGiven = (n : ℕ) → ((946634400 ≤ n) × (n ≤ 4102495199)) ↔ ((f : List ℕ) × (stamp f ≡ Some n))
 
 -- The test of a stamp's range passes exactly there.
 abbrev pub StampsTested : Type 0
@@ -56,12 +53,12 @@ StampsTested = (n : ℕ) → (in_stamp_range n ≡ true) ↔ ((946634400 ≤ n) 
 -- ---- words
 
 -- A field is read as k and n more exactly where it is the word at place n of ws.
-abbrev pub WordsExactly : (List ℕ → Number) → ℕ → List String → Type 0
-WordsExactly rule k ws = (f : List ℕ) (n : ℕ) → (rule f ≡ Is (k + n)) ↔ ((n < length ws) × (f ≡ bytes (get_or ws n "")))
+abbrev pub WordsExactly : (List ℕ → Option ℕ) → ℕ → List String → Type 0
+WordsExactly rule k ws = (f : List ℕ) (n : ℕ) → (rule f ≡ Some (k + n)) ↔ ((n < length ws) × (f ≡ bytes (get_or ws n "")))
 
 -- What the rule reads is from k on and below m.
-abbrev pub WordsWithin : (List ℕ → Number) → ℕ → ℕ → Type 0
-WordsWithin rule k m = (f : List ℕ) (n : ℕ) → rule f ≡ Is n → (k ≤ n) × (n < m)
+abbrev pub WordsWithin : (List ℕ → Option ℕ) → ℕ → ℕ → Type 0
+WordsWithin rule k m = (f : List ℕ) (n : ℕ) → rule f ≡ Some n → (k ≤ n) × (n < m)
 
 -- B gives 0 or 1, a status 0 to 5, a stop type 0 to 2, a ShowFlexibleTrip 1 to 3, a yes or no of the 8.5 form 0 or 1, a ShowCancelledJourney 0 to 2,
 -- each for its own word and for no other bytes.
@@ -85,16 +82,16 @@ Words =
 -- No type reads the field.
 abbrev pub Outside : List ℕ → Type 0
 Outside f =
-    ((most : ℕ) → numeral most f ≡ Wrong)
-    × (time f ≡ Times.Wrong)
-    × (date f ≡ Wrong)
-    × (stamp f ≡ Wrong)
-    × (bit f ≡ Wrong)
-    × (status f ≡ Wrong)
-    × (stop_type f ≡ Wrong)
-    × (flexible f ≡ Wrong)
-    × (truth f ≡ Wrong)
-    × (shown f ≡ Wrong)
+    ((most : ℕ) → numeral most f ≡ None)
+    × (time f ≡ None)
+    × (date f ≡ None)
+    × (stamp f ≡ None)
+    × (bit f ≡ None)
+    × (status f ≡ None)
+    × (stop_type f ≡ None)
+    × (flexible f ≡ None)
+    × (truth f ≡ None)
+    × (shown f ≡ None)
 
 -- A field with no bytes is outside every type.
 abbrev pub EmptyOutside : Type 0

@@ -1,15 +1,13 @@
 -- Types whose values are words. Assumes nothing.
-use Rattle.std.specs.Prelude.{ℕ, suc, List, [], ◌∷◌}
+use Rattle.std.specs.Prelude.{ℕ, suc, List, [], ◌∷◌, Option, Some, None}
 use Prim.Native.String.{String}
 use Rattle.lists.specs.Logic.{on}
 use Rattle.lists.specs.Text.{bytes, same}
-use Rattle.field_types.specs.declared.Number.{Number}
-use Rattle.field_types.specs.declared.Number.TheVariants.{Is, Wrong}
 
 -- the place of f among the words, counted from n
-abbrev pub name_from : ℕ → List String → List ℕ → Number
-name_from n [] f = Wrong
-name_from n (w ∷ ws) f = on (same f (bytes w)) (Is n) (name_from (suc n) ws f)
+abbrev pub name_from : ℕ → List String → List ℕ → Option ℕ
+name_from n [] f = None
+name_from n (w ∷ ws) f = on (same f (bytes w)) (Some n) (name_from (suc n) ws f)
 
 -- the words of B, from 0
 abbrev pub bits : List String
@@ -36,25 +34,25 @@ abbrev pub showns : List String
 showns = "false" ∷ "true" ∷ "message" ∷ []
 
 -- B: 0 or 1
-unfoldable pub bit : List ℕ → Number
+unfoldable pub bit : List ℕ → Option ℕ
 bit f = name_from 0 bits f
 
 -- a status, coded 0 to 5
-unfoldable pub status : List ℕ → Number
+unfoldable pub status : List ℕ → Option ℕ
 status f = name_from 0 statuses f
 
 -- a JourneyStopType, coded 0 to 2
-unfoldable pub stop_type : List ℕ → Number
+unfoldable pub stop_type : List ℕ → Option ℕ
 stop_type f = name_from 0 stop_types f
 
 -- a ShowFlexibleTrip, coded 1 to 3
-unfoldable pub flexible : List ℕ → Number
+unfoldable pub flexible : List ℕ → Option ℕ
 flexible f = name_from 1 flexibles f
 
 -- a yes or no in the 8.5 form, coded as B is
-unfoldable pub truth : List ℕ → Number
+unfoldable pub truth : List ℕ → Option ℕ
 truth f = name_from 0 truths f
 
 -- a ShowCancelledJourney, coded 0 to 2
-unfoldable pub shown : List ℕ → Number
+unfoldable pub shown : List ℕ → Option ℕ
 shown f = name_from 0 showns f

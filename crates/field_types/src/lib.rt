@@ -4,7 +4,7 @@
 
 ghost use Rattle.std.specs.Prelude.{◌≡◌, true, ◌≤◌, ◌<◌};
 ghost use Rattle.clock.specs.Date.{is_date};
-ghost use Rattle.field_types.specs.Digits.{numeral, triple_of, triple};
+ghost use Rattle.field_types.specs.Digits.{numeral, triple};
 ghost use Rattle.field_types.specs.Times.{clock, time};
 ghost use Rattle.field_types.specs.Dates.{date};
 ghost use Rattle.field_types.specs.Stamps.{utc_offset, stamp_seconds, stamp_shape, stamp, in_stamp_range};
@@ -14,164 +14,107 @@ use clock::OperatingSeconds;
 
 // ---- numbers
 
-// What a field of a number type holds.
-#[derive(Clone, Copy)]
-pub enum Number {
-    Is(u32),
-    Wrong,
-}
-
 // N#: 1 to `most` digits.
-pub fn read_number(field: &[u8], most: usize) -> Number
+pub fn read_number(field: &[u8], most: usize) -> Option<u32>
     requires { most ≤ 9 }
     ensures { result ≡ numeral most field.now }
 {
     if field.len() == 0 {
-        return Number::Wrong;
+        return None;
     }
     if most < field.len() {
-        return Number::Wrong;
+        return None;
     }
     let mut n: u32 = 0;
-    let mut i = 0;
-    while i < field.len() {
-        let b = field[i];
-        if b < b'0' {
-            return Number::Wrong;
+    for b in field {
+        if !b.is_ascii_digit() {
+            return None;
         }
-        if b'9' < b {
-            return Number::Wrong;
-        }
-        n = n * 10 + (b - b'0') as u32;
-        i += 1;
+        n = n * 10 + (*b - b'0') as u32;
     }
-    Number::Is(n)
+    Some(n)
 }
 
 // ---- three numbers with marks between
 
-// Three numbers of a time or a date.
-#[derive(Clone, Copy)]
-enum Triple {
-    Three(u32, u32, u32),
-    Other,
-}
-
-fn triple_of(a: Number, b: Number, c: Number) -> Triple
-    ensures { result ≡ triple_of a b c }
-{
-    match a {
-        Number::Wrong => Triple::Other,
-        Number::Is(x) => match b {
-            Number::Wrong => Triple::Other,
-            Number::Is(y) => match c {
-                Number::Wrong => Triple::Other,
-                Number::Is(z) => Triple::Three(x, y, z),
-            },
-        },
-    }
-}
-
-// `width` digits, a mark, two digits, a mark, two digits.
-fn read_triple(field: &[u8], width: usize, mark: u8) -> Triple
+// `width` digits, a mark, two digits, a mark, two digits: the three numbers of a date or a time.
+fn read_triple(field: &[u8], width: usize, mark: u8) -> Option<(u32, u32, u32)>
     requires { width ≤ 9 }
     ensures { result ≡ triple width mark field.now }
 {
     if field.len() != width + 6 {
-        return Triple::Other;
+        return None;
     }
     if field[width] != mark {
-        return Triple::Other;
+        return None;
     }
     if field[width + 3] != mark {
-        return Triple::Other;
+        return None;
     }
-    let a = read_number(&field[0..width], width);
-    let b = read_number(&field[width + 1..width + 3], 2);
-    let c = read_number(&field[width + 4..width + 6], 2);
-    triple_of(a, b, c)
+    let a = read_number(&field[..width], width)?;
+    let b = read_number(&field[width + 1..width + 3], 2)?;
+    let c = read_number(&field[width + 4..width + 6], 2)?;
+    Some((a, b, c))
 }
 
 // ---- times
 
-// What a field of type T holds.
-#[derive(Clone, Copy)]
-pub enum Time {
-    Is(OperatingSeconds),
-    Wrong,
-}
-
 // HH:MM:SS with hours to `most`, as seconds.
-pub fn read_clock(field: &[u8], most: u32) -> Number
+pub fn read_clock(field: &[u8], most: u32) -> Option<u32>
     ensures { result ≡ clock most field.now }
 {
-    let Triple::Three(h, m, s) = read_triple(field, 2, b':') else {
-        return Number::Wrong;
-    };
+    let (h, m, s) = read_triple(field, 2, b':')?;
     if most < h {
-        return Number::Wrong;
+        return None;
     }
     if 59 < m {
-        return Number::Wrong;
+        return None;
     }
     if 59 < s {
-        return Number::Wrong;
+        return None;
     }
-    Number::Is(h * 3600 + m * 60 + s)
+    Some(h * 3600 + m * 60 + s)
 }
 
 // T: 00:00:00 to 31:59:59, as seconds of the operating day.
-pub fn read_time(field: &[u8]) -> Time
+pub fn read_time(field: &[u8]) -> Option<OperatingSeconds>
     ensures { result ≡ time field.now }
 {
-    match read_clock(field, 31) {
-        Number::Is(s) => Time::Is(OperatingSeconds(s)),
-        Number::Wrong => Time::Wrong,
-    }
+    read_clock(field, 31).map(OperatingSeconds)
 }
 
 // ---- dates
 
 // D: YYYY-MM-DD, a real date, as the number YYYYMMDD.
-pub fn read_date(field: &[u8]) -> Number
+pub fn read_date(field: &[u8]) -> Option<u32>
     ensures { result ≡ date field.now }
 {
-    let Triple::Three(y, m, d) = read_triple(field, 4, b'-') else {
-        return Number::Wrong;
-    };
+    let (y, m, d) = read_triple(field, 4, b'-')?;
     let n = y * 10000 + m * 100 + d;
-    if clock::is_date(n) {
-        Number::Is(n)
-    } else {
-        Number::Wrong
-    }
+    clock::is_date(n).then_some(n)
 }
 
 // ---- stamps: a date, a time and an offset
 
 // HH:MM up to 14:00, as seconds.
-fn read_offset(field: &[u8]) -> Number
+fn read_offset(field: &[u8]) -> Option<u32>
     ensures { result ≡ utc_offset field.now }
 {
     if field.len() != 5 {
-        return Number::Wrong;
+        return None;
     }
     if field[2] != b':' {
-        return Number::Wrong;
+        return None;
     }
-    let Number::Is(h) = read_number(&field[0..2], 2) else {
-        return Number::Wrong;
-    };
-    let Number::Is(m) = read_number(&field[3..5], 2) else {
-        return Number::Wrong;
-    };
+    let h = read_number(&field[..2], 2)?;
+    let m = read_number(&field[3..5], 2)?;
     if 59 < m {
-        return Number::Wrong;
+        return None;
     }
     if 840 < h * 60 + m {
-        return Number::Wrong;
+        return None;
     }
-    Number::Is((h * 60 + m) * 60)
+    Some((h * 60 + m) * 60)
 }
 
 // Seconds since 1970 of a second of a date, written `offset` seconds west or east of UTC.
@@ -203,22 +146,16 @@ fn stamp_shape(field: &[u8]) -> bool
 }
 
 // U: YYYY-MM-DDTHH:MM:SS+HH:MM, as seconds since 1970-01-01 UTC.
-pub fn read_stamp(field: &[u8]) -> Number
+pub fn read_stamp(field: &[u8]) -> Option<u32>
     ensures { result ≡ stamp field.now }
 {
     if !stamp_shape(field) {
-        return Number::Wrong;
+        return None;
     }
-    let Number::Is(d) = read_date(&field[0..10]) else {
-        return Number::Wrong;
-    };
-    let Number::Is(s) = read_clock(&field[11..19], 23) else {
-        return Number::Wrong;
-    };
-    let Number::Is(o) = read_offset(&field[20..25]) else {
-        return Number::Wrong;
-    };
-    Number::Is(stamp_seconds(field[19] == b'-', d, s, o))
+    let d = read_date(&field[..10])?;
+    let s = read_clock(&field[11..19], 23)?;
+    let o = read_offset(&field[20..25])?;
+    Some(stamp_seconds(field[19] == b'-', d, s, o))
 }
 
 // Whether a U field can give so many seconds.
@@ -234,103 +171,103 @@ pub fn in_stamp_range(seconds: u32) -> bool
 // ---- words
 
 // B: 0 or 1.
-pub fn read_bit(field: &[u8]) -> Number
+pub fn read_bit(field: &[u8]) -> Option<u32>
     ensures { result ≡ bit field.now }
 {
     if lists::same_bytes(field, b"0") {
-        return Number::Is(0);
+        return Some(0);
     }
     if lists::same_bytes(field, b"1") {
-        return Number::Is(1);
+        return Some(1);
     }
-    Number::Wrong
+    None
 }
 
 // A status, coded 0 to 5.
-pub fn read_status(field: &[u8]) -> Number
+pub fn read_status(field: &[u8]) -> Option<u32>
     ensures { result ≡ status field.now }
 {
     if lists::same_bytes(field, b"PLANNED") {
-        return Number::Is(0);
+        return Some(0);
     }
     if lists::same_bytes(field, b"CANCEL") {
-        return Number::Is(1);
+        return Some(1);
     }
     if lists::same_bytes(field, b"UNKNOWN") {
-        return Number::Is(2);
+        return Some(2);
     }
     if lists::same_bytes(field, b"DRIVING") {
-        return Number::Is(3);
+        return Some(3);
     }
     if lists::same_bytes(field, b"ARRIVED") {
-        return Number::Is(4);
+        return Some(4);
     }
     if lists::same_bytes(field, b"PASSED") {
-        return Number::Is(5);
+        return Some(5);
     }
-    Number::Wrong
+    None
 }
 
 // A JourneyStopType, coded 0 to 2.
-pub fn read_stop_type(field: &[u8]) -> Number
+pub fn read_stop_type(field: &[u8]) -> Option<u32>
     ensures { result ≡ stop_type field.now }
 {
     if lists::same_bytes(field, b"FIRST") {
-        return Number::Is(0);
+        return Some(0);
     }
     if lists::same_bytes(field, b"INTERMEDIATE") {
-        return Number::Is(1);
+        return Some(1);
     }
     if lists::same_bytes(field, b"LAST") {
-        return Number::Is(2);
+        return Some(2);
     }
-    Number::Wrong
+    None
 }
 
 // A ShowFlexibleTrip, coded 1 to 3.
-pub fn read_flexible(field: &[u8]) -> Number
+pub fn read_flexible(field: &[u8]) -> Option<u32>
     ensures { result ≡ flexible field.now }
 {
     if lists::same_bytes(field, b"TRUE") {
-        return Number::Is(1);
+        return Some(1);
     }
     if lists::same_bytes(field, b"FALSE") {
-        return Number::Is(2);
+        return Some(2);
     }
     if lists::same_bytes(field, b"REALTIME") {
-        return Number::Is(3);
+        return Some(3);
     }
-    Number::Wrong
+    None
 }
 
 // Monitored in the 8.5 form, coded as B is.
-pub fn read_truth(field: &[u8]) -> Number
+pub fn read_truth(field: &[u8]) -> Option<u32>
     ensures { result ≡ truth field.now }
 {
     if lists::same_bytes(field, b"false") {
-        return Number::Is(0);
+        return Some(0);
     }
     if lists::same_bytes(field, b"true") {
-        return Number::Is(1);
+        return Some(1);
     }
-    Number::Wrong
+    None
 }
 
 // A journey that is cancelled with a message.
 const MESSAGE: u32 = 2;
 
 // A ShowCancelledJourney, coded 0 to 2.
-pub fn read_shown(field: &[u8]) -> Number
+pub fn read_shown(field: &[u8]) -> Option<u32>
     ensures { result ≡ shown field.now }
 {
     if lists::same_bytes(field, b"false") {
-        return Number::Is(0);
+        return Some(0);
     }
     if lists::same_bytes(field, b"true") {
-        return Number::Is(1);
+        return Some(1);
     }
     if lists::same_bytes(field, b"message") {
-        return Number::Is(MESSAGE);
+        return Some(MESSAGE);
     }
-    Number::Wrong
+    None
 }

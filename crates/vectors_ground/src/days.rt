@@ -1,6 +1,5 @@
 // Dates and moments.
 use crate::parts;
-use field_types::{Number, Time};
 use std::io::{Print, Stdout};
 
 fn date(out: Stdout, n: u32) {
@@ -23,11 +22,11 @@ pub fn large(out: Stdout, vector: &[u8]) {
 
 // DATE^TIME: the moment on the clock.
 pub fn moment(out: Stdout, vector: &[u8]) {
-    let Number::Is(date) = field_types::read_date(parts::head(vector)) else {
+    let Some(date) = field_types::read_date(parts::head(vector)) else {
         let _ = out.print(" no date");
         return;
     };
-    let Time::Is(second) = field_types::read_time(parts::tail(vector)) else {
+    let Some(second) = field_types::read_time(parts::tail(vector)) else {
         let _ = out.print(" no time");
         return;
     };

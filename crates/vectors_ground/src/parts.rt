@@ -1,8 +1,6 @@
 // A vector of several parts has a circumflex between them.
 ghost use Rattle.std.specs.Prelude.{◌<◌};
 
-use field_types::Number;
-
 pub fn head(vector: &[u8]) -> &[u8] {
     script_text::before(vector, b'^')
 }
@@ -16,8 +14,8 @@ pub fn count(vector: &[u8]) -> usize
     ensures { result < 4294967296 }
 {
     match field_types::read_number(vector, 9) {
-        Number::Is(n) => n as usize,
-        Number::Wrong => 0,
+        Some(n) => n as usize,
+        None => 0,
     }
 }
 

@@ -1,5 +1,4 @@
 // How answers are printed. A write that fails is passed over.
-use field_types::Number;
 use std::fmt;
 use std::io::{Print, Stdout};
 
@@ -44,9 +43,9 @@ pub fn size(out: Stdout, number: usize) {
     let _ = print!(out; " {number}");
 }
 
-pub fn read(out: Stdout, res: Number) {
+pub fn read(out: Stdout, res: Option<u32>) {
     let _ = match res {
-        Number::Is(n) => print!(out; " Is {n}"),
-        Number::Wrong => print!(out; " Wrong"),
+        Some(n) => print!(out; " Is {n}"),
+        None => print!(out; " Wrong"),
     };
 }

@@ -1,21 +1,13 @@
 // Fields by their types.
 use crate::{parts, say};
-use field_types::{Number, Time};
 use std::io::{Print, Stdout};
 
-fn seconds(t: Time) -> Number {
-    match t {
-        Time::Is(s) => Number::Is(s.0),
-        Time::Wrong => Number::Wrong,
-    }
-}
-
 // The readers that answer a number, by the letter of their group; a digit tells how many digits a number may have.
-fn number(r: u8, v: &[u8]) -> Number {
+fn number(r: u8, v: &[u8]) -> Option<u32> {
     match r {
         b'B' => field_types::read_bit(v),
         b'D' => field_types::read_date(v),
-        b'T' => seconds(field_types::read_time(v)),
+        b'T' => field_types::read_time(v).map(|s| s.0),
         b'U' => field_types::read_stamp(v),
         b'S' => field_types::read_status(v),
         b'J' => field_types::read_stop_type(v),

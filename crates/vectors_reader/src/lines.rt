@@ -1,7 +1,6 @@
 // The lines of the input. A vector is printed with what is answered and how many bytes of the staging area are written. Other lines begin with a mark.
 use crate::{say, spell, staged};
 use columns::Form;
-use field_types::Number;
 use reader::Fault;
 use std::io::{Print, Stdout};
 
@@ -18,10 +17,7 @@ const DOSSIER: usize = 400;
 
 // The size of the staging area, ten rows of a message where none is given.
 fn size(digits: &[u8]) -> usize {
-    match field_types::read_number(digits, 5) {
-        Number::Is(n) => n as usize,
-        Number::Wrong => 660,
-    }
+    field_types::read_number(digits, 5).map_or(660, |n| n as usize)
 }
 
 impl Desk {

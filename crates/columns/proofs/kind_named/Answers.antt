@@ -1,4 +1,3 @@
-use Prim.Native.Nat.{◌-◌}
 use mathlib.Core.Path.{sym}
 use Rattle.columns.specs.inner.Digit.{kind_named}
 use Rattle.columns.proofs.KindLaws.{kind-last}

@@ -29,15 +29,15 @@ returns-then-is_null c =
     let t = kept-none c.args.at c.args.row.now
     (time-none word (field_under c.args.stop c.args.columns c.args.line.now) c.args.field.now (sym c.is_null.ensures ∙ c.if-is_null.true) here) in record { some = t.0; written = t.1 }
 
-pub returns-in-Is : goal.returns-in-Is
-returns-in-Is c =
+pub returns-in-Some : goal.returns-in-Some
+returns-in-Some c =
     let read = c.read_time in
-    let told = sym c.in-Is.is ∙ read.ensures in
+    let told = sym c.in-Some.is ∙ read.ensures in
     let time = time-told c.args.word.now (field_under c.args.stop c.args.columns c.args.line.now) c.args.field.now (sym c.is_null.ensures ∙ c.if-is_null.false) in
-    let t = kept-spelled c.args.at c.args.row.now 3 _ (ap time_cell told ∙ time) (omega arith) c.put_number-in-Is.ensures in record { some = t.0; written = t.1 }
+    let t = kept-spelled c.args.at c.args.row.now 3 _ (ap time_cell told ∙ time) (omega arith) c.put_number-in-Some.ensures in record { some = t.0; written = t.1 }
 
-pub returns-in-Wrong : goal.returns-in-Wrong
-returns-in-Wrong c =
-    let told = sym c.read_time.ensures ∙ c.in-Wrong.is in
+pub returns-in-None : goal.returns-in-None
+returns-in-None c =
+    let told = sym c.read_time.ensures ∙ c.in-None.is in
     let time = time-told c.args.word.now (field_under c.args.stop c.args.columns c.args.line.now) c.args.field.now (sym c.is_null.ensures ∙ c.if-is_null.false) in
     let t = kept-none c.args.at c.args.row.now (sym time ∙ ap time_cell told) in record { some = t.0; written = t.1 }

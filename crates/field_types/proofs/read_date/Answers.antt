@@ -1,43 +1,35 @@
-use mathlib.Core.Path.{◌≡◌, ◌∙◌, sym, ap}
+use mathlib.Core.Path.{◌≡◌, ◌∙◌, ap, refl}
+use mathlib.Core.Bool.{Bool, true, false}
+use Prim.Native.Nat.{ℕ}
 use native.Mathlib.Omega.{arith}
-use Rattle.field_types.specs.declared.Triple.TheVariants.{Three}
-use Rattle.field_types.specs.Digits.{triple}
+use Rattle.std.specs.Bool.{then_some}
 use Rattle.field_types.specs.Dates.{real_of, date}
+use Rattle.field_types.specs.Digits.{only_if}
 use Rattle.field_types.proofs.TripleLaws.{triple-below}
 use Rattle.field_types.proofs.read_date.Goals as goal
+use Rattle.std.specs.Prelude.{Some}
 
-pub returns-in_default : goal.returns-in_default
+pub returns-in_err-y : goal.returns-in_err-y
 unfolding date
-returns-in_default c = ap real_of (sym c.in_default.is ∙ c.read_triple.ensures)
+returns-in_err-y c = c.from_residual.ensures ∙ ap real_of c.in_err-y.ensures
 
 pub overflow_mul-n : goal.overflow_mul-n
-overflow_mul-n c =
-    let read : Three c.in-Three.y c.in-Three.m c.in-Three.d ≡ triple 4 45 c.args.field.now = sym c.in-Three.is ∙ c.read_triple.ensures in
-    omega (arith, triple-below _ _ _ read)
+overflow_mul-n c = omega (arith, triple-below _ _ _ c.in_ok-y.ensures)
 
 pub overflow_mul-n-2 : goal.overflow_mul-n-2
-overflow_mul-n-2 c =
-    let read : Three c.in-Three.y c.in-Three.m c.in-Three.d ≡ triple 4 45 c.args.field.now = sym c.in-Three.is ∙ c.read_triple.ensures in
-    omega (arith, triple-below _ _ _ read)
+overflow_mul-n-2 c = omega (arith, triple-below _ _ _ c.in_ok-y.ensures)
 
 pub overflow_add-n : goal.overflow_add-n
-overflow_add-n c =
-    let read : Three c.in-Three.y c.in-Three.m c.in-Three.d ≡ triple 4 45 c.args.field.now = sym c.in-Three.is ∙ c.read_triple.ensures in
-    omega (arith, triple-below _ _ _ read)
+overflow_add-n c = omega (arith, triple-below _ _ _ c.in_ok-y.ensures)
 
 pub overflow_add-n-2 : goal.overflow_add-n-2
-overflow_add-n-2 c =
-    let read : Three c.in-Three.y c.in-Three.m c.in-Three.d ≡ triple 4 45 c.args.field.now = sym c.in-Three.is ∙ c.read_triple.ensures in
-    omega (arith, triple-below _ _ _ read)
+overflow_add-n-2 c = omega (arith, triple-below _ _ _ c.in_ok-y.ensures)
 
-pub returns-then-is_date : goal.returns-then-is_date
-unfolding date
-returns-then-is_date c =
-    let read : Three c.in-Three.y c.in-Three.m c.in-Three.d ≡ triple 4 45 c.args.field.now = sym c.in-Three.is ∙ c.read_triple.ensures in
-    rw (← read, ← c.is_date.ensures, c.if-is_date.true)
+-- a number where a test passes, as the code has it and as the rule does
+only-then : (b : Bool) (n : ℕ) → then_some b n ≡ only_if b (Some n)
+only-then true n = refl
+only-then false n = refl
 
-pub returns-else-is_date : goal.returns-else-is_date
+pub returns : goal.returns
 unfolding date
-returns-else-is_date c =
-    let read : Three c.in-Three.y c.in-Three.m c.in-Three.d ≡ triple 4 45 c.args.field.now = sym c.in-Three.is ∙ c.read_triple.ensures in
-    rw (← read, ← c.is_date.ensures, c.if-is_date.false)
+returns c = c.then_some.ensures ∙ only-then _ _ ∙ rw c.is_date.ensures (ap real_of c.in_ok-y.ensures)

@@ -1,11 +1,10 @@
-use mathlib.Core.Path.{◌∙◌, sym, ap}
+use mathlib.Core.Path.{◌≡◌, ◌∙◌, ap}
+use Rattle.std.proofs.Common.{rules}
 use Rattle.field_types.specs.Times.{time_of, time}
 use Rattle.field_types.proofs.read_time.Goals as goal
 
-pub returns-in-Is : goal.returns-in-Is
+pub returns : goal.returns
 unfolding time
-returns-in-Is c = ap time_of (sym c.in-Is.is ∙ c.read_clock.ensures)
-
-pub returns-in-Wrong : goal.returns-in-Wrong
-unfolding time
-returns-in-Wrong c = ap time_of (sym c.in-Wrong.is ∙ c.read_clock.ensures)
+returns c =
+    let made : c.map.result ≡ time_of c.read_clock.result = search rules in
+    made ∙ ap time_of c.read_clock.ensures
