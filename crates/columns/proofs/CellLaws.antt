@@ -1,5 +1,5 @@
 -- Laws of cells, over any kind, stop type and field. Assumes nothing.
-use mathlib.Core.Path.{◌≡◌, refl, sym, ◌∙◌}
+use mathlib.Core.Path.{◌≡◌, refl}
 use mathlib.Core.Bool.{Bool, true, false}
 use mathlib.Core.List.{List, [], ◌∷◌}
 use Prim.Native.Nat.{ℕ, zero, suc, ◌-◌, ◌<◌}
@@ -23,7 +23,7 @@ use Rattle.field_types.specs.Stamps as Stamps
 use Rattle.field_types.specs.Names as Names
 use Rattle.texts.specs.Texts.{all_text}
 use Rattle.texts.specs.Texts as Texts
-use Rattle.texts.proofs.KeptLaws.{text-is, ok-is, kept-bytes, text-length}
+use Rattle.texts.proofs.KeptLaws.{text-is, kept-bytes, text-length}
 use Rattle.columns.specs.declared.Kind.{Kind}
 use Rattle.columns.specs.declared.Kind.TheVariants as Kinds
 use Rattle.columns.specs.Cell.{width, null, number_cell, time_cell, text_cell, missing_time, time_at, cell}
@@ -92,11 +92,11 @@ wide-time (Some s) e = length-spelled 3 s.0
 wide-time None e = wide-none 3 e
 
 wide-text : (f : List ℕ) → Wide 10 (text_cell (Texts.text f))
-wide-text f = go (Texts.text f).ok
+wide-text f = go (Texts.text f) refl
   where
-    go : (b : Bool) → Wide 10 (on b (Texts.text f).bytes [])
-    go true e = text-length f
-    go false e = wide-none 10 e
+    go : (t : Option (List ℕ)) → Texts.text f ≡ t → Wide 10 (text_cell t)
+    go (Some t) p e = text-length f t p
+    go None p e = wide-none 10 e
 
 wide-choice : (w : ℕ) (b : Bool) (x y : List ℕ) → Wide w x → Wide w y → Wide w (on b x y)
 wide-choice w true x y h k = h
@@ -142,14 +142,15 @@ abbrev IsByte : ℕ → Type 0
 IsByte b = b < 256
 
 bytes-kept : (f : List ℕ) → Bytes (text_cell (Texts.text f))
-bytes-kept f = go (Texts.text f).ok refl
+bytes-kept f = go (Texts.text f) refl
   where
-    go : (b : Bool) → (Texts.text f).ok ≡ b → Bytes (on b (Texts.text f).bytes [])
-    go true e =
-        rw (kept-bytes f e)
+    go : (t : Option (List ℕ)) → Texts.text f ≡ t → Bytes (text_cell t)
+    go (Some t) e =
+        let k = kept-bytes f t e in
+        rw k.1
         (each_append IsByte (decode f) (replicate (10 - length (decode f)) 0)
-        (bytes-text (decode f) (text-is (decode f) (sym (ok-is f) ∙ e)).2) (bytes-zeros (10 - length (decode f))))
-    go false e = tt
+        (bytes-text (decode f) (text-is (decode f) k.0).2) (bytes-zeros (10 - length (decode f))))
+    go None e = tt
 
 bytes-number : (w : ℕ) (n : Option ℕ) → Bytes (number_cell w n)
 bytes-number w (Some v) = bytes-spelled w v

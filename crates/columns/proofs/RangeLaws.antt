@@ -1,5 +1,5 @@
 -- What is kept of a field is in its type's range. Assumes nothing.
-use mathlib.Core.Path.{◌≡◌, refl, sym, ap, ◌∙◌}
+use mathlib.Core.Path.{◌≡◌, refl, ap}
 use mathlib.Core.Bool.{Bool, true, false}
 use mathlib.Core.List.{List, []}
 use mathlib.Core.Logic.{◌↔◌, inl, inr}
@@ -30,7 +30,7 @@ use Rattle.texts.specs.Texts as Texts
 use Rattle.field_types.specs.Claims.{WordsWithin}
 use Rattle.field_types.proofs.Claims.{read-number-below, read-time-below, read-date-real, stamps-given, words, no-content-outside as outside}
 use Rattle.texts.proofs.Claims as TextClaims
-use Rattle.texts.proofs.KeptLaws.{ok-is, kept-bytes}
+use Rattle.texts.proofs.KeptLaws.{kept-bytes}
 use Rattle.columns.specs.declared.Kind.{Kind}
 use Rattle.columns.specs.declared.Kind.TheVariants as Kinds
 use Rattle.columns.specs.Cell.{null, number_cell, time_cell, text_cell, missing_time, time_at, cell}
@@ -95,13 +95,13 @@ words-in-range = (
 
 pub texts-in-range : TextsInRange
 unfolding cell
-texts-in-range stop f e = go (Texts.text f).ok refl e
+texts-in-range stop f e = go (Texts.text f) refl e
   where
     go :
-        (b : Bool) → (Texts.text f).ok ≡ b → some (on b (Texts.text f).bytes []) ≡ true
-        → (is_text (decode f) ≡ true) × (on b (Texts.text f).bytes [] ≡ padded (decode f))
-    go true p h = (sym (ok-is f) ∙ p, kept-bytes f p)
-    go false p h = never h
+        (t : Option (List ℕ)) → Texts.text f ≡ t → some (text_cell t) ≡ true
+        → (is_text (decode f) ≡ true) × (text_cell t ≡ padded (decode f))
+    go (Some t) p h = kept-bytes f t p
+    go None p h = never h
 
 -- ---- times
 

@@ -11,16 +11,14 @@ use Rattle.lists.proofs.TextLaws.{same-equal, same_refl}
 use Rattle.clock.specs.declared.OperatingSeconds.{OperatingSeconds}
 use Rattle.field_types.specs.Times.{time}
 use Rattle.field_types.proofs.Claims.{no-content-outside as outside}
-use Rattle.texts.proofs.KeptLaws.{ok-is, kept-bytes}
+use Rattle.texts.proofs.KeptLaws.{text-read}
 use Rattle.columns.specs.Cell.{null, time_cell, time_at, cell}
 use Rattle.columns.specs.Tables.{cell_of}
 use Rattle.columns.specs.Claims.{TextsKept, NumbersKept, TimesKept, LeftOutAsAbsent}
 
 pub texts_kept : TextsKept
 unfolding cell
-texts_kept stop f e =
-    let ok = ok-is f ∙ e in
-    rw ok (kept-bytes f ok)
+texts_kept stop f e = rw (text-read f e)
 
 pub numbers-kept : NumbersKept
 unfolding cell

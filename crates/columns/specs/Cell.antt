@@ -4,7 +4,6 @@ use Rattle.lists.specs.Logic.{on}
 use Rattle.lists.specs.Text.{bytes, same}
 use Rattle.lists.specs.BigEndian.{spelled}
 use Rattle.clock.specs.declared.OperatingSeconds.{OperatingSeconds}
-use Rattle.texts.specs.declared.Text.{Text}
 use Rattle.field_types.specs.Digits as Digits
 use Rattle.field_types.specs.Dates as Dates
 use Rattle.field_types.specs.Times as Clock
@@ -44,8 +43,9 @@ abbrev pub time_cell : Option OperatingSeconds → List ℕ
 time_cell (Some s) = spelled 3 s.0
 time_cell None = []
 
-abbrev pub text_cell : Text → List ℕ
-text_cell t = on t.ok t.bytes []
+abbrev pub text_cell : Option (List ℕ) → List ℕ
+text_cell (Some t) = t
+text_cell None = []
 
 -- a missing time
 abbrev pub missing_time : List ℕ

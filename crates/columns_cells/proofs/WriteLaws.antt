@@ -10,9 +10,8 @@ use Rattle.lists.specs.Part.{over, some}
 use Rattle.lists.specs.BigEndian.{spelled}
 use Rattle.lists.proofs.OverLaws.{over-nil}
 use Rattle.lists.proofs.BigEndianLaws.{length-spelled}
-use Rattle.texts.specs.declared.Text.{Text}
 use Rattle.field_types.specs.Times.{time}
-use Rattle.columns.specs.Cell.{null, time_cell, text_cell, missing_time, time_at}
+use Rattle.columns.specs.Cell.{null, time_cell, missing_time, time_at}
 use Rattle.columns.proofs.CellLaws.{some-long}
 
 -- ---- what a writer of a cell promises: it answers whether something is kept, and has written that
@@ -33,13 +32,7 @@ module _ (at : ℕ) {l : List ℕ} (row : List ℕ) where
   pub kept-spelled : (w v : ℕ) {row' : List ℕ} → spelled w v ≡ l → 0 < w → row' ≡ over at (spelled w v) row → Kept at l row true row'
   kept-spelled w v e h k = let s = length-spelled w v in kept-long e (omega arith) k
 
--- ---- which case of a text, and of a time, holds
-
-pub text-kept : (t : Text) → t.ok ≡ true → t.bytes ≡ text_cell t
-text-kept t e = rw e
-
-pub text-refused : (t : Text) → t.ok ≡ false → text_cell t ≡ []
-text-refused t e = rw e
+-- ---- which case of a time holds
 
 module _ (word stop f : List ℕ) where
   pub time-missing : same f null ≡ true → same stop word ≡ true → missing_time ≡ time_at word stop f

@@ -39,13 +39,13 @@ fn write_decoded(field: &[u8], row: &mut [u8], at: usize) -> bool
     ensures some { result ≡ some (text_cell (Texts.text field.now)) }
     ensures written { row.new ≡ over at (text_cell (Texts.text field.now)) row.old }
 {
-    let t = texts::read_text(field);
-    if t.ok {
-        let kept = t.bytes;
-        lists::copy_to(row, at, &kept);
-        return true;
+    match texts::read_text(field) {
+        Some(kept) => {
+            lists::copy_to(row, at, &kept);
+            true
+        }
+        None => false,
     }
-    false
 }
 
 // A text in ten bytes. Most fields have no escape and are copied as they stand.

@@ -1,13 +1,14 @@
 -- The claims on texts, proved. Assumes nothing.
-use mathlib.Core.Path.{◌≡◌, ◌∙◌, refl, sym}
-use mathlib.Core.Bool.{false}
+use mathlib.Core.Path.{◌≡◌, ◌∙◌, refl, sym, ap}
+use mathlib.Core.Bool.{Bool}
 use Prim.Native.Nat.{◌-◌}
 use lib.ListN.{length}
 use Rattle.lists.specs.Logic.{within}
 use Rattle.lists.specs.Text.{bytes}
 use Rattle.lists.proofs.LogicLaws.{and-false}
 use Rattle.turbo.specs.Escape.{escaped, decode}
-use Rattle.texts.specs.Texts.{text}
+use Rattle.std.specs.Prelude.{None}
+use Rattle.texts.specs.Texts.{given_to, text}
 use Rattle.texts.specs.Claims.{TextsOnly, TextsTold, NoneOutside, TenBytes, All}
 use Rattle.texts.proofs.KeptLaws.{escape-kept, ok-to, kept-to, refused-to, text-long, told-apart, each_all, test-facts, facts-test}
 
@@ -19,10 +20,10 @@ texts-told w t u g h e = told-apart t u (w - length t) (w - length u) (each_all 
 
 none-outside : NoneOutside
 unfolding decode escaped
-none-outside w = (refl, ok-to w (bytes "\\0") ∙ and-false (within 1 w 1))
+none-outside w = (refl, ap (λ (b : Bool). given_to w b (decode (bytes "\\0"))) (and-false (within 1 w 1)))
 
 -- of ten bytes
-pub null-no-text : (text (bytes "\\0")).ok ≡ false
+pub null-no-text : text (bytes "\\0") ≡ None
 unfolding text
 null-no-text = (none-outside 10).1
 
@@ -35,7 +36,7 @@ claims = (
   λ w t. (test-facts w t, facts-test w t),
   λ w t f. escape-kept w t (facts-test w t f),
   texts-only,
-  λ w f. (kept-to w f, refused-to w f, text-long w f),
+  λ w f. (λ t e. (kept-to w f t e).1, refused-to w f, text-long w f),
   texts-told,
   none-outside,
   ten-bytes,

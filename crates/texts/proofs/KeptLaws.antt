@@ -7,6 +7,8 @@ use native.Mathlib.Omega.{arith}
 use borrow.Author.Tests.{eqb-true}
 use lib.Dec.{eqb}
 use lib.ListN.{length, replicate, length-append, length-replicate}
+use Rattle.std.specs.Prelude.{Some, is_some, unwrap_or}
+use Rattle.std.proofs.lemmas.Option.{same_Some, none-some}
 use Rattle.lists.specs.Each.{Each}
 use Rattle.lists.specs.Logic.{on, within}
 use Rattle.lists.proofs.LogicLaws.{and-pass, within-true, in-range}
@@ -40,34 +42,43 @@ module _ (w : ℕ) where
       let r = within-true 1 w (length t) b.0 in
       (r.0, r.1, b.1)
 
-  pub escape-kept : (t : List ℕ) → is_text_to w t ≡ true → text_to w (escape t) ≡ record { ok = true; bytes = padded_to w t }
+  pub escape-kept : (t : List ℕ) → is_text_to w t ≡ true → text_to w (escape t) ≡ Some (padded_to w t)
   unfolding decode
   escape-kept t e = rw (escape-decoded t, e)
 
-  -- the two halves of a text, by the test of what its field stands for
-  pub ok-to : (f : List ℕ) → (text_to w f).ok ≡ is_text_to w (decode f)
+  -- whether a text is kept, and which, by the test of what its field stands for
+  pub ok-to : (f : List ℕ) → is_some (text_to w f) ≡ is_text_to w (decode f)
   ok-to f = go (is_text_to w (decode f))
     where
-      go : (b : Bool) → (given_to w b (decode f)).ok ≡ b
+      go : (b : Bool) → is_some (given_to w b (decode f)) ≡ b
       go true = refl
       go false = refl
 
-  pub kept-to : (f : List ℕ) → (text_to w f).ok ≡ true → (text_to w f).bytes ≡ padded_to w (decode f)
-  kept-to f e = rw (sym (ok-to f) ∙ e)
+  pub read-to : (f : List ℕ) → is_text_to w (decode f) ≡ true → text_to w f ≡ Some (padded_to w (decode f))
+  read-to f e = rw e
 
-  pub refused-to : (f : List ℕ) → (text_to w f).ok ≡ false → (text_to w f).bytes ≡ replicate w 0
+  pub kept-to : (f t : List ℕ) → text_to w f ≡ Some t → (is_text_to w (decode f) ≡ true) × (t ≡ padded_to w (decode f))
+  kept-to f t e = go (is_text_to w (decode f)) refl e
+    where
+      go :
+          (b : Bool) → is_text_to w (decode f) ≡ b → given_to w b (decode f) ≡ Some t
+          → (is_text_to w (decode f) ≡ true) × (t ≡ padded_to w (decode f))
+      go true p q = (p, sym (same_Some _ _ q))
+      go false p q = absurd (none-some _ q)
+
+  pub refused-to : (f : List ℕ) → is_some (text_to w f) ≡ false → unwrap_or (text_to w f) (replicate w 0) ≡ replicate w 0
   refused-to f e = rw (sym (ok-to f) ∙ e)
 
   pub padded-long : (t : List ℕ) → length t ≤ w → length (padded_to w t) ≡ w
   padded-long t h =
       length-append t (replicate (w - length t) 0) ∙ omega (arith, length-replicate {A = ℕ} (w - length t) 0)
 
-  pub text-long : (f : List ℕ) → length (text_to w f).bytes ≡ w
-  text-long f = go (text_to w f).ok refl
+  pub text-long : (f : List ℕ) → length (unwrap_or (text_to w f) (replicate w 0)) ≡ w
+  text-long f = go (is_text_to w (decode f)) refl
     where
-      go : (b : Bool) → (text_to w f).ok ≡ b → length (text_to w f).bytes ≡ w
-      go true e = ap length (kept-to f e) ∙ padded-long (decode f) (text-to-is (decode f) (sym (ok-to f) ∙ e)).1
-      go false e = ap length (refused-to f e) ∙ length-replicate {A = ℕ} w 0
+      go : (b : Bool) → is_text_to w (decode f) ≡ b → length (unwrap_or (given_to w b (decode f)) (replicate w 0)) ≡ w
+      go true e = padded-long (decode f) (text-to-is (decode f) e).1
+      go false e = length-replicate {A = ℕ} w 0
 
 -- ---- kept in ten bytes
 
@@ -77,20 +88,19 @@ is-text = is-text-to 10
 pub text-is : (t : List ℕ) → is_text t ≡ true → (1 ≤ length t) × (length t ≤ 10) × (all_text t ≡ true)
 text-is = text-to-is 10
 
-pub ok-is : (f : List ℕ) → (text f).ok ≡ is_text (decode f)
+pub text-read : (f : List ℕ) → is_text (decode f) ≡ true → text f ≡ Some (padded (decode f))
 unfolding text
-ok-is f = ok-to 10 f
+text-read f e = read-to 10 f e
 
-pub kept-bytes : (f : List ℕ) → (text f).ok ≡ true → (text f).bytes ≡ padded (decode f)
+pub kept-bytes : (f t : List ℕ) → text f ≡ Some t → (is_text (decode f) ≡ true) × (t ≡ padded (decode f))
 unfolding text
-kept-bytes f e = kept-to 10 f e
+kept-bytes f t e = kept-to 10 f t e
 
 pub padded-length : (t : List ℕ) → length t ≤ 10 → length (padded t) ≡ 10
 padded-length = padded-long 10
 
-pub text-length : (f : List ℕ) → length (text f).bytes ≡ 10
-unfolding text
-text-length f = text-long 10 f
+pub text-length : (f t : List ℕ) → text f ≡ Some t → length t ≡ 10
+text-length f t e = let k = kept-bytes f t e in ap length k.1 ∙ padded-length (decode f) (text-is (decode f) k.0).1
 
 -- ---- told apart
 

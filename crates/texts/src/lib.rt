@@ -1,101 +1,73 @@
 // Texts that are kept of a dossier's fields, decoded and padded. A reader is lent the field and gives a copy, or, where there is no escape, writes it where it is kept.
 #![tactic(auto)]
 
-ghost use Rattle.std.specs.Prelude.{◌≡◌, false, [], ◌+◌, ◌≤◌, length};
+ghost use Rattle.std.specs.Prelude.{◌≡◌, ◌+◌, ◌≤◌, length};
 ghost use Rattle.lists.specs.Part.{over};
-ghost use Rattle.texts.specs.Texts.{padded, text_given, text};
+ghost use Rattle.texts.specs.Texts.{padded, text};
 ghost use Rattle.texts.specs.inner.Steps.{kept_step, step_of, plain};
 
-// A text that is kept, padded with zero bytes; all zero where it is not ok.
-#[derive(Clone, Copy)]
-pub struct Text {
-    pub ok: bool,
-    pub bytes: [u8; 10],
-}
-
-// What one more byte of a text does: it begins an escape, gives a byte, or is refused.
+// What one more byte of a text does: it begins an escape, or gives a byte.
 #[derive(Clone, Copy)]
 enum Step {
     Mark,
     Byte(u8),
-    Bad,
 }
 
-fn kept_step(b: u8) -> Step
+// The byte is kept if it is 32 to 126.
+fn kept_step(b: u8) -> Option<Step>
     ensures { result ≡ kept_step b }
 {
     if b < 32 {
-        return Step::Bad;
+        return None;
     }
     if 126 < b {
-        return Step::Bad;
+        return None;
     }
-    Step::Byte(b)
+    Some(Step::Byte(b))
 }
 
-// The step of byte `b`; `after` says that it stands after a backslash.
-fn step_at(after: bool, b: u8) -> Step
+// The step of byte `b`, none where no text holds it; `after` says that it stands after a backslash.
+fn step_at(after: bool, b: u8) -> Option<Step>
     ensures { result ≡ step_of after b }
 {
     if after {
-        return match turbo::escaped(b) {
-            Some(v) => kept_step(v),
-            None => Step::Bad,
-        };
+        return kept_step(turbo::escaped(b)?);
     }
     if b == b'\\' {
-        return Step::Mark;
+        return Some(Step::Mark);
     }
     kept_step(b)
 }
 
-fn refused() -> Text
-    ensures { result ≡ text_given false [] }
-{
-    Text {
-        ok: false,
-        bytes: [0u8; 10],
-    }
-}
-
-// A text that is kept: 1 to 10 bytes, each 32 to 126, after decoding.
-pub fn read_text(field: &[u8]) -> Text
+// A text that is kept: 1 to 10 bytes, each 32 to 126, after decoding; padded with zero bytes to ten.
+pub fn read_text(field: &[u8]) -> Option<[u8; 10]>
     ensures { result ≡ text field.now }
 {
     let mut out = [0u8; 10];
     let mut n: usize = 0;
     let mut after = false;
-    let mut i: usize = 0;
-    while i < field.len() {
-        let b = field[i];
-        i += 1;
-        match step_at(after, b) {
+    for b in field {
+        match step_at(after, *b)? {
             Step::Mark => {
                 after = true;
             }
             Step::Byte(v) => {
                 if n == 10 {
-                    return refused();
+                    return None;
                 }
                 out[n] = v;
                 n += 1;
                 after = false;
             }
-            Step::Bad => {
-                return refused();
-            }
         }
     }
     if after {
-        return refused();
+        return None;
     }
     if n == 0 {
-        return refused();
+        return None;
     }
-    Text {
-        ok: true,
-        bytes: out,
-    }
+    Some(out)
 }
 
 // Whether the field is 1 to 10 bytes, each 32 to 126 and no backslash. It is then a text that stands for itself.
@@ -108,9 +80,8 @@ pub fn is_plain(field: &[u8]) -> bool
     if 10 < field.len() {
         return false;
     }
-    let mut i: usize = 0;
-    while i < field.len() {
-        let c = field[i];
+    for b in field {
+        let c = *b;
         if c < 32 {
             return false;
         }
@@ -120,7 +91,6 @@ pub fn is_plain(field: &[u8]) -> bool
         if c == b'\\' {
             return false;
         }
-        i += 1;
     }
     true
 }

@@ -20,13 +20,13 @@ pub fn numbered(out: Stdout, letter: u8, vector: &[u8]) {
     say::read(out, number(letter, vector));
 }
 
-// The ten bytes that are kept. A refused text is all zero.
+// The ten bytes that are kept. For a refused text zero bytes are printed.
 pub fn text(out: Stdout, vector: &[u8]) {
     let t = texts::read_text(vector);
-    if !t.ok {
+    if t.is_none() {
         let _ = out.print(" Wrong");
     }
-    say::text(out, &t.bytes);
+    say::text(out, &t.unwrap_or([0; 10]));
 }
 
 pub fn range(out: Stdout, vector: &[u8]) {

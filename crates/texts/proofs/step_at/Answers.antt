@@ -1,16 +1,16 @@
-use mathlib.Core.Path.{◌∙◌, ap, sym}
+use mathlib.Core.Path.{◌∙◌, ap}
 use Rattle.std.specs.Option.{unwrap_or}
 use borrow.Author.Tests.{eq-eqb, ne_eqb}
 use Rattle.texts.specs.inner.Steps.{step_of, kept_step}
 use Rattle.texts.proofs.step_at.Goals as goal
 
-pub returns-in-Some : goal.returns-in-Some
+pub returns-in_err-escaped : goal.returns-in_err-escaped
 unfolding step_of
-returns-in-Some c = c.kept_step.ensures ∙ ap (λ o. kept_step (unwrap_or o 0)) (sym c.in-Some.is ∙ c.escaped.ensures) ∙ rw c.if-after.true
+returns-in_err-escaped c = c.from_residual.ensures ∙ ap (λ o. kept_step (unwrap_or o 0)) c.in_err-escaped.ensures ∙ rw c.if-after.true
 
-pub returns-in-None : goal.returns-in-None
+pub returns-then-after : goal.returns-then-after
 unfolding step_of
-returns-in-None c = ap (λ o. kept_step (unwrap_or o 0)) (sym c.in-None.is ∙ c.escaped.ensures) ∙ rw c.if-after.true
+returns-then-after c = c.kept_step.ensures ∙ ap (λ o. kept_step (unwrap_or o 0)) c.in_ok-escaped.ensures ∙ rw c.if-after.true
 
 pub returns-then-b-eq92 : goal.returns-then-b-eq92
 unfolding step_of
