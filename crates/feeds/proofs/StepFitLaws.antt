@@ -22,7 +22,10 @@ use Rattle.rows.specs.Shape.{no_shape, shape_of}
 use Rattle.rows.specs.Reading.{read_by}
 use Rattle.rows.proofs.SoundLaws.{right_shape, shape_is, right-sound}
 use Rattle.rows.proofs.RestoredLaws.{restored-shape}
+use Rattle.reader_step.specs.declared.Place.{Place}
+use Rattle.reader_step.specs.declared.Place.TheVariants.{Outside, Awaiting, Under}
 use Rattle.reader_step.specs.declared.State.{State}
+use Rattle.reader_step.specs.Place.{is_awaiting, is_under, place_number}
 use Rattle.reader_step.specs.Step.{moved, misformed, labelled, mistyped, disowned, one_row_more, row_step, data_step, label_step, place_named, step_at, step_by, line_step}
 use Rattle.reader_step.specs.Step.{staged, row_staged, data_staged, staged_at, stage_by, line_staged}
 use Rattle.feeds.specs.Claims.{IsKept}
@@ -34,8 +37,7 @@ pub record Lined (t : Table) (s : State) : Type 0 where
   pub form : s.form < s.line
   pub wrong : s.wrong < s.line
   pub owner : s.owner < s.line
-  pub place : s.place ≤ 2
-  pub labels : s.place ≡ 2 → s.shape.fault ≡ false
+  pub labels : s.place ≡ Under → s.shape.fault ≡ false
   pub shape : IsKept t s.shape
 
 -- n is s with a line more
@@ -48,7 +50,8 @@ on-steps : (t : Table) (b : Bool) (s x y : State) → Steps t s x → Steps t s 
 on-steps t true s x y p q = p
 on-steps t false s x y p q = q
 
-named-few : (b : Bool) → on b 1 0 < 2
+-- a place that is not under labels
+named-few : (b : Bool) → place_number (on b Awaiting Outside) < 2
 named-few true = omega arith
 named-few false = omega arith
 
@@ -65,23 +68,23 @@ unfolding shape_of
 shape-none t labels e = rw e
 
 module _ (t : Table) (s : State) (now : Lined t s) where
-  pub moved-steps : (p : ℕ) → p ≤ 2 → (p ≡ 2 → s.shape.fault ≡ false) → Steps t s (moved s p)
-  moved-steps p h k =
+  pub moved-steps : (p : Place) → (p ≡ Under → s.shape.fault ≡ false) → Steps t s (moved s p)
+  moved-steps p k =
       let r = now.rows in
       let f = now.form in
       let w = now.wrong in
       let o = now.owner in
       record {
-        lined = record { first = omega arith; rows = omega arith; form = omega arith; wrong = omega arith; owner = omega arith; place = h; labels = k; shape = now.shape };
+        lined = record { first = omega arith; rows = omega arith; form = omega arith; wrong = omega arith; owner = omega arith; labels = k; shape = now.shape };
         line = refl;
         rows = omega arith;
       }
 
   pub stays-steps : Steps t s (moved s s.place)
-  stays-steps = moved-steps s.place now.place now.labels
+  stays-steps = moved-steps s.place now.labels
 
-  outside-steps : (p : ℕ) → p < 2 → Steps t s (moved s p)
-  outside-steps p h = moved-steps p (omega arith) (λ e. absurd (omega arith))
+  outside-steps : (p : Place) → place_number p < 2 → Steps t s (moved s p)
+  outside-steps p h = moved-steps p (λ e. absurd (let n = ap place_number e in omega arith))
 
   misformed-steps : Steps t s (misformed s)
   misformed-steps =
@@ -89,7 +92,7 @@ module _ (t : Table) (s : State) (now : Lined t s) where
       let w = now.wrong in
       let o = now.owner in
       record {
-        lined = record { first = omega arith; rows = omega arith; form = omega arith; wrong = omega arith; owner = omega arith; place = now.place; labels = now.labels; shape = now.shape };
+        lined = record { first = omega arith; rows = omega arith; form = omega arith; wrong = omega arith; owner = omega arith; labels = now.labels; shape = now.shape };
         line = refl;
         rows = omega arith;
       }
@@ -100,7 +103,7 @@ module _ (t : Table) (s : State) (now : Lined t s) where
       let f = now.form in
       let o = now.owner in
       record {
-        lined = record { first = omega arith; rows = omega arith; form = omega arith; wrong = omega arith; owner = omega arith; place = now.place; labels = now.labels; shape = now.shape };
+        lined = record { first = omega arith; rows = omega arith; form = omega arith; wrong = omega arith; owner = omega arith; labels = now.labels; shape = now.shape };
         line = refl;
         rows = omega arith;
       }
@@ -111,7 +114,7 @@ module _ (t : Table) (s : State) (now : Lined t s) where
       let f = now.form in
       let w = now.wrong in
       record {
-        lined = record { first = omega arith; rows = omega arith; form = omega arith; wrong = omega arith; owner = omega arith; place = now.place; labels = now.labels; shape = now.shape };
+        lined = record { first = omega arith; rows = omega arith; form = omega arith; wrong = omega arith; owner = omega arith; labels = now.labels; shape = now.shape };
         line = refl;
         rows = omega arith;
       }
@@ -123,7 +126,7 @@ module _ (t : Table) (s : State) (now : Lined t s) where
       let w = now.wrong in
       let o = now.owner in
       record {
-        lined = record { first = omega arith; rows = omega arith; form = omega arith; wrong = omega arith; owner = omega arith; place = now.place; labels = now.labels; shape = now.shape };
+        lined = record { first = omega arith; rows = omega arith; form = omega arith; wrong = omega arith; owner = omega arith; labels = now.labels; shape = now.shape };
         line = refl;
         rows = omega arith;
       }
@@ -135,7 +138,7 @@ module _ (t : Table) (s : State) (now : Lined t s) where
       let w = now.wrong in
       let o = now.owner in
       record {
-        lined = record { first = omega arith; rows = omega arith; form = omega arith; wrong = omega arith; owner = omega arith; place = omega arith; labels = λ _. e; shape = k };
+        lined = record { first = omega arith; rows = omega arith; form = omega arith; wrong = omega arith; owner = omega arith; labels = λ _. e; shape = k };
         line = refl;
         rows = omega arith;
       }
@@ -171,10 +174,10 @@ module _ (t : Table) (s : State) (now : Lined t s) where
           (let g = right-sound t labels e in (g.room, sym (restored-shape t (right_shape t labels) g refl))))
 
   mark-steps : (register : List ℕ) (sender : ℕ) (l : List ℕ) (m : Mark) → Steps t s (step_at t register sender s l m)
-  mark-steps register sender l Marks.Group = outside-steps 0 (omega arith)
+  mark-steps register sender l Marks.Group = outside-steps Outside (omega arith)
   mark-steps register sender l Marks.Table = outside-steps (place_named t (until 124 (after_mark l))) (named-few (same (until 124 (after_mark l)) (table_name t)))
-  mark-steps register sender l Marks.Labels = on-steps t (eqb s.place 1) s _ _ (label-steps (fields (after_mark l))) (outside-steps 0 (omega arith))
-  mark-steps register sender l Marks.Data = on-steps t (eqb s.place 2) s _ _ (data-steps register sender l) stays-steps
+  mark-steps register sender l Marks.Labels = on-steps t (is_awaiting s.place) s _ _ (label-steps (fields (after_mark l))) (outside-steps Outside (omega arith))
+  mark-steps register sender l Marks.Data = on-steps t (is_under s.place) s _ _ (data-steps register sender l) stays-steps
 
   by-steps : (register : List ℕ) (sender : ℕ) (l : List ℕ) → Steps t s (step_by t register sender s l)
   unfolding step_by
@@ -211,7 +214,7 @@ module _ (t : Table) (register : List ℕ) (sender : ℕ) (s : State) (st : List
   mark-length l Marks.Group = refl
   mark-length l Marks.Table = refl
   mark-length l Marks.Labels = refl
-  mark-length l Marks.Data = on-length (eqb s.place 2) _ st _ (data-length l) refl
+  mark-length l Marks.Data = on-length (is_under s.place) _ st _ (data-length l) refl
 
   by_length : (l : List ℕ) → length (stage_by t register sender s l st) ≡ length st
   unfolding stage_by

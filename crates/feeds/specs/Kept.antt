@@ -1,5 +1,5 @@
 -- What is kept between two parts as 48 numbers, which the caller lends. Assumes nothing.
-use Rattle.std.specs.Prelude.{ℕ, ◌+◌, ◌/◌, ◌%◌, Bool, true, not, ◌&&◌, ◌||◌, List, [], ◌∷◌, ◌++◌, eqb, leb, ltb, drop, get_or, replicate}
+use Rattle.std.specs.Prelude.{ℕ, ◌+◌, ◌/◌, ◌%◌, Bool, true, not, ◌&&◌, ◌||◌, List, [], ◌∷◌, ◌++◌, eqb, leb, ltb, drop, get_or, replicate, Option, Some, None}
 use Rattle.lists.specs.Logic.{on}
 use Rattle.lists.specs.Part.{part}
 use Rattle.syntax.specs.declared.Kind.{Kind}
@@ -11,9 +11,10 @@ use Rattle.columns.specs.Tables.{form_of}
 use Rattle.turbo_labels.specs.Columns.{most}
 use Rattle.rows.specs.Shape.{no_shape, shape_at}
 use Rattle.reader_step.specs.declared.State as Lines
+use Rattle.reader_step.specs.declared.Place.TheVariants.{Outside}
+use Rattle.reader_step.specs.Place.{is_under, place_number, place_at}
 use Rattle.reader.specs.Rules.{largest}
 use Rattle.feeds.specs.declared.Feed.{Feed}
-use Rattle.feeds.specs.declared.Kept.{Kept}
 
 -- ---- the machine as a number below 32: where in the line, times four, and the kind of line
 
@@ -53,14 +54,14 @@ unfoldable pub kept_of : Feed → List ℕ
 kept_of f =
     let s = f.lines in
     1 ∷ f.sender ∷ f.form ∷ f.at ∷ machine_number f.machine ∷ f.fault ∷ f.size ∷ f.long ∷ f.staged
-    ∷ s.place ∷ s.line ∷ s.form ∷ s.wrong ∷ s.column ∷ s.owner ∷ s.rows
+    ∷ place_number s.place ∷ s.line ∷ s.form ∷ s.wrong ∷ s.column ∷ s.owner ∷ s.rows
     ∷ s.shape.count ∷ s.shape.stop ∷ (s.shape.places ++ replicate 10 0)
 
 -- and back
 unfoldable pub lines_of : List ℕ → Lines.State
 lines_of k =
     record {
-      place = get_or k 9 0;
+      place = place_at (get_or k 9 0);
       line = get_or k 10 0;
       form = get_or k 11 0;
       wrong = get_or k 12 0;
@@ -91,7 +92,7 @@ unfoldable pub lines_may : ℕ → Lines.State → Bool
 lines_may at s =
     ltb 0 s.line && leb s.line (at + 1) && ltb s.rows s.line
     && ltb s.form s.line && ltb s.wrong s.line && ltb s.owner s.line
-    && leb s.place 2 && (not (eqb s.place 2) || not s.shape.fault)
+    && (not (is_under s.place) || not s.shape.fault)
 
 unfoldable pub feed_may : Feed → Bool
 feed_may f =
@@ -104,12 +105,12 @@ zeros [] = true
 zeros (n ∷ ns) = eqb n 0 && zeros ns
 
 unfoldable pub is_begun : List ℕ → Bool
-is_begun k = eqb (get_or k 0 0) 1 && ltb (get_or k 4 0) 32 && zeros (drop 38 k) && feed_may (feed_of k)
+is_begun k = eqb (get_or k 0 0) 1 && ltb (get_or k 4 0) 32 && leb (get_or k 9 0) 2 && zeros (drop 38 k) && feed_may (feed_of k)
 
 -- ---- the beginning
 
 abbrev pub no_lines : Lines.State
-no_lines = record { place = 0; line = 1; form = 0; wrong = 0; column = 0; owner = 0; rows = 0; shape = no_shape }
+no_lines = record { place = Outside; line = 1; form = 0; wrong = 0; column = 0; owner = 0; rows = 0; shape = no_shape }
 
 abbrev pub new_feed : ℕ → ℕ → Feed
 new_feed sender form = record { sender = sender; form = form; at = 0; machine = Open Nothing; fault = 0; size = 0; long = 0; staged = 0; lines = no_lines }
@@ -120,6 +121,6 @@ begun_by sender form = kept_of (new_feed sender form)
 
 -- ---- numbers that are read
 
--- whether the numbers are those of a begun feed, and the feed; a new one where they are not
-unfoldable pub read_of : List ℕ → Kept
-read_of k = record { begun = is_begun k; feed = on (is_begun k) (feed_of k) (new_feed 0 0) }
+-- the feed, where the numbers are those of a begun one
+unfoldable pub read_of : List ℕ → Option Feed
+read_of k = on (is_begun k) (Some (feed_of k)) None

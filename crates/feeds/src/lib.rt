@@ -5,10 +5,12 @@ ghost use Rattle.std.specs.Prelude.{◌≡◌, true, ◌<◌, ◌≤◌, length,
 ghost use Rattle.lists.specs.Part.{part, over};
 ghost use Rattle.columns.specs.declared.Table.TheVariants.{Message};
 ghost use Rattle.columns.specs.Tables.{form_of};
+ghost use Rattle.reader_step.specs.Place.{is_under};
 ghost use Rattle.feeds.specs.Kept.{kind_number, machine_number, kind_at, state_at, machine_at, kept_of, lines_of, feed_of, lines_may, feed_may, zeros, new_feed, begun_by, read_of};
-ghost use Rattle.feeds.specs.inner.Numbers.{numbers_may, no_feed, read_fitting};
+ghost use Rattle.feeds.specs.inner.Numbers.{numbers_may, lines_read, feed_read, read_fitting};
 
 use columns::Table;
+use reader_step::Place;
 use syntax::{Kind, State};
 
 // What is kept of the bytes so far. `form` is any number; that it is unknown is answered at the end. `at`: how many they are, one more than the largest dossier standing for any more. `fault`: the first byte at fault, counted from 1;
@@ -24,13 +26,6 @@ pub struct Feed {
     pub long: usize,
     pub staged: usize,
     pub lines: reader_step::State,
-}
-
-// Numbers that were read: whether they are those of a begun feed, and the feed; a new one where they are not.
-#[derive(Clone, Copy)]
-pub struct Kept {
-    pub begun: bool,
-    pub feed: Feed,
 }
 
 // ---- the machine as a number
@@ -142,6 +137,7 @@ pub fn keep(kept: &mut [u64; 48], feed: Feed)
     let places = shape.places;
     let machine = feed.machine;
     let number = machine_number(machine);
+    let place = u64::from(lines.place);
     *kept = [
         1,
         feed.sender as u64,
@@ -152,7 +148,7 @@ pub fn keep(kept: &mut [u64; 48], feed: Feed)
         feed.size as u64,
         feed.long as u64,
         feed.staged as u64,
-        lines.place as u64,
+        place,
         lines.line as u64,
         lines.form as u64,
         lines.wrong as u64,
@@ -209,16 +205,17 @@ fn places_in(kept: [u64; 48]) -> [usize; 20]
     places
 }
 
-// What is kept of the lines, read in their form. The place is a byte.
-fn lines_in(kept: [u64; 48]) -> reader_step::State
-    requires { (get_or kept 2 0 < 4294967296) × (get_or kept 9 0 ≤ 2) }
-    ensures { result ≡ lines_of kept }
+// What is kept of the lines, read in their form; none where the place is the number of none.
+fn lines_in(kept: [u64; 48]) -> Option<reader_step::State>
+    requires { get_or kept 2 0 < 4294967296 }
+    ensures { result ≡ lines_read kept }
 {
+    let place = Place::try_from(kept[9]).ok()?;
     let places = places_in(kept);
     let table = message_of(kept[2] as u32);
     let shape = rows::restored(table, kept[16] as usize, kept[17] as usize, places);
-    reader_step::State {
-        place: kept[9] as u8,
+    Some(reader_step::State {
+        place,
         line: kept[10] as usize,
         form: kept[11] as usize,
         wrong: kept[12] as usize,
@@ -226,17 +223,17 @@ fn lines_in(kept: [u64; 48]) -> reader_step::State
         owner: kept[14] as usize,
         rows: kept[15] as usize,
         shape,
-    }
+    })
 }
 
-// The feed. The sender is a byte too, the form a word of any number.
-fn feed_in(kept: [u64; 48]) -> Feed
-    requires { (get_or kept 1 0 < 256) × (get_or kept 2 0 < 4294967296) × (get_or kept 9 0 ≤ 2) }
-    ensures { result ≡ feed_of kept }
+// The feed. The sender is a byte, the form a word of any number.
+fn feed_in(kept: [u64; 48]) -> Option<Feed>
+    requires { (get_or kept 1 0 < 256) × (get_or kept 2 0 < 4294967296) }
+    ensures { result ≡ feed_read kept }
 {
+    let lines = lines_in(kept)?;
     let machine = machine_at(kept[4]);
-    let lines = lines_in(kept);
-    Feed {
+    Some(Feed {
         sender: kept[1] as u8,
         form: kept[2] as u32,
         at: kept[3] as usize,
@@ -246,7 +243,7 @@ fn feed_in(kept: [u64; 48]) -> Feed
         long: kept[7] as usize,
         staged: kept[8] as usize,
         lines,
-    }
+    })
 }
 
 // ---- which numbers are those of a begun feed
@@ -269,7 +266,13 @@ fn numbers_may(kept: [u64; 48]) -> bool
     ensures { result ≡ numbers_may kept }
 {
     let known = (kept[0] == 1) & (kept[2] < 4294967296) & (kept[4] < 32);
-    known & (kept[1] < 256) & (kept[9] <= 2) & clear_behind(kept)
+    known & (kept[1] < 256) & clear_behind(kept)
+}
+
+fn is_under(place: Place) -> bool
+    ensures { result ≡ is_under place }
+{
+    matches!(place, Place::Under)
 }
 
 fn lines_may(at: usize, lines: reader_step::State) -> bool
@@ -284,8 +287,7 @@ fn lines_may(at: usize, lines: reader_step::State) -> bool
         & (lines.form < next)
         & (lines.wrong < next)
         & (lines.owner < next)
-        & (lines.place <= 2)
-        & ((lines.place != 2) | !shape.fault)
+        & (!is_under(lines.place) | !shape.fault)
 }
 
 fn feed_may(feed: Feed) -> bool
@@ -305,34 +307,26 @@ fn feed_may(feed: Feed) -> bool
         & lines_may(at, lines)
 }
 
-fn read_fitting(kept: [u64; 48]) -> Kept
+fn read_fitting(kept: [u64; 48]) -> Option<Feed>
     requires { numbers_may kept ≡ true }
     ensures { result ≡ read_fitting kept }
 {
-    let feed = feed_in(kept);
+    let feed = feed_in(kept)?;
     if feed_may(feed) {
-        return Kept { begun: true, feed };
+        return Some(feed);
     }
-    no_feed()
+    None
 }
 
-fn no_feed() -> Kept
-    ensures { result ≡ no_feed }
-{
-    Kept {
-        begun: false,
-        feed: new_feed(0, 0),
-    }
-}
-
-// The numbers, whatever they are. They are looked at closely: whoever lends them may have written anything into them.
-pub fn read(kept: [u64; 48]) -> Kept
+// The feed that the numbers tell, whatever they are; none where they are not those of a begun one. They are looked at closely: whoever lends them may have
+// written anything into them.
+pub fn read(kept: [u64; 48]) -> Option<Feed>
     ensures { result ≡ read_of kept }
 {
     if numbers_may(kept) {
         return read_fitting(kept);
     }
-    no_feed()
+    None
 }
 
 // A feed begins, whatever the numbers were.

@@ -18,9 +18,9 @@ use Rattle.columns.specs.Tables.{is_form}
 use Rattle.reader.specs.declared.Fault.TheVariants as Faults
 use Rattle.reader.specs.Rules.{largest}
 use Rattle.feeds.specs.declared.Feed.{Feed}
-use Rattle.feeds.specs.declared.Kept.{Kept}
+use Rattle.std.specs.Prelude.{Some, None}
 use Rattle.feeds.specs.Kept.{feed_of, feed_may, zeros, is_begun, read_of}
-use Rattle.feeds.proofs.KeptLaws.{may-facts}
+use Rattle.feeds.proofs.KeptLaws.{may-facts, read-told, read-not}
 use Rattle.calls.specs.declared.Answer.{Answer}
 use Rattle.calls.specs.declared.Answer.TheVariants.{Unsound, Owner, StagingShort, UnknownForm}
 use Rattle.calls.specs.declared.Counts.{Counts}
@@ -87,26 +87,21 @@ least-few a b = go (leb a b) refl
     go true e = omega arith
     go false e = let h = leb-false a b e in omega arith
 
-module _ (staging : List ℕ) (k : Kept) where
-  pub right-rows : k.begun ≡ true → k.feed.lines.rows ≤ most_rows → (b : Bool) → b ≡ all_in_range (staged_rows staging k.feed) → b ≡ staged_right staging k
+module _ (staging : List ℕ) (f : Feed) where
+  pub right-rows : f.lines.rows ≤ most_rows → (b : Bool) → b ≡ all_in_range (staged_rows staging f) → b ≡ staged_right staging f
   unfolding staged_right
-  right-rows e h b p = p ∙ rw (e, le-leb k.feed.lines.rows most_rows h)
+  right-rows h b p = p ∙ rw (le-leb f.lines.rows most_rows h)
 
-  pub right-many : most_rows < k.feed.lines.rows → false ≡ staged_right staging k
+  pub right-many : most_rows < f.lines.rows → false ≡ staged_right staging f
   unfolding staged_right
-  right-many h = rw (lt-leb k.feed.lines.rows most_rows h, and-false k.begun)
-
-  pub right-none : k.begun ≡ false → false ≡ staged_right staging k
-  unfolding staged_right
-  right-none e = rw e
+  right-many h = rw (lt-leb f.lines.rows most_rows h)
 
   -- what is right has as few rows staged as a message has
-  pub right-few : staged_right staging k ≡ true → (k.begun ≡ true → k.feed.staged ≤ k.feed.lines.rows) → k.feed.staged ≤ most_rows
+  pub right-few : staged_right staging f ≡ true → f.staged ≤ f.lines.rows → f.staged ≤ most_rows
   unfolding staged_right
   right-few e h =
-      let p = and-pass k.begun (leb k.feed.lines.rows most_rows && all_in_range (staged_rows staging k.feed)) e in
-      let q = and-pass (leb k.feed.lines.rows most_rows) (all_in_range (staged_rows staging k.feed)) p.1 in
-      le_trans (h p.0) (leb-true k.feed.lines.rows most_rows q.0)
+      let q = and-pass (leb f.lines.rows most_rows) (all_in_range (staged_rows staging f)) e in
+      le_trans h (leb-true f.lines.rows most_rows q.0)
 
 -- ---- the ways out
 
@@ -159,20 +154,20 @@ module _ (register staging book table : List ℕ) (c : Counts) where
     unfolding known_or
     form-unknown e r h = refused f _ UnknownForm (rw e) refl r h
 
-  module _ (k : Kept) where
+  module _ (f : Feed) where
     pub lent-unsound : message_sound register book table c ≡ false → (r : Outcome) → r ≡ outcome_of Unsound c
-        → leaves r book table ≡ taken_from (right_answer register staging book table c k) k.feed staging book table c
+        → leaves r book table ≡ taken_from (right_answer register staging book table c f) f staging book table c
     unfolding right_answer
-    lent-unsound e r h = refused k.feed _ Unsound (rw e) refl r h
+    lent-unsound e r h = refused f _ Unsound (rw e) refl r h
 
-    pub kept-unsound : message_sound register book table c ≡ true → staged_right staging k ≡ false → (r : Outcome) → r ≡ outcome_of Unsound c
-        → leaves r book table ≡ taken_from (right_answer register staging book table c k) k.feed staging book table c
+    pub kept-unsound : message_sound register book table c ≡ true → staged_right staging f ≡ false → (r : Outcome) → r ≡ outcome_of Unsound c
+        → leaves r book table ≡ taken_from (right_answer register staging book table c f) f staging book table c
     unfolding right_answer
-    kept-unsound e u r h = refused k.feed _ Unsound (rw (e, u)) refl r h
+    kept-unsound e u r h = refused f _ Unsound (rw (e, u)) refl r h
 
-    pub all_right : message_sound register book table c ≡ true → staged_right staging k ≡ true → (l : Leaves)
-        → l ≡ taken_from (known_or register staging book table c k.feed) k.feed staging book table c
-        → l ≡ taken_from (right_answer register staging book table c k) k.feed staging book table c
+    pub all_right : message_sound register book table c ≡ true → staged_right staging f ≡ true → (l : Leaves)
+        → l ≡ taken_from (known_or register staging book table c f) f staging book table c
+        → l ≡ taken_from (right_answer register staging book table c f) f staging book table c
     unfolding right_answer
     all_right e u l h = rw (e, u) h
 
@@ -181,19 +176,29 @@ module _ (register staging book table : List ℕ) (c : Counts) where
     abbrev taken : Leaves
     taken = taken_by (end_answer register staging book table c kept) (staged_rows staging (feed_of kept)) (feed_of kept).sender book table c
 
-    read_taken : taken_from (right_answer register staging book table c (read_of kept)) (read_of kept).feed staging book table c ≡ taken
-    unfolding taken_from right_answer staged_right known_or found_or read_of end_answer end_sound taken_by
-    read_taken = go (is_begun kept) refl
-      where
-        go : (b : Bool) → is_begun kept ≡ b → taken_from (right_answer register staging book table c (read_of kept)) (read_of kept).feed staging book table c ≡ taken
-        go true e = rw e
-        go false e = rw (e, and-false (message_sound register book table c))
+    begun-taken : is_begun kept ≡ true → taken_from (right_answer register staging book table c (feed_of kept)) (feed_of kept) staging book table c ≡ taken
+    unfolding taken_from right_answer staged_right known_or found_or end_answer end_sound taken_by
+    begun-taken e = rw e
 
-    pub end-leaves : (k : Kept) → k ≡ read_of kept → (r : Outcome) (b t : List ℕ) → leaves r b t ≡ taken_from (right_answer register staging book table c k) k.feed staging book table c
+    -- the feed that the numbers tell
+    pub read-taken : (f : Feed) → read_of kept ≡ Some f → (l : Leaves) → l ≡ taken_from (right_answer register staging book table c f) f staging book table c → l ≡ taken
+    read-taken f is l h =
+        let t = read-told kept f is in
+        h ∙ ap (λ (x : Feed). taken_from (right_answer register staging book table c x) x staging book table c) t.1 ∙ begun-taken t.0
+
+    -- numbers of no begun one
+    unread-unsound : is_begun kept ≡ false → end_answer register staging book table c kept ≡ Unsound
+    unfolding end_answer end_sound
+    unread-unsound e = rw (e, and-false (message_sound register book table c))
+
+    pub unread-taken : read_of kept ≡ None → (r : Outcome) → r ≡ outcome_of Unsound c → leaves r book table ≡ taken
+    unfolding taken_from
+    unread-taken is r h = refused (feed_of kept) _ Unsound (unread-unsound (read-not kept is)) refl r h
+
+    pub end-leaves : (r : Outcome) (b t : List ℕ) → leaves r b t ≡ taken
         → (n : List ℕ) → n ≡ on (is_accepted r.answer) cleared kept → end_with r b t n ≡ end_leaves register staging book table c kept
     unfolding end_leaves taken_by
-    end-leaves k is r b t h n e =
-        let l : leaves r b t ≡ taken = h ∙ ap (λ (x : Kept). taken_from (right_answer register staging book table c x) x.feed staging book table c) is ∙ read_taken in
+    end-leaves r b t l n e =
         let m : n ≡ on (is_accepted taken.outcome.answer) cleared kept = e ∙ ap (λ (x : Leaves). on (is_accepted x.outcome.answer) cleared kept) l in
         λ i. end_with (l i).outcome (l i).book (l i).table (m i)
 
@@ -209,13 +214,9 @@ kept-left a kept e = rw e
 begun-staged : (kept : List ℕ) → is_begun kept ≡ true → (feed_of kept).staged ≤ (feed_of kept).lines.rows
 unfolding is_begun
 begun-staged kept e =
-    let first = eqb (get_or kept 0 0) 1 && ltb (get_or kept 4 0) 32 && zeros (drop 38 kept) in
+    let first = eqb (get_or kept 0 0) 1 && ltb (get_or kept 4 0) 32 && leb (get_or kept 9 0) 2 && zeros (drop 38 kept) in
     (may-facts (feed_of kept) (and-pass first (feed_may (feed_of kept)) e).1).staged
 
 -- a begun feed has no more rows staged than read
-pub read-staged : (kept : List ℕ) (k : Kept) → k ≡ read_of kept → k.begun ≡ true → k.feed.staged ≤ k.feed.lines.rows
-unfolding read_of
-read-staged kept k is b =
-    let e : is_begun kept ≡ true = ap (λ (x : Kept). x.begun) (sym is) ∙ b in
-    let f : k.feed ≡ feed_of kept = ap (λ (x : Kept). x.feed) is ∙ rw e refl in
-    rw f (begun-staged kept e)
+pub read-staged : (kept : List ℕ) (f : Feed) → read_of kept ≡ Some f → f.staged ≤ f.lines.rows
+read-staged kept f is = let t = read-told kept f is in rw t.1 (begun-staged kept t.0)

@@ -14,7 +14,7 @@ ghost use Rattle.calls.specs.Numbers.{end_numbers};
 ghost use Rattle.feeds_end.specs.inner.Steps.{lines_reading, staged_right, found_or, known_or, right_answer, taken_from};
 
 use calls::{Answer, Counts, Outcome};
-use feeds::{Feed, Kept};
+use feeds::Feed;
 use reader::Fault;
 
 // No message has more rows.
@@ -133,18 +133,14 @@ fn falls_short(staging: &[u8], staged: usize, rows: usize) -> bool
     staging.len() / passage::BODY_WIDE < rows
 }
 
-// Whether the numbers are those of a begun feed with no more rows than a message has, and the staged rows are in range.
-fn staged_right(kept: Kept, staging: &[u8]) -> bool
-    ensures { result ≡ staged_right staging.now kept }
+// Whether the feed has no more rows than a message has, and the staged rows are in range.
+fn staged_right(feed: Feed, staging: &[u8]) -> bool
+    ensures { result ≡ staged_right staging.now feed }
 {
-    let staged = kept.feed.staged;
-    let rows = kept.feed.lines.rows;
-    if kept.begun {
-        if rows <= MOST_ROWS {
-            let here = staged_here(staging, staged);
-            return rows_in_range(staging, here);
-        }
-        return false;
+    let rows = feed.lines.rows;
+    if rows <= MOST_ROWS {
+        let here = staged_here(staging, feed.staged);
+        return rows_in_range(staging, here);
     }
     false
 }
@@ -223,21 +219,20 @@ fn end_known(
 
 // 1 before everything else.
 fn end_kept(
-    kept: Kept,
+    feed: Feed,
     register: &[u8],
     staging: &[u8],
     book: &mut [u8],
     table: &mut [u8],
     counts: Counts,
 ) -> Outcome
-    requires { kept.begun ≡ true → kept.feed.staged ≤ kept.feed.lines.rows }
+    requires { feed.staged ≤ feed.lines.rows }
     ensures { leaves result book.new table.new
-        ≡ taken_from (right_answer register.now staging.now book.old table.old counts kept)
-        kept.feed staging.now book.old table.old counts }
+        ≡ taken_from (right_answer register.now staging.now book.old table.old counts feed)
+        feed staging.now book.old table.old counts }
 {
-    let feed = kept.feed;
     if messages::is_sound(register, book, table, counts) {
-        if staged_right(kept, staging) {
+        if staged_right(feed, staging) {
             return end_known(feed, register, staging, book, table, counts);
         }
         return calls::unchanged(Answer::Unsound, counts);
@@ -274,7 +269,7 @@ fn clear(kept: &mut [u64; 48])
     *kept = [0; 48];
 }
 
-// The end of a dossier in parts: refusals 1, 18, 2, 3, 15, 4 to 6, 14, 7 and 8, or its number and the new counts. An acceptance leaves the feed's numbers zero, so that it
+// The end of a dossier in parts, which the numbers must be those of a begun feed for: refusals 1, 18, 2, 3, 15, 4 to 6, 14, 7 and 8, or its number and the new counts. An acceptance leaves the feed's numbers zero, so that it
 // cannot be ended twice.
 pub fn end(
     register: &[u8],
@@ -289,8 +284,10 @@ pub fn end(
     ensures numbers { numbers result.answer
         ≡ end_numbers register.now staging.now book.old table.old counts kept.old }
 {
-    let read = feeds::read(*kept);
-    let outcome = end_kept(read, register, staging, book, table, counts);
+    let Some(feed) = feeds::read(*kept) else {
+        return calls::unchanged(Answer::Unsound, counts);
+    };
+    let outcome = end_kept(feed, register, staging, book, table, counts);
     let answer = outcome.answer;
     if is_accepted(answer) {
         clear(kept);

@@ -23,6 +23,7 @@ use Rattle.rows.specs.declared.Shape.{Shape}
 use Rattle.rows.specs.Shape.{IsShape}
 use Rattle.rows.proofs.RestoredLaws.{restored-sound}
 use Rattle.reader_step.specs.declared.State as Lines
+use Rattle.reader_step.specs.declared.Place.TheVariants.{Under}
 use Rattle.reader_step.specs.Step.{moved, line_step, line_staged}
 use Rattle.feeds.specs.declared.Feed.{Feed}
 use Rattle.feeds.specs.Feed.{Fed, no_bytes, message_of, line_ended, row_stays, skipped, line_read, ended, fed}
@@ -38,7 +39,7 @@ pub no-bytes : length no_bytes ≡ 4096
 no-bytes = length-replicate {A = ℕ} 4096 0
 
 -- lines of a feed that fits can be read
-pub fits-shape : (f : Feed) → FeedFits f → f.lines.place ≡ 2 → IsShape (message_of f) f.lines.shape
+pub fits-shape : (f : Feed) → FeedFits f → f.lines.place ≡ Under → IsShape (message_of f) f.lines.shape
 fits-shape f fits e =
     let h = f.lines.shape in
     let k = fits.shape in
@@ -55,7 +56,7 @@ longer-fits f n fits h =
 
 -- ---- a line that is read
 
-pub fits_line : (f : Feed) → FeedFits f → (f.lines.line < 4294967296) × (f.lines.rows < 4294967296) × (f.lines.place ≡ 2 → IsShape (message_of f) f.lines.shape)
+pub fits_line : (f : Feed) → FeedFits f → (f.lines.line < 4294967296) × (f.lines.rows < 4294967296) × (f.lines.place ≡ Under → IsShape (message_of f) f.lines.shape)
 fits_line f fits =
     let m = may-facts f fits.may in
     let a = m.at in
@@ -64,13 +65,13 @@ fits_line f fits =
     (omega arith, omega arith, fits-shape f fits)
 
 -- so too by a table that is the feed's
-pub fits-line-as : (f : Feed) → FeedFits f → (t : Table) → t ≡ message_of f → (f.lines.line < 4294967296) × (f.lines.rows < 4294967296) × (f.lines.place ≡ 2 → IsShape t f.lines.shape)
+pub fits-line-as : (f : Feed) → FeedFits f → (t : Table) → t ≡ message_of f → (f.lines.line < 4294967296) × (f.lines.rows < 4294967296) × (f.lines.place ≡ Under → IsShape t f.lines.shape)
 fits-line-as f fits t is = let l = fits_line f fits in (l.0, l.1, λ e. subst (λ (u : Table). IsShape u f.lines.shape) (sym is) (l.2 e))
 
 lined : (f : Feed) → FeedFits f → Lined (message_of f) f.lines
 lined f fits =
     let m = may-facts f fits.may in
-    record { first = m.first; rows = m.rows; form = m.form; wrong = m.wrong; owner = m.owner; place = m.place; labels = m.labels; shape = fits.shape }
+    record { first = m.first; rows = m.rows; form = m.form; wrong = m.wrong; owner = m.owner; labels = m.labels; shape = fits.shape }
 
 pub after-rows : (register l : List ℕ) (f : Feed) (n : Lines.State) → FeedFits f → n ≡ line_step (message_of f) register f.sender f.lines l → (n.rows < 4294967296) × (f.staged < 4294967296)
 after-rows register l f n fits e =

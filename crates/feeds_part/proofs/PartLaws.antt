@@ -18,9 +18,10 @@ use Rattle.syntax_scan.specs.Scanned.{scanned}
 use Rattle.syntax_scan.proofs.ScannedLaws.{stuck-first}
 use Rattle.reader.specs.Rules.{largest}
 use Rattle.feeds.specs.declared.Feed.{Feed}
-use Rattle.feeds.specs.declared.Kept.{Kept}
+use Rattle.std.specs.Prelude.{Option, Some, None}
 use Rattle.feeds.specs.Feed.{Fed, faulted, is_open, fed}
 use Rattle.feeds.specs.Kept.{kept_of, feed_of, is_begun, read_of}
+use Rattle.feeds.proofs.KeptLaws.{read-told, read-not}
 use Rattle.feeds.specs.Claims.{FeedFits}
 use Rattle.feeds.specs.Feeding.{feeding, fed_in, feed_leaves}
 use Rattle.feeds.proofs.KeptLaws.{may-facts}
@@ -173,33 +174,20 @@ fault-most f g e h = let a = ap (λ (x : Feed). x.at) e in omega arith
 
 -- ---- the call
 
-read-begun : (k : List ℕ) → (read_of k).begun ≡ is_begun k
-unfolding read_of
-read-begun k = refl
+module _ (k : List ℕ) where
+  module _ (r : Feed) (is : read_of k ≡ Some r) where
+    pub read_fits : length k ≡ 48 → FeedFits r
+    read_fits h = let t = read-told k r is in subst FeedFits (sym t.1) (begun-fits k h t.0)
 
-read_as : (k : List ℕ) → is_begun k ≡ true → (read_of k).feed ≡ feed_of k
-unfolding read_of
-read_as k e = rw e refl
-
-module _ (k : List ℕ) (r : Kept) (is : r ≡ read_of k) where
-  begun-is : is_begun k ≡ r.begun
-  begun-is = sym (ap (λ (x : Kept). x.begun) is ∙ read-begun k)
-
-  module _ (b : r.begun ≡ true) where
-    read-feed : r.feed ≡ feed_of k
-    read-feed = ap (λ (x : Kept). x.feed) is ∙ read_as k (begun-is ∙ b)
-
-    pub read_fits : length k ≡ 48 → FeedFits r.feed
-    read_fits h = subst FeedFits (sym read-feed) (begun-fits k h (begun-is ∙ b))
-
-    pub call-fed : (part register staging line : List ℕ) (g : Feed) (line' staging' k' : List ℕ) → fed_as g line' staging' ≡ fed register (lent r.feed line staging) part → k' ≡ kept_of g
+    pub call-fed : (part register staging line : List ℕ) (g : Feed) (line' staging' k' : List ℕ) → fed_as g line' staging' ≡ fed register (lent r line staging) part → k' ≡ kept_of g
         → feeding 0 k' line' staging' ≡ feed_leaves part register staging line k
     unfolding feed_leaves fed_in
     call-fed part register staging line g line' staging' k' e q =
+        let t = read-told k r is in
         ap (λ (n : List ℕ). feeding 0 n line' staging') q
-        ∙ ap (λ (x : Fed). feeding 0 (kept_of x.feed) x.line x.staging) (e ∙ ap (λ (f : Feed). fed register (lent f line staging) part) read-feed)
-        ∙ rw (begun-is ∙ b) refl
+        ∙ ap (λ (x : Fed). feeding 0 (kept_of x.feed) x.line x.staging) (e ∙ ap (λ (f : Feed). fed register (lent f line staging) part) t.1)
+        ∙ rw t.0 refl
 
-  pub call-refused : r.begun ≡ false → (part register staging line : List ℕ) → feeding 1 k line staging ≡ feed_leaves part register staging line k
+  pub call-refused : read_of k ≡ None → (part register staging line : List ℕ) → feeding 1 k line staging ≡ feed_leaves part register staging line k
   unfolding feed_leaves
-  call-refused b part register staging line = rw (begun-is ∙ b) refl
+  call-refused e part register staging line = rw (read-not k e) refl

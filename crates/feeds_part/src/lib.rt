@@ -14,7 +14,7 @@ ghost use Rattle.feeds.specs.Feeding.{feeding, feed_leaves};
 ghost use Rattle.feeds_part.specs.inner.Lines.{stands_at, longer, fed_as, lent, held_all, moved_to, counted_by, open_for, rows_stay, line_on};
 
 use columns::Table;
-use feeds::{Feed, Kept};
+use feeds::Feed;
 use syntax::State;
 
 // ---- small changes of what is kept
@@ -304,7 +304,7 @@ fn feed_bytes(feed: Feed, part: &[u8], register: &[u8], staging: &mut [u8], line
 }
 
 // What the numbers tell. They are 48.
-fn read_kept(kept: [u64; 48]) -> Kept
+fn read_kept(kept: [u64; 48]) -> Option<Feed>
     ensures is { result ≡ read_of kept }
     ensures room { length kept ≡ 48 }
 {
@@ -322,12 +322,12 @@ pub fn feed(
     ensures { feeding result kept.new line.new staging.new
         ≡ feed_leaves part.now register.now staging.old line.old kept.old }
 {
-    let numbers = *kept;
-    let read = read_kept(numbers);
-    if read.begun {
-        let after = feed_bytes(read.feed, part, register, staging, line);
-        feeds::keep(kept, after);
-        return 0;
+    match read_kept(*kept) {
+        Some(read) => {
+            let after = feed_bytes(read, part, register, staging, line);
+            feeds::keep(kept, after);
+            0
+        }
+        None => 1,
     }
-    1
 }

@@ -25,6 +25,8 @@ use Rattle.rows.specs.Shape.{shape_of}
 use Rattle.rows.specs.Reading.{read_by}
 use Rattle.register.specs.Register.{may_send}
 use Rattle.reader_step.specs.declared.State.{State}
+use Rattle.reader_step.specs.declared.Place.TheVariants.{Outside}
+use Rattle.reader_step.specs.Place.{is_awaiting, is_under}
 use Rattle.reader_step.specs.Step.{moved, misformed, labelled, mistyped, disowned, one_row_more, row_step, data_step, label_step, step_at, step_by, line_step, line_staged}
 use Rattle.reader_step.proofs.StepLaws.{line-counted}
 use Rattle.reader_step.proofs.WidthLaws.{width_some}
@@ -84,12 +86,12 @@ unfolding label_step
 label-more s h = on-more s (misformed s) (labelled s h) h.fault (λ e. plain s (misformed s) refl refl) (plain s (labelled s h) refl refl)
 
 mark-more : (t : Table) (register : List ℕ) (sender : ℕ) (s : State) (l : List ℕ) (m : Mark) → s.form ≡ 0 → More s (step_at t register sender s l m)
-mark-more t register sender s l Marks.Group f = plain s (moved s 0) refl refl
+mark-more t register sender s l Marks.Group f = plain s (moved s Outside) refl refl
 mark-more t register sender s l Marks.Table f = plain s _ refl refl
 mark-more t register sender s l Marks.Labels f =
-    on-more s (label_step s (shape_of t (fields (after_mark l)))) (moved s 0) (eqb s.place 1) (λ e. label-more s (shape_of t (fields (after_mark l)))) (plain s (moved s 0) refl refl)
+    on-more s (label_step s (shape_of t (fields (after_mark l)))) (moved s Outside) (is_awaiting s.place) (λ e. label-more s (shape_of t (fields (after_mark l)))) (plain s (moved s Outside) refl refl)
 mark-more t register sender s l Marks.Data f =
-    on-more s (data_step t register sender s l) (moved s s.place) (eqb s.place 2) (λ e. data-more t register sender s l f) (plain s (moved s s.place) refl refl)
+    on-more s (data_step t register sender s l) (moved s s.place) (is_under s.place) (λ e. data-more t register sender s l f) (plain s (moved s s.place) refl refl)
 
 step-more : (t : Table) (register : List ℕ) (sender : ℕ) (s : State) (l : List ℕ) → s.form ≡ 0 → More s (step_by t register sender s l)
 unfolding step_by

@@ -20,7 +20,10 @@ use Rattle.rows.specs.declared.Shape.{Shape}
 use Rattle.rows.specs.Shape.{shape_of}
 use Rattle.rows.specs.Reading.{read_by, read_given}
 use Rattle.columns.specs.Layout.{widest_row}
+use Rattle.reader_step.specs.declared.Place as Spots
+use Rattle.reader_step.specs.declared.Place.TheVariants.{Outside, Awaiting, Under}
 use Rattle.reader_step.specs.declared.State.{State}
+use Rattle.reader_step.specs.Place.{is_awaiting, is_under}
 use Rattle.reader.specs.declared.Fault.TheVariants.{Form}
 use Rattle.reader.specs.Items.{Item, head, row, Place, outside, awaiting, under, place_after, seen, in_front}
 use Rattle.reader.specs.Rules.{Reading, form_bad, is_wrong, owner_bad, first_line, first_column}
@@ -53,9 +56,9 @@ settled_from t register sender s xs =
 
 -- the state stands at a place in the line order
 abbrev pub Agrees : Table → State → Place → Type 0
-Agrees t s outside = s.place ≡ 0
-Agrees t s awaiting = s.place ≡ 1
-Agrees t s (under ls) = (s.place ≡ 2) × (s.shape ≡ shape_of t ls) × (label_fault t ls ≡ false)
+Agrees t s outside = s.place ≡ Outside
+Agrees t s awaiting = s.place ≡ Awaiting
+Agrees t s (under ls) = (s.place ≡ Under) × (s.shape ≡ shape_of t ls) × (label_fault t ls ≡ false)
 
 -- what a line leaves: a fault of form ends it, else the state stands at the next place and the answer is the same
 abbrev pub Goes : Table → List ℕ → ℕ → State → State → List Item → Place → List Item → Type 0
@@ -89,7 +92,7 @@ head-bad t register sender s n ls xs e h = rw (e, ne_eqb n 0 h)
 
 module _ (t : Table) (register : List ℕ) (sender : ℕ) (s : State) (form : s.form ≡ 0) (from : s.line ≡ 0 → ⊥) where
   -- a line that is nothing to the reader
-  passes : (p : Place) (n : ℕ) (xs : List Item) → Agrees t (moved s n) p → Goes t register sender s (moved s n) [] p xs
+  passes : (p : Place) (n : Spots.Place) (xs : List Item) → Agrees t (moved s n) p → Goes t register sender s (moved s n) [] p xs
   passes p n xs a = (λ h. absurd (h form), λ h. (a, refl), refl)
 
   -- ---- a label line
@@ -107,7 +110,7 @@ module _ (t : Table) (register : List ℕ) (sender : ℕ) (s : State) (form : s.
   -- ---- a data line under labels
   module _
       (ls : List (List ℕ)) (l : List ℕ) (xs : List Item)
-      (there : s.place ≡ 2) (shape : s.shape ≡ shape_of t ls) (right : label_fault t ls ≡ false)
+      (there : s.place ≡ Under) (shape : s.shape ≡ shape_of t ls) (right : label_fault t ls ≡ false)
       (reads : read_by t (shape_of t ls) l ≡ read_given (wrong_column t ls l) (row_of t ls l))
       (sends : wrong_column t ls l ≡ 0 → may_send t register sender (over 0 (row_of t ls l) (replicate widest_row 0)) ≡ may_send t register sender (row_of t ls l)) where
     stays : (n : State) → n.place ≡ s.place → n.shape ≡ s.shape → Agrees t n (under ls)
@@ -218,21 +221,21 @@ Reads t register sender l =
 
 -- a line, whatever its mark
 module _ (t : Table) (register : List ℕ) (sender : ℕ) (s : State) (form : s.form ≡ 0) (from : s.line ≡ 0 → ⊥) (l : List ℕ) (reads : Reads t register sender l) (xs : List Item) where
-  name-go : (b : Bool) → Goes t register sender s (moved s (on b 1 0)) [] (on b awaiting outside) xs
-  name-go true = passes t register sender s form from awaiting 1 xs refl
-  name-go false = passes t register sender s form from outside 0 xs refl
+  name-go : (b : Bool) → Goes t register sender s (moved s (on b Awaiting Outside)) [] (on b awaiting outside) xs
+  name-go true = passes t register sender s form from awaiting Awaiting xs refl
+  name-go false = passes t register sender s form from outside Outside xs refl
 
   mark-go : (m : Mark) (p : Place) → Agrees t s p → Goes t register sender s (step_at t register sender s l m) (seen m s.line l p) (place_after t m l p) xs
-  mark-go Marks.Group p a = passes t register sender s form from outside 0 xs refl
+  mark-go Marks.Group p a = passes t register sender s form from outside Outside xs refl
   mark-go Marks.Table p a = name-go (same (until 124 (after_mark l)) (table_name t))
-  mark-go Marks.Labels outside a = rw (ne_eqb s.place 1 (λ e. omega arith)) (passes t register sender s form from outside 0 xs refl)
-  mark-go Marks.Labels awaiting a = rw (eq-eqb s.place 1 a) (labels-step t register sender s form from (fields (after_mark l)) xs)
-  mark-go Marks.Labels (under ls) a = let e = a.0 in rw (ne_eqb s.place 1 (λ q. omega arith)) (passes t register sender s form from outside 0 xs refl)
-  mark-go Marks.Data outside a = rw (ne_eqb s.place 2 (λ e. omega arith)) (passes t register sender s form from outside s.place xs a)
-  mark-go Marks.Data awaiting a = rw (ne_eqb s.place 2 (λ e. omega arith)) (passes t register sender s form from awaiting s.place xs a)
+  mark-go Marks.Labels outside a = rw (ap is_awaiting a) (passes t register sender s form from outside Outside xs refl)
+  mark-go Marks.Labels awaiting a = rw (ap is_awaiting a) (labels-step t register sender s form from (fields (after_mark l)) xs)
+  mark-go Marks.Labels (under ls) a = rw (ap is_awaiting a.0) (passes t register sender s form from outside Outside xs refl)
+  mark-go Marks.Data outside a = rw (ap is_under a) (passes t register sender s form from outside s.place xs a)
+  mark-go Marks.Data awaiting a = rw (ap is_under a) (passes t register sender s form from awaiting s.place xs a)
   mark-go Marks.Data (under ls) a =
       let r = reads ls a.2 in
-      rw (eq-eqb s.place 2 a.0) (data-step t register sender s form from ls l xs a.0 a.1 a.2 r.0 r.1)
+      rw (ap is_under a.0) (data-step t register sender s form from ls l xs a.0 a.1 a.2 r.0 r.1)
 
   pub line-go : (p : Place) → Agrees t s p → Goes t register sender s (step_by t register sender s l) (seen (mark_of l) s.line l p) (place_after t (mark_of l) l p) xs
   unfolding step_by

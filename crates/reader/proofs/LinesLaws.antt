@@ -21,6 +21,8 @@ use Rattle.turbo_lines.proofs.LineLaws.{lines_cons, lines_none, after-line-short
 use Rattle.columns.specs.declared.Table.{Table}
 use Rattle.columns.specs.Tables.{row_width}
 use Rattle.reader_step.specs.declared.State.{State}
+use Rattle.reader_step.specs.declared.Place.TheVariants.{Outside}
+use Rattle.reader_step.specs.Place.{is_awaiting, is_under}
 use Rattle.reader.specs.declared.Fault.TheVariants.{Form, Field, Owner}
 use Rattle.reader.specs.Items.{Item, Place, outside, place_after, seen, in_front, items}
 use Rattle.rows.specs.declared.Shape.{Shape}
@@ -81,9 +83,9 @@ mark-few : (t : Table) (register : List ℕ) (sender : ℕ) (s : State) (l : Lis
 mark-few t register sender s l Marks.Group = omega arith
 mark-few t register sender s l Marks.Table = omega arith
 mark-few t register sender s l Marks.Labels =
-    on-rows (eqb s.place 1) (label_step s (shape_of t (fields (after_mark l)))) (moved s 0) _ (label-few s (shape_of t (fields (after_mark l)))) (omega arith)
+    on-rows (is_awaiting s.place) (label_step s (shape_of t (fields (after_mark l)))) (moved s Outside) _ (label-few s (shape_of t (fields (after_mark l)))) (omega arith)
 mark-few t register sender s l Marks.Data =
-    on-rows (eqb s.place 2) (data_step t register sender s l) (moved s s.place) _ (data-few t register sender s l) (omega arith)
+    on-rows (is_under s.place) (data_step t register sender s l) (moved s s.place) _ (data-few t register sender s l) (omega arith)
 
 line-few : (t : Table) (register : List ℕ) (sender : ℕ) (s : State) (l : List ℕ) → (step_by t register sender s l).rows ≤ s.rows + 1
 unfolding step_by

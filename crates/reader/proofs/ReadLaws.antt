@@ -14,6 +14,8 @@ use Rattle.register.specs.Register.{grants, may_send}
 use Rattle.rows.specs.Shape.{IsShape}
 use Rattle.rows.proofs.RowLaws.{shape-reads, shape-sound, row-length}
 use Rattle.reader_step.specs.declared.State.{State}
+use Rattle.reader_step.specs.declared.Place.TheVariants.{Under}
+use Rattle.reader_step.specs.Place.{place_number}
 use Rattle.reader.specs.Items.{Place, outside, awaiting, under}
 use Rattle.reader_step.proofs.WidthLaws.{width-most, width-owner}
 use Rattle.reader.proofs.FoldLaws.{Agrees, Reads}
@@ -46,7 +48,7 @@ pub line-fronts : (t : Table) (l : List ℕ) → Fronts t l
 line-fronts t l ls e w = (row-length t ls l w, row-front t (row_of t ls l) (row-length t ls l w))
 
 -- a state under labels holds their shape
-pub holds-shape : (t : Table) (s : State) (p : Place) → Agrees t s p → s.place ≡ 2 → IsShape t s.shape
-holds-shape t s outside a h = absurd (omega arith)
-holds-shape t s awaiting a h = absurd (omega arith)
+pub holds-shape : (t : Table) (s : State) (p : Place) → Agrees t s p → s.place ≡ Under → IsShape t s.shape
+holds-shape t s outside a h = absurd (let e = ap place_number (sym a ∙ h) in omega arith)
+holds-shape t s awaiting a h = absurd (let e = ap place_number (sym a ∙ h) in omega arith)
 holds-shape t s (under ls) a h = rw a.1 (shape-sound t ls a.2)

@@ -28,7 +28,10 @@ use Rattle.std.specs.Prelude.{Result}
 use Rattle.rows.specs.Shape.{shape_of}
 use Rattle.rows.specs.Reading.{read_by, read_given}
 use Rattle.columns.specs.Layout.{widest_row}
+use Rattle.reader_step.specs.declared.Place as Spots
+use Rattle.reader_step.specs.declared.Place.TheVariants.{Outside, Awaiting, Under}
 use Rattle.reader_step.specs.declared.State.{State}
+use Rattle.reader_step.specs.Place.{is_awaiting, is_under}
 use Rattle.reader.specs.Items.{Item, head, row, Place, outside, awaiting, under, place_after, seen, in_front}
 use Rattle.reader.specs.Staging.{rows_up_to, laid}
 use Rattle.reader_step.specs.Step.{moved, misformed, labelled, mistyped, disowned, one_row_more, data_step, label_step, step_at, step_by, staged, row_staged, data_staged, staged_at, stage_by}
@@ -115,7 +118,7 @@ module _
         count = λ k. ap length (append-nil done) ∙ c k;
       }
 
-  stage-passes : (n : ℕ) (xs : List Item) → Stages t register sender s (moved s n) [] xs done st₀ (laid t done st₀)
+  stage-passes : (n : Spots.Place) (xs : List Item) → Stages t register sender s (moved s n) [] xs done st₀ (laid t done st₀)
   stage-passes n xs = nothing (moved s n) [] xs (λ h. absurd (h form)) (λ h. refl) so_far
 
   stage-labels : (ls : List (List ℕ)) (xs : List Item) → (b : Bool) → label_fault t ls ≡ b
@@ -192,7 +195,7 @@ module _
           ∙ ap (λ (r : List ℕ). on (eqb (length (fields l)) (length ls)) (on (eqb s.wrong 0) r area) area)
           (ap (λ (r : Result (List ℕ) ℕ). row_staged t register sender s r area) reads ∙ row-laying (eqb (wrong_column t ls l) 0) refl)
 
-      stage-data : s.place ≡ 2 → Stages t register sender s (data_step t register sender s l) (row s.line ls l ∷ []) xs done st₀ (data_staged t register sender s l area)
+      stage-data : s.place ≡ Under → Stages t register sender s (data_step t register sender s l) (row s.line ls l ∷ []) xs done st₀ (data_staged t register sender s l area)
       stage-data there =
           subst (λ (n : State). Stages t register sender s n (row s.line ls l ∷ []) xs done st₀ (data_staged t register sender s l area))
           (sym (data-tested t register sender s form from ls l xs there shape right reads sends))
@@ -209,7 +212,7 @@ module _
     (t : Table) (register : List ℕ) (sender : ℕ) (s : State) (form : s.form ≡ 0) (from : s.line ≡ 0 → ⊥)
     (wide : 0 < row_width t) (done : List (List ℕ)) (st₀ : List ℕ) (all : Wide (row_width t) done) (so_far : clean s ≡ true → length done ≡ s.rows)
     (l : List ℕ) (reads : Reads t register sender l) (fronts : Fronts t l) (xs : List Item) where
-  pass : (n : ℕ) → Stages t register sender s (moved s n) [] xs done st₀ (laid t done st₀)
+  pass : (n : Spots.Place) → Stages t register sender s (moved s n) [] xs done st₀ (laid t done st₀)
   pass n = stage-passes t register sender s form from wide done st₀ all so_far n xs
 
   label : (ls : List (List ℕ)) → Stages t register sender s (label_step s (shape_of t ls)) (head s.line ls ∷ []) xs done st₀ (laid t done st₀)
@@ -220,16 +223,16 @@ module _
 
   mark-stages : (m : Mark) (p : Place) → Agrees t s p
       → Stages t register sender s (step_at t register sender s l m) (seen m s.line l p) xs done st₀ (staged_at t register sender s l m (laid t done st₀))
-  mark-stages Marks.Group p a = pass 0
-  mark-stages Marks.Table p a = pass (on (same (until 124 (after_mark l)) (table_name t)) 1 0)
-  mark-stages Marks.Labels outside a = rw (ne_eqb s.place 1 (λ e. omega arith)) (pass 0)
-  mark-stages Marks.Labels awaiting a = rw (eq-eqb s.place 1 a) (label (fields (after_mark l)))
-  mark-stages Marks.Labels (under ls) a = let e = a.0 in rw (ne_eqb s.place 1 (λ q. omega arith)) (pass 0)
-  mark-stages Marks.Data outside a = rw (ne_eqb s.place 2 (λ e. omega arith)) (pass s.place)
-  mark-stages Marks.Data awaiting a = rw (ne_eqb s.place 2 (λ e. omega arith)) (pass s.place)
+  mark-stages Marks.Group p a = pass Outside
+  mark-stages Marks.Table p a = pass (on (same (until 124 (after_mark l)) (table_name t)) Awaiting Outside)
+  mark-stages Marks.Labels outside a = rw (ap is_awaiting a) (pass Outside)
+  mark-stages Marks.Labels awaiting a = rw (ap is_awaiting a) (label (fields (after_mark l)))
+  mark-stages Marks.Labels (under ls) a = rw (ap is_awaiting a.0) (pass Outside)
+  mark-stages Marks.Data outside a = rw (ap is_under a) (pass s.place)
+  mark-stages Marks.Data awaiting a = rw (ap is_under a) (pass s.place)
   mark-stages Marks.Data (under ls) a =
       let r = reads ls a.2 in
-      rw (eq-eqb s.place 2 a.0)
+      rw (ap is_under a.0)
       (stage-data t register sender s form from wide done st₀ all so_far ls l xs (fronts ls a.2) a.1 a.2 r.0 r.1 a.0)
 
   pub line-stages : (p : Place) → Agrees t s p

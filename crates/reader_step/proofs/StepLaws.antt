@@ -1,6 +1,8 @@
 use Prim.Native.Nat.{ℕ}
 use mathlib.Core.Path.{◌≡◌, refl, ap, ◌∙◌}
+use mathlib.Core.Bool.{false}
 use mathlib.Core.List.{List}
+use mathlib.Core.Logic.{◌⊎◌, ⊎_elim}
 use borrow.Author.Tests.{eq-eqb, ne_eqb}
 use lib.ListN.{length}
 use Rattle.turbo_lines.specs.declared.Mark.TheVariants.{Group, Table, Labels, Data}
@@ -10,10 +12,19 @@ use Rattle.columns.specs.declared.Table as Tables
 use Rattle.rows.specs.declared.Shape.{Shape}
 use Rattle.rows.specs.Shape.{no_shape, shape_of}
 use Rattle.rows.specs.Reading.{read_by}
+use Rattle.reader_step.specs.declared.Place.{Place}
+use Rattle.reader_step.specs.declared.Place.TheVariants.{Outside, Awaiting, Under}
 use Rattle.reader_step.specs.declared.State.{State}
+use Rattle.reader_step.specs.Place.{is_awaiting, is_under}
 use Rattle.reader_step.specs.Step.{moved, misformed, row_step, data_step, label_step, place_named, step_by, line_step, row_staged, data_staged, stage_by, line_staged, Fresh}
 
 -- Which case of a line's step holds. Assumes nothing.
+
+pub not-awaiting : (p : Place) → (p ≡ Outside) ⊎ (p ≡ Under) → is_awaiting p ≡ false
+not-awaiting p h = ⊎_elim (λ e. ap is_awaiting e) (λ e. ap is_awaiting e) h
+
+pub not-under : (p : Place) → (p ≡ Outside) ⊎ (p ≡ Awaiting) → is_under p ≡ false
+not-under p h = ⊎_elim (λ e. ap is_under e) (λ e. ap is_under e) h
 
 module _ (t : Tables.Table) (register : List ℕ) (sender : ℕ) (s : State) (l st : List ℕ) where
   -- ---- a data line
@@ -31,7 +42,7 @@ module _ (t : Tables.Table) (register : List ℕ) (sender : ℕ) (s : State) (l 
     data-read h = rw (eq-eqb _ _ count, eq-eqb s.wrong 0 h) (refl, refl)
 
   -- ---- a line of each mark
-  pub line-group : mark_of l ≡ Group → (moved s 0 ≡ step_by t register sender s l) × (st ≡ stage_by t register sender s l st)
+  pub line-group : mark_of l ≡ Group → (moved s Outside ≡ step_by t register sender s l) × (st ≡ stage_by t register sender s l st)
   unfolding step_by stage_by
   line-group m = rw m (refl, refl)
 
@@ -39,21 +50,21 @@ module _ (t : Tables.Table) (register : List ℕ) (sender : ℕ) (s : State) (l 
   unfolding step_by stage_by
   line-table m = rw m (refl, refl)
 
-  pub line-labels : mark_of l ≡ Labels → s.place ≡ 1 → (label_step s (shape_of t (fields (after_mark l))) ≡ step_by t register sender s l) × (st ≡ stage_by t register sender s l st)
+  pub line-labels : mark_of l ≡ Labels → s.place ≡ Awaiting → (label_step s (shape_of t (fields (after_mark l))) ≡ step_by t register sender s l) × (st ≡ stage_by t register sender s l st)
   unfolding step_by stage_by
-  line-labels m h = rw (m, eq-eqb s.place 1 h) (refl, refl)
+  line-labels m h = rw (m, ap is_awaiting h) (refl, refl)
 
-  pub line-labels-skipped : mark_of l ≡ Labels → (s.place ≡ 1 → ⊥) → (moved s 0 ≡ step_by t register sender s l) × (st ≡ stage_by t register sender s l st)
+  pub line-labels-skipped : mark_of l ≡ Labels → is_awaiting s.place ≡ false → (moved s Outside ≡ step_by t register sender s l) × (st ≡ stage_by t register sender s l st)
   unfolding step_by stage_by
-  line-labels-skipped m h = rw (m, ne_eqb s.place 1 h) (refl, refl)
+  line-labels-skipped m h = rw (m, h) (refl, refl)
 
-  pub line-data : mark_of l ≡ Data → s.place ≡ 2 → (data_step t register sender s l ≡ step_by t register sender s l) × (data_staged t register sender s l st ≡ stage_by t register sender s l st)
+  pub line-data : mark_of l ≡ Data → s.place ≡ Under → (data_step t register sender s l ≡ step_by t register sender s l) × (data_staged t register sender s l st ≡ stage_by t register sender s l st)
   unfolding step_by stage_by
-  line-data m h = rw (m, eq-eqb s.place 2 h) (refl, refl)
+  line-data m h = rw (m, ap is_under h) (refl, refl)
 
-  pub line-data-skipped : mark_of l ≡ Data → (s.place ≡ 2 → ⊥) → (moved s s.place ≡ step_by t register sender s l) × (st ≡ stage_by t register sender s l st)
+  pub line-data-skipped : mark_of l ≡ Data → is_under s.place ≡ false → (moved s s.place ≡ step_by t register sender s l) × (st ≡ stage_by t register sender s l st)
   unfolding step_by stage_by
-  line-data-skipped m h = rw (m, ne_eqb s.place 2 h) (refl, refl)
+  line-data-skipped m h = rw (m, h) (refl, refl)
 
   -- ---- a line, whatever came before it
   pub line-goes : s.form ≡ 0 → (step_by t register sender s l ≡ line_step t register sender s l) × (stage_by t register sender s l st ≡ line_staged t register sender s l st)
@@ -65,16 +76,16 @@ module _ (t : Tables.Table) (register : List ℕ) (sender : ℕ) (s : State) (l 
   line-counted h = rw (ne_eqb s.form 0 h) (refl, refl)
 
 -- all that is kept before any line
-abbrev made : ℕ → ℕ → ℕ → ℕ → ℕ → ℕ → ℕ → Shape → State
+abbrev made : Place → ℕ → ℕ → ℕ → ℕ → ℕ → ℕ → Shape → State
 made p l f w c o r h = record { place = p; line = l; form = f; wrong = w; column = c; owner = o; rows = r; shape = h }
 
-pub fresh-one : (s : State) → Fresh s → s ≡ made 0 1 0 0 0 0 0 no_shape
+pub fresh-one : (s : State) → Fresh s → s ≡ made Outside 1 0 0 0 0 0 no_shape
 fresh-one s (p, l, f, w, c, o, r, h) =
-    ap (λ (x : ℕ). made x s.line s.form s.wrong s.column s.owner s.rows s.shape) p
-    ∙ ap (λ (x : ℕ). made 0 x s.form s.wrong s.column s.owner s.rows s.shape) l
-    ∙ ap (λ (x : ℕ). made 0 1 x s.wrong s.column s.owner s.rows s.shape) f
-    ∙ ap (λ (x : ℕ). made 0 1 0 x s.column s.owner s.rows s.shape) w
-    ∙ ap (λ (x : ℕ). made 0 1 0 0 x s.owner s.rows s.shape) c
-    ∙ ap (λ (x : ℕ). made 0 1 0 0 0 x s.rows s.shape) o
-    ∙ ap (λ (x : ℕ). made 0 1 0 0 0 0 x s.shape) r
-    ∙ ap (made 0 1 0 0 0 0 0) h
+    ap (λ (x : Place). made x s.line s.form s.wrong s.column s.owner s.rows s.shape) p
+    ∙ ap (λ (x : ℕ). made Outside x s.form s.wrong s.column s.owner s.rows s.shape) l
+    ∙ ap (λ (x : ℕ). made Outside 1 x s.wrong s.column s.owner s.rows s.shape) f
+    ∙ ap (λ (x : ℕ). made Outside 1 0 x s.column s.owner s.rows s.shape) w
+    ∙ ap (λ (x : ℕ). made Outside 1 0 0 x s.owner s.rows s.shape) c
+    ∙ ap (λ (x : ℕ). made Outside 1 0 0 0 x s.rows s.shape) o
+    ∙ ap (λ (x : ℕ). made Outside 1 0 0 0 0 x s.shape) r
+    ∙ ap (made Outside 1 0 0 0 0 0) h

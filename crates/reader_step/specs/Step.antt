@@ -13,10 +13,13 @@ use Rattle.register.specs.Register.{may_send}
 use Rattle.rows.specs.declared.Shape.{Shape}
 use Rattle.rows.specs.Shape.{no_shape, shape_of}
 use Rattle.rows.specs.Reading.{read_by}
+use Rattle.reader_step.specs.declared.Place.{Place}
+use Rattle.reader_step.specs.declared.Place.TheVariants.{Outside, Awaiting, Under}
 use Rattle.reader_step.specs.declared.State.{State}
+use Rattle.reader_step.specs.Place.{is_awaiting, is_under}
 
--- the state after a line that changes only the place: 0 outside the table, 1 between its `\T` and `\L` lines, 2 under its labels
-abbrev pub moved : State → ℕ → State
+-- the state after a line that changes only the place
+abbrev pub moved : State → Place → State
 moved s p = record { place = p; line = s.line + 1; form = s.form; wrong = s.wrong; column = s.column; owner = s.owner; rows = s.rows; shape = s.shape }
 
 -- a fault of form in this line
@@ -25,7 +28,7 @@ misformed s = record { place = s.place; line = s.line + 1; form = s.line; wrong 
 
 -- labels
 abbrev pub labelled : State → Shape → State
-labelled s h = record { place = 2; line = s.line + 1; form = s.form; wrong = s.wrong; column = s.column; owner = s.owner; rows = s.rows; shape = h }
+labelled s h = record { place = Under; line = s.line + 1; form = s.form; wrong = s.wrong; column = s.column; owner = s.owner; rows = s.rows; shape = h }
 
 -- a field outside its type, in column c of this line
 abbrev pub mistyped : State → ℕ → State
@@ -56,14 +59,14 @@ unfoldable pub label_step : State → Shape → State
 label_step s h = on h.fault (misformed s) (labelled s h)
 
 -- the place after a `\T` line with this name
-abbrev pub place_named : Table → List ℕ → ℕ
-place_named t name = on (same name (table_name t)) 1 0
+abbrev pub place_named : Table → List ℕ → Place
+place_named t name = on (same name (table_name t)) Awaiting Outside
 
 abbrev pub step_at : Table → List ℕ → ℕ → State → List ℕ → Mark → State
-step_at t register sender s l Marks.Group = moved s 0
+step_at t register sender s l Marks.Group = moved s Outside
 step_at t register sender s l Marks.Table = moved s (place_named t (until 124 (after_mark l)))
-step_at t register sender s l Marks.Labels = on (eqb s.place 1) (label_step s (shape_of t (fields (after_mark l)))) (moved s 0)
-step_at t register sender s l Marks.Data = on (eqb s.place 2) (data_step t register sender s l) (moved s s.place)
+step_at t register sender s l Marks.Labels = on (is_awaiting s.place) (label_step s (shape_of t (fields (after_mark l)))) (moved s Outside)
+step_at t register sender s l Marks.Data = on (is_under s.place) (data_step t register sender s l) (moved s s.place)
 
 unfoldable pub step_by : Table → List ℕ → ℕ → State → List ℕ → State
 step_by t register sender s l = step_at t register sender s l (mark_of l)
@@ -90,7 +93,7 @@ abbrev pub staged_at : Table → List ℕ → ℕ → State → List ℕ → Mar
 staged_at t register sender s l Marks.Group staging = staging
 staged_at t register sender s l Marks.Table staging = staging
 staged_at t register sender s l Marks.Labels staging = staging
-staged_at t register sender s l Marks.Data staging = on (eqb s.place 2) (data_staged t register sender s l staging) staging
+staged_at t register sender s l Marks.Data staging = on (is_under s.place) (data_staged t register sender s l staging) staging
 
 unfoldable pub stage_by : Table → List ℕ → ℕ → State → List ℕ → List ℕ → List ℕ
 stage_by t register sender s l staging = staged_at t register sender s l (mark_of l) staging
@@ -101,4 +104,4 @@ line_staged t register sender s l staging = on (eqb s.form 0) (stage_by t regist
 
 -- a state before any line
 abbrev pub Fresh : State → Type 0
-Fresh s = (s.place ≡ 0) × (s.line ≡ 1) × (s.form ≡ 0) × (s.wrong ≡ 0) × (s.column ≡ 0) × (s.owner ≡ 0) × (s.rows ≡ 0) × (s.shape ≡ no_shape)
+Fresh s = (s.place ≡ Outside) × (s.line ≡ 1) × (s.form ≡ 0) × (s.wrong ≡ 0) × (s.column ≡ 0) × (s.owner ≡ 0) × (s.rows ≡ 0) × (s.shape ≡ no_shape)

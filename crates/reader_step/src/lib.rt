@@ -6,6 +6,8 @@ ghost use Rattle.rows.specs.Shape.{IsShape};
 ghost use Rattle.lists.specs.Text.{same};
 ghost use Rattle.columns.specs.Tables.{table_name};
 ghost use Rattle.columns.specs.Layout.{widest_row};
+ghost use Rattle.reader_step.specs.declared.Place.TheVariants.{Outside, Under};
+ghost use Rattle.reader_step.specs.Place.{place_number, place_read};
 ghost use Rattle.reader_step.specs.Step.{moved, misformed, labelled, mistyped, disowned, one_row_more, row_step, data_step, label_step, place_named, step_by, line_step, Fresh};
 ghost use Rattle.reader_step.specs.Step.{staged, row_staged, data_staged, stage_by, line_staged};
 
@@ -13,11 +15,48 @@ use columns::Table;
 use rows::Shape;
 use turbo_lines::Mark;
 
-// What is kept of the lines so far. `place`: 0 outside the table, 1 between its `\T` and `\L` lines, 2 under its labels.
+// Where in the line order: outside the table, between its `\T` and `\L` lines, or under its labels.
+#[derive(Clone, Copy)]
+pub enum Place {
+    Outside,
+    Awaiting,
+    Under,
+}
+
+// The number by which a place is kept between two parts.
+impl From<Place> for u64 {
+    ghost from_gives = { λ place n. n ≡ place_number place };
+
+    fn from(place: Place) -> u64 {
+        match place {
+            Place::Outside => 0,
+            Place::Awaiting => 1,
+            Place::Under => 2,
+        }
+    }
+}
+
+// And back; a number that no place has is told.
+impl TryFrom<u64> for Place {
+    type Error = u64;
+
+    ghost try_from_gives = { λ n place. place ≡ place_read n };
+
+    fn try_from(number: u64) -> Result<Place, u64> {
+        match number {
+            0 => Ok(Place::Outside),
+            1 => Ok(Place::Awaiting),
+            2 => Ok(Place::Under),
+            _ => Err(number),
+        }
+    }
+}
+
+// What is kept of the lines so far: the place behind them, and the shape of the last labels.
 // `line` is the number of the line to come; `form`, `wrong` with `column`, and `owner` are the first lines at fault, 0 for none.
 #[derive(Clone, Copy)]
 pub struct State {
-    pub place: u8,
+    pub place: Place,
     pub line: usize,
     pub form: usize,
     pub wrong: usize,
@@ -28,7 +67,7 @@ pub struct State {
 }
 
 // A line that changes only the place.
-fn moved_to(state: State, place: u8) -> State
+fn moved_to(state: State, place: Place) -> State
     requires { state.line < 4294967296 }
     ensures { result ≡ moved state place }
 {
@@ -55,7 +94,7 @@ fn under_labels(state: State, shape: Shape) -> State
     ensures { result ≡ labelled state shape }
 {
     let mut n = state;
-    n.place = 2;
+    n.place = Place::Under;
     n.line = state.line + 1;
     n.shape = shape;
     n
@@ -170,13 +209,13 @@ fn data_step(
 }
 
 // The place after a `\T` line: whether its name is the table's.
-fn named_place(table: Table, name: &[u8]) -> u8
+fn named_place(table: Table, name: &[u8]) -> Place
     ensures { result ≡ place_named table name.now }
 {
     if is_named(table, name) {
-        return 1;
+        return Place::Awaiting;
     }
-    0
+    Place::Outside
 }
 
 fn is_named(table: Table, name: &[u8]) -> bool
@@ -198,30 +237,27 @@ fn line_by_mark(
     sender: u8,
     staging: &mut [u8],
 ) -> State
-    requires { (state.line < 4294967296) × (state.rows < 4294967296) × (state.place ≡ 2 → IsShape table state.shape) }
+    requires { (state.line < 4294967296) × (state.rows < 4294967296) × (state.place ≡ Under → IsShape table state.shape) }
     ensures state { result ≡ step_by table register.now sender state line.now }
     ensures area { staging.new ≡ stage_by table register.now sender state line.now staging.old }
 {
-    let place = state.place;
     match turbo_lines::mark_of(line) {
-        Mark::Group => moved_to(state, 0),
+        Mark::Group => moved_to(state, Place::Outside),
         Mark::Table => {
             let name = turbo::first_field(turbo_lines::after_mark(line));
             moved_to(state, named_place(table, name))
         }
-        Mark::Labels => {
-            if place == 1 {
+        Mark::Labels => match state.place {
+            Place::Awaiting => {
                 let shape = rows::read_labels(table, turbo_lines::after_mark(line));
-                return label_step(state, shape);
+                label_step(state, shape)
             }
-            moved_to(state, 0)
-        }
-        Mark::Data => {
-            if place == 2 {
-                return data_step(table, state, line, register, sender, staging);
-            }
-            moved_to(state, place)
-        }
+            Place::Outside | Place::Under => moved_to(state, Place::Outside),
+        },
+        Mark::Data => match state.place {
+            Place::Under => data_step(table, state, line, register, sender, staging),
+            Place::Outside | Place::Awaiting => moved_to(state, state.place),
+        },
     }
 }
 
@@ -235,7 +271,7 @@ pub fn line_step(
     sender: u8,
     staging: &mut [u8],
 ) -> State
-    requires { (state.line < 4294967296) × (state.rows < 4294967296) × (state.place ≡ 2 → IsShape table state.shape) }
+    requires { (state.line < 4294967296) × (state.rows < 4294967296) × (state.place ≡ Under → IsShape table state.shape) }
     ensures state { result ≡ line_step table register.now sender state line.now }
     ensures area { staging.new ≡ line_staged table register.now sender state line.now staging.old }
 {
@@ -250,7 +286,7 @@ pub fn start() -> State
     ensures { Fresh result }
 {
     State {
-        place: 0,
+        place: Place::Outside,
         line: 1,
         form: 0,
         wrong: 0,

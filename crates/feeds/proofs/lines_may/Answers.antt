@@ -1,7 +1,6 @@
-use mathlib.Core.Path.{refl}
 use Rattle.feeds.specs.Kept.{lines_may}
 use Rattle.feeds.proofs.lines_may.Goals as goal
 
 pub returns : goal.returns
 unfolding lines_may
-returns c = refl
+returns c = rw c.is_under.ensures

@@ -11,4 +11,4 @@ returns-then-numbers_may c =
 
 pub returns : goal.returns
 returns c =
-    c.no_feed.ensures ∙ read_none c.args.kept (sym c.numbers_may.ensures ∙ c.if-numbers_may.false)
+    read_none c.args.kept (sym c.numbers_may.ensures ∙ c.if-numbers_may.false)

@@ -1,16 +1,17 @@
-use mathlib.Core.Path.{◌∙◌}
-use Rattle.feeds.proofs.KeptLaws.{fitting-bytes, fitting-may, fitting-not}
+use mathlib.Core.Path.{sym}
+use Rattle.feeds.proofs.KeptLaws.{fitting-bytes, fitting-may, fitting-not, fitting-none}
 use Rattle.feeds.proofs.read_fitting.Goals as goal
 
-pub feed_in-feed-requires : goal.feed_in-feed-requires
-feed_in-feed-requires c = fitting-bytes c.args.kept c.requires
+pub feed_in-requires : goal.feed_in-requires
+feed_in-requires c = fitting-bytes c.args.kept c.requires
+
+pub returns-in_err-feed : goal.returns-in_err-feed
+returns-in_err-feed c = rw c.from_residual.ensures (fitting-none c.args.kept (sym c.in_err-feed.ensures))
 
 pub returns-then-feed_may : goal.returns-then-feed_may
 returns-then-feed_may c =
-    let f = c.feed_in-feed in
-    fitting-may c.args.kept f.result f.ensures c.feed_may.result c.feed_may.ensures c.if-feed_may.true
+    fitting-may c.args.kept c.in_ok-feed.feed (sym c.in_ok-feed.ensures) c.feed_may.result c.feed_may.ensures c.if-feed_may.true
 
 pub returns : goal.returns
 returns c =
-    let f = c.feed_in-feed in
-    c.no_feed.ensures ∙ fitting-not c.args.kept f.result f.ensures c.feed_may.result c.feed_may.ensures c.if-feed_may.false
+    fitting-not c.args.kept c.in_ok-feed.feed (sym c.in_ok-feed.ensures) c.feed_may.result c.feed_may.ensures c.if-feed_may.false

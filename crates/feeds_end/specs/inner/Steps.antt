@@ -5,7 +5,6 @@ use Rattle.columns.specs.Tables.{is_form}
 use Rattle.reader.specs.declared.Fault.TheVariants as Faults
 use Rattle.reader.specs.Rules.{Reading, is_line}
 use Rattle.feeds.specs.declared.Feed.{Feed}
-use Rattle.feeds.specs.declared.Kept.{Kept}
 use Rattle.calls.specs.declared.Answer.{Answer}
 use Rattle.calls.specs.declared.Answer.TheVariants.{Unsound, UnknownForm}
 use Rattle.calls.specs.declared.Counts.{Counts}
@@ -26,9 +25,9 @@ lines_reading f =
     ∷ [])
     (Ok s.rows)
 
--- numbers of a begun feed, no more rows than a message has, and the staged ones in range
-unfoldable pub staged_right : List ℕ → Kept → Bool
-staged_right staging k = k.begun && (leb k.feed.lines.rows most_rows && all_in_range (staged_rows staging k.feed))
+-- no more rows than a message has, and the staged ones in range
+unfoldable pub staged_right : List ℕ → Feed → Bool
+staged_right staging f = leb f.lines.rows most_rows && all_in_range (staged_rows staging f)
 
 -- what was found in the parts, or else what the staged rows come to
 unfoldable pub found_or : List ℕ → List ℕ → List ℕ → List ℕ → Counts → Feed → Answer
@@ -39,9 +38,9 @@ unfoldable pub known_or : List ℕ → List ℕ → List ℕ → List ℕ → Co
 known_or register staging book table c f = on (is_form f.form) (found_or register staging book table c f) UnknownForm
 
 -- 1 before that
-unfoldable pub right_answer : List ℕ → List ℕ → List ℕ → List ℕ → Counts → Kept → Answer
-right_answer register staging book table c k =
-    on (message_sound register book table c && staged_right staging k) (known_or register staging book table c k.feed) Unsound
+unfoldable pub right_answer : List ℕ → List ℕ → List ℕ → List ℕ → Counts → Feed → Answer
+right_answer register staging book table c f =
+    on (message_sound register book table c && staged_right staging f) (known_or register staging book table c f) Unsound
 
 -- what an answer leaves: the staged rows taken, or the day as it was
 unfoldable pub taken_from : Answer → Feed → List ℕ → List ℕ → List ℕ → Counts → Leaves
