@@ -1,13 +1,15 @@
 -- Laws of `over`: the length stays, what is outside stays, and writes join. Assumes nothing.
-use mathlib.Core.Path.{◌≡◌, refl, sym, ap}
+use mathlib.Core.Path.{◌≡◌, refl, sym, ap, ◌∙◌}
 use mathlib.Core.List.{List, [], ◌∷◌, ◌++◌}
-use Prim.Native.Nat.{ℕ, zero, suc, ◌+◌, ◌≤◌, ◌<◌}
+use Prim.Native.Nat.{ℕ, zero, suc, ◌+◌, ◌-◌, ◌≤◌, ◌<◌}
 use native.Mathlib.Nat.{zero-add, suc-add, le_of_suc-le-suc, not-suc-le-zero}
 use native.Mathlib.Omega.{arith}
-use lib.ListN.{length, take, drop, get_or, set}
-use lib.Seq.{drop-drop}
+use mathlib.Core.List.{append_assoc}
+use lib.ListN.{length, take, drop, get_or, set, length-drop}
+use lib.Seq.{drop-drop, length-take-le, paste}
 use borrow.Rule.Slice.PartMut.{put_mid}
 use Rattle.lists.specs.Part.{part, onto, over}
+use Rattle.lists.proofs.PartLaws.{part-is}
 
 pub length-onto : {A : Type 0} (vs d : List A) → length (onto vs d) ≡ length d
 unfolding onto
@@ -169,3 +171,12 @@ onto-front (x ∷ xs) (y ∷ ys) zs (z ∷ d) h = ap (λ l. y ∷ l) (onto-front
 -- what is written over a part that was lent, `&mut d[at..at + k]`
 pub over-put_mid : {A : Type 0} (at k : ℕ) (d vs : List A) → k ≡ length vs → at + k ≤ length d → put_mid at k d vs ≡ over at vs d
 over-put_mid at k d vs e h = rw e (rw drop-drop (sym (over-fits at vs d (omega arith))))
+
+-- what `copy_within` leaves
+pub over-within : {A : Type 0} (i j dest : ℕ) (d : List A) → i ≤ j → j ≤ length d → dest + (j - i) ≤ length d → paste d dest (drop i d) (j - i) ≡ over dest (part i (j - i) d) d
+over-within i j dest d h k r =
+    let n : length (take (j - i) (drop i d)) ≡ j - i = length-take-le (j - i) (drop i d) (rw (length-drop i d) (omega arith)) in
+    sym (ap (λ vs. over dest vs d) (part-is i (j - i) d)
+    ∙ over-fits dest (take (j - i) (drop i d)) d (rw n r)
+    ∙ ap (λ q. take dest d ++ (take (j - i) (drop i d) ++ drop (dest + q) d)) n
+    ∙ sym (append_assoc (take dest d) (take (j - i) (drop i d)) (drop (dest + (j - i)) d)))

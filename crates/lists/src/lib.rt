@@ -30,14 +30,11 @@ pub fn clear(bytes: &mut [u8], at: usize, count: usize)
 }
 
 // The elements from `start` up to `end` are copied to the place `by` further on.
-// kept: (d) a function for each direction: the two places overlap, so that this one has to run from the end and the other from the start, and std has no `copy_within`.
 pub fn shift_up<T: Copy>(elements: &mut [T], start: usize, end: usize, by: usize)
     requires { (start ≤ end) × (end + by ≤ length elements.old) }
     ensures { elements.new ≡ over (start + by) (part start (end - start) elements.old) elements.old }
 {
-    for i in (start..end).rev() {
-        elements[i + by] = elements[i];
-    }
+    elements.copy_within(start..end, start + by);
 }
 
 // The `count` elements that stand `by` behind `at` are copied to `at`.
@@ -45,9 +42,7 @@ pub fn shift_down<T: Copy>(elements: &mut [T], at: usize, count: usize, by: usiz
     requires { at + by + count ≤ length elements.old }
     ensures { elements.new ≡ over at (part (at + by) count elements.old) elements.old }
 {
-    for i in at..at + count {
-        elements[i] = elements[i + by];
-    }
+    elements.copy_within(at + by..at + by + count, at);
 }
 
 // The number that the `width` bytes from `at` on spell.

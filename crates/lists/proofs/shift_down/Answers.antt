@@ -1,16 +1,12 @@
-use Rattle.std.proofs.Common.{◌≡◌, ◌-◌, sym, arith}
-use Rattle.lists.proofs.PartLaws.{part-zero}
-use Rattle.lists.proofs.OverLaws.{over-nil}
-use Rattle.lists.proofs.TurnLaws.{shift-down-turn}
+use Rattle.std.proofs.Common.{◌≡◌, ◌+◌, ◌-◌, ◌∙◌, ap, arith}
+use Rattle.lists.specs.Part.{part, over}
+use Rattle.lists.proofs.OverLaws.{over-within}
 use Rattle.lists.proofs.shift_down.Goals as goal
 
-pub loop-i-init : goal.loop-i-init
-loop-i-init g c =
-    let z : c.args.at - c.args.at ≡ 0 = omega arith in
-    rw (z, part-zero) (sym (over-nil _ _))
-
-pub loop-i-preserved : goal.loop-i-preserved
-loop-i-preserved g c =
-    let l = c.loop-i in
+pub returns : goal.returns
+returns g c =
     let a = c.args in
-    shift-down-turn a.by a.at l.i c.index-elements-i.result a.elements.now l.elements l.invariant (omega arith) (omega arith) (sym c.index-elements-i.is)
+    let n : a.at + a.by + a.count - (a.at + a.by) ≡ a.count = omega arith in
+    c.copy_within.ensures.after
+    ∙ over-within (a.at + a.by) (a.at + a.by + a.count) a.at a.elements.now (omega arith) (omega arith) (omega arith)
+    ∙ ap (λ q. over a.at (part (a.at + a.by) q a.elements.now) a.elements.now) n
