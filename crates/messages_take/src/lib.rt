@@ -49,6 +49,42 @@ fn take_found(
     }
 }
 
+// Where the key from `from` on in `bodies` stands or, as `Err`, would be put, looked for at the place `hint` first, where there is one.
+fn find_from(
+    table: &[u8],
+    count: usize,
+    bodies: &[u8],
+    from: usize,
+    hint: Option<usize>,
+) -> Result<usize, usize>
+    requires row_wide_in_bounds { (count * row_wide ≤ length table.now) × (from + key_wide ≤ length bodies.now) }
+    requires table_value { sorted_rows (rows_of row_wide count table.now) ≡ true }
+    ensures { result ≡ lookup (part from key_wide bodies.now) (rows_of row_wide count table.now) }
+{
+    match hint {
+        Some(place) => table::find_near(table, count, bodies, from, place),
+        None => table::find(table, count, bodies, from),
+    }
+}
+
+// The update whose body stands from `from` on is taken into the rows, its key looked for at the place `hint` first, where there is one; the new count.
+fn take_near(
+    table: &mut [u8],
+    count: usize,
+    bodies: &[u8],
+    from: usize,
+    hint: Option<usize>,
+) -> usize
+    requires row_wide_in_bounds { (count * row_wide ≤ length table.old) × (from + body_wide ≤ length bodies.now) }
+    requires table_value { sorted_rows (rows_of row_wide count table.old) ≡ true }
+    requires row_wide_in_bounds_2 { length (taken row_rule (part from body_wide bodies.now) (rows_of row_wide count table.old)) * row_wide ≤ length table.old }
+    ensures value { result ≡ length (taken row_rule (part from body_wide bodies.now) (rows_of row_wide count table.old)) }
+    ensures table_after { table.new ≡ store row_wide count (taken row_rule (part from body_wide bodies.now) (rows_of row_wide count table.old)) table.old }
+{
+    let found = find_from(table, count, bodies, from, hint);
+    take_found(table, count, bodies, from, found)
+}
+
 // The update whose body stands from `from` on is taken into the rows; the new count.
 pub fn take_row(table: &mut [u8], count: usize, bodies: &[u8], from: usize) -> usize
     requires row_wide_in_bounds { (count * row_wide ≤ length table.old) × (from + body_wide ≤ length bodies.now) }
@@ -57,20 +93,29 @@ pub fn take_row(table: &mut [u8], count: usize, bodies: &[u8], from: usize) -> u
     ensures value { result ≡ length (taken row_rule (part from body_wide bodies.now) (rows_of row_wide count table.old)) }
     ensures table_after { table.new ≡ store row_wide count (taken row_rule (part from body_wide bodies.now) (rows_of row_wide count table.old)) table.old }
 {
-    let f = table::find(table, count, bodies, from);
-    take_found(table, count, bodies, from, f)
+    take_near(table, count, bodies, from, None)
 }
 
-// The same, its key looked for at the place `hint` first.
-fn take_near(table: &mut [u8], count: usize, bodies: &[u8], from: usize, hint: usize) -> usize
-    requires row_wide_in_bounds { (count * row_wide ≤ length table.old) × (from + body_wide ≤ length bodies.now) }
+// The updates whose bodies stand in `bodies` are taken into the rows, one after another, the key of each looked for at its place first, where it has one; the new count.
+pub fn take_placed(
+    table: &mut [u8],
+    count: usize,
+    bodies: &[u8],
+    updates: usize,
+    places: &[usize],
+) -> usize
+    requires row_wide_in_bounds { (count * row_wide ≤ length table.old) × (updates * body_wide ≤ length bodies.now) }
     requires table_value { sorted_rows (rows_of row_wide count table.old) ≡ true }
-    requires row_wide_in_bounds_2 { length (taken row_rule (part from body_wide bodies.now) (rows_of row_wide count table.old)) * row_wide ≤ length table.old }
-    ensures value { result ≡ length (taken row_rule (part from body_wide bodies.now) (rows_of row_wide count table.old)) }
-    ensures table_after { table.new ≡ store row_wide count (taken row_rule (part from body_wide bodies.now) (rows_of row_wide count table.old)) table.old }
+    requires row_wide_in_bounds_2 { length (taken_all row_rule (rows_of body_wide updates bodies.now) (rows_of row_wide count table.old)) * row_wide ≤ length table.old }
+    ensures value { result ≡ length (taken_all row_rule (rows_of body_wide updates bodies.now) (rows_of row_wide count table.old)) }
+    ensures table_after { table.new ≡ store row_wide count (taken_all row_rule (rows_of body_wide updates bodies.now) (rows_of row_wide count table.old)) table.old }
 {
-    let f = table::find_near(table, count, bodies, from, hint);
-    take_found(table, count, bodies, from, f)
+    let mut held = count;
+    for taken in 0..updates {
+        let hint = places.get(taken).copied();
+        held = take_near(table, held, bodies, taken * passage::BODY_WIDE, hint);
+    }
+    held
 }
 
 // The updates whose bodies stand in `bodies` are taken into the rows, one after another; the new count.
@@ -81,36 +126,7 @@ pub fn take_all(table: &mut [u8], count: usize, bodies: &[u8], updates: usize) -
     ensures value { result ≡ length (taken_all row_rule (rows_of body_wide updates bodies.now) (rows_of row_wide count table.old)) }
     ensures table_after { table.new ≡ store row_wide count (taken_all row_rule (rows_of body_wide updates bodies.now) (rows_of row_wide count table.old)) table.old }
 {
-    let mut held = count;
-    let mut i = 0;
-    while i < updates {
-        held = take_row(table, held, bodies, i * passage::BODY_WIDE);
-        i += 1;
-    }
-    held
-}
-
-// The same, the key of each looked for at its place first; the new count.
-pub fn take_placed(
-    table: &mut [u8],
-    count: usize,
-    bodies: &[u8],
-    updates: usize,
-    places: &[usize],
-) -> usize
-    requires row_wide_in_bounds { (count * row_wide ≤ length table.old) × (updates * body_wide ≤ length bodies.now) × (updates ≤ length places.now) }
-    requires table_value { sorted_rows (rows_of row_wide count table.old) ≡ true }
-    requires row_wide_in_bounds_2 { length (taken_all row_rule (rows_of body_wide updates bodies.now) (rows_of row_wide count table.old)) * row_wide ≤ length table.old }
-    ensures value { result ≡ length (taken_all row_rule (rows_of body_wide updates bodies.now) (rows_of row_wide count table.old)) }
-    ensures table_after { table.new ≡ store row_wide count (taken_all row_rule (rows_of body_wide updates bodies.now) (rows_of row_wide count table.old)) table.old }
-{
-    let mut held = count;
-    let mut k = 0;
-    while k < updates {
-        held = take_near(table, held, bodies, k * passage::BODY_WIDE, places[k]);
-        k += 1;
-    }
-    held
+    take_placed(table, count, bodies, updates, &[])
 }
 
 // ---- only where their rows fit
@@ -136,13 +152,11 @@ fn trial_fits(
 {
     lists::copy_to(trial, 0, &table[0..count * passage::ROW_WIDE]);
     let mut held = count;
-    let mut tried = 0;
-    while tried < updates {
+    for tried in 0..updates {
         held = take_row(trial, held, bodies, tried * passage::BODY_WIDE);
         if most < held {
             return false;
         }
-        tried += 1;
     }
     true
 }
@@ -173,18 +187,12 @@ fn locate_all(
     ensures { result ≡ absent (rows_of body_wide updates bodies.now) (rows_of row_wide count table.now) }
 {
     let mut missing = 0;
-    let mut k = 0;
-    while k < updates {
-        let f = table::find(table, count, bodies, k * passage::BODY_WIDE);
-        match f {
-            Ok(i) => {
-                places[k] = i;
-                k += 1;
-            }
-            Err(i) => {
-                places[k] = i;
+    for k in 0..updates {
+        match table::find(table, count, bodies, k * passage::BODY_WIDE) {
+            Ok(place) => places[k] = place,
+            Err(place) => {
+                places[k] = place;
                 missing += 1;
-                k += 1;
             }
         }
     }
@@ -205,10 +213,7 @@ fn fits_with(
     requires missing_value { missing ≡ absent (rows_of body_wide updates bodies.now) (rows_of row_wide count table.now) }
     ensures { result ≡ leb (length (taken_all row_rule (rows_of body_wide updates bodies.now) (rows_of row_wide count table.now))) most }
 {
-    if missing <= most - count {
-        return true;
-    }
-    fits_after(table, count, bodies, updates, most)
+    missing <= most - count || fits_after(table, count, bodies, updates, most)
 }
 
 // `take_fitting` where there could be too many rows, with room for a place of each update.

@@ -1,5 +1,4 @@
 use mathlib.Core.Path.{◌≡◌}
-use Prim.Native.Nat.{◌-◌, ◌≤◌}
 use lib.ListN.{length}
 use Rattle.lists.specs.Rows.{rows_of}
 use Rattle.passage.specs.Layout.{row_wide}
@@ -7,7 +6,4 @@ use Rattle.messages_take.proofs.AbsentLaws.{Looked}
 use Rattle.messages_take.proofs.locate_all.Given as goal
 
 abbrev pub invariant-loop-k : goal.invariant-loop-k
-invariant-loop-k l = (l.k ≤ l.updates) × (length l.places ≡ length l.initial.places) × Looked (rows_of row_wide l.count l.table) l.updates l.bodies l.k l.missing
-
-abbrev pub decreases-loop-k : goal.decreases-loop-k
-decreases-loop-k l = l.updates - l.k
+invariant-loop-k l = (length l.places ≡ length l.initial.places) × Looked (rows_of row_wide l.count l.table) l.updates l.bodies l.k l.missing

@@ -1,4 +1,3 @@
-use native.Mathlib.Omega.{arith}
 use Rattle.lists.specs.Rows.{rows_of}
 use Rattle.passage.specs.Layout.{row_wide}
 use Rattle.messages_take.proofs.LoopLaws.{after}
@@ -10,7 +9,7 @@ take_placed-requires c =
     let a = c.args in
     let p = c.requires in
     let room = fits-room a.count a.most (after a.bodies.now (rows_of row_wide a.count a.table.now) a.updates) a.table.now _ c.fits_with.ensures c.if-fits_with.true p.row_wide_in_bounds_2.0 in
-    record { row_wide_in_bounds = (p.row_wide_in_bounds.0, p.row_wide_in_bounds.1, omega arith); table_value = p.table_value; row_wide_in_bounds_2 = room }
+    record { row_wide_in_bounds = (p.row_wide_in_bounds.0, p.row_wide_in_bounds.1); table_value = p.table_value; row_wide_in_bounds_2 = room }
 
 pub returns-then-fits_with : goal.returns-then-fits_with
 returns-then-fits_with c =
