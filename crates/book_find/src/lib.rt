@@ -15,8 +15,7 @@ fn count_leading(book: &[u8], at: usize, entries: usize, number: u32, own: bool)
     requires { at + entries * entry_wide ≤ length book.now }
     ensures { result ≡ leading_of own number (rows_of entry_wide entries (drop at book.now)) }
 {
-    let mut i = 0;
-    while i < entries {
+    for i in 0..entries {
         let said = lists::get_number(
             book,
             at + i * book::ENTRY_WIDE + book::NUMBER_AT,
@@ -25,7 +24,6 @@ fn count_leading(book: &[u8], at: usize, entries: usize, number: u32, own: bool)
         if (said == number) != own {
             return i;
         }
-        i += 1;
     }
     entries
 }
@@ -75,10 +73,8 @@ pub fn plan_row(
             let p = i * book::PLAN_WIDE + book::KIND_WIDE;
             lists::copy_to(out, at, &book[p..p + passage::BODY_WIDE]);
             out[at + passage::HEARD_AT] = 0;
-            return true;
+            true
         }
-        Err(_) => {
-            return false;
-        }
+        Err(_) => false,
     }
 }

@@ -1,9 +1,5 @@
-use Prim.Native.Nat.{◌-◌, ◌≤◌}
 use Rattle.book_find.proofs.CountLaws.{Leads}
 use Rattle.book_find.proofs.count_leading.Given as goal
 
 abbrev pub invariant-loop-i : goal.invariant-loop-i
-invariant-loop-i l = (l.i ≤ l.entries) × Leads l.book l.at l.entries l.number l.own l.i
-
-abbrev pub decreases-loop-i : goal.decreases-loop-i
-decreases-loop-i l = l.entries - l.i
+invariant-loop-i l = Leads l.book l.at l.entries l.number l.own l.i

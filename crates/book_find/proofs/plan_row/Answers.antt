@@ -2,7 +2,7 @@ use mathlib.Core.Path.{◌≡◌, sym, ap, ◌∙◌}
 use mathlib.Core.List.{List}
 use Prim.Native.Nat.{ℕ, ◌+◌, ◌*◌, ◌<◌}
 use native.Mathlib.Omega.{arith}
-use lib.ListN.{length, length-set, length-take, length-drop}
+use lib.ListN.{length, length-take, length-drop}
 use Rattle.lists.specs.Part.{part, over}
 use Rattle.lists.proofs.OverLaws.{over-nil, length_over}
 use Rattle.passage.specs.Layout.{key_wide, body_wide}
@@ -50,10 +50,6 @@ pub bounds-out-at : goal.bounds-out-at
 bounds-out-at c =
     let l = ap length c.copy_to.ensures ∙ length_over _ _ _ in
     omega arith
-
-pub shape_of-out-in-Ok : goal.shape_of-out-in-Ok
-shape_of-out-in-Ok c =
-    length-set c.copy_to.new.elements (c.args.at + body_wide) 0 ∙ ap length c.copy_to.ensures ∙ length_over c.args.at _ c.args.out.now
 
 pub returns-in-Ok : goal.returns-in-Ok
 returns-in-Ok c =
