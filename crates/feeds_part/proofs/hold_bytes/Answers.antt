@@ -26,7 +26,7 @@ pub overflow_sub-held : goal.overflow_sub-held
 overflow_sub-held c = let k = c.smaller-fitting in omega (arith, (fit-most (4096 - c.args.size) (length c.args.rest.now) k.result k.ensures).1, c.if-size-ge4096.false)
 
 pub clear-requires : goal.clear-requires
-clear-requires c = let k = c.smaller-fitting in omega (arith, (fit-most (4096 - c.args.size) (length c.args.rest.now) k.result k.ensures).1, c.if-size-ge4096.false, c.requires, c.copy_to.auto.bytes)
+clear-requires c = let k = c.smaller-fitting in omega (arith, (fit-most (4096 - c.args.size) (length c.args.rest.now) k.result k.ensures).1, c.if-size-ge4096.false, c.requires, c.copy_to.auto.elements)
 
 pub returns : goal.returns
 returns c =
