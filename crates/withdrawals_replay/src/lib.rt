@@ -7,12 +7,12 @@ ghost use Rattle.lists.specs.Each.{Each};
 ghost use Rattle.lists.specs.Part.{part, over};
 ghost use Rattle.lists.specs.Rows.{rows_of, flat, store};
 ghost use Rattle.passage.specs.Layout.{key_wide, body_wide, row_wide};
-ghost use Rattle.keys.specs.Sorted.{sorted_rows, get, put};
+ghost use Rattle.keys.specs.Sorted.{sorted_rows, get, put, lookup};
 ghost use Rattle.update.specs.Rule.{row_rule};
 ghost use Rattle.table.specs.Rules.{most_rows, rows, table_room};
 ghost use Rattle.book.specs.Entries.{plan_wide, entry_wide, plan_body_of};
 ghost use Rattle.withdrawals_replay.specs.inner.Slots.{slot_wide, most_slots, slots_of, slot_key, slot_row, remove_one, removals, put_one, puts, settled, weight, weights};
-ghost use Rattle.withdrawals_replay.specs.inner.Worked.{begun_slot, names_at, take_in, heard_in};
+ghost use Rattle.withdrawals_replay.specs.inner.Worked.{begun_slot, names_at, take_in, heard_in, Below};
 
 // A slot: one byte, 1 where there is a row; then the row, or else its key and zero bytes.
 pub const SLOT_WIDE: usize = 1 + passage::ROW_WIDE;
@@ -34,7 +34,6 @@ fn begin_slot(book: &[u8], plans: usize, message: &[u8], from: usize, slots: &mu
     );
     if book_find::plan_row(book, plans, message, from, slots, at + 1) {
         slots[at] = 1;
-        return;
     }
 }
 
@@ -53,8 +52,7 @@ pub fn begin_slots(
     requires each { Each (λ (j : ℕ). j < entries) (take named order.now) }
     ensures { slots.new ≡ over 0 (flat (map (begun_slot (map plan_body_of (rows_of plan_wide plans book.now))) (names_at message.now (take named order.now)))) slots.old }
 {
-    let mut i = 0;
-    while i < named {
+    for i in 0..named {
         let p = order[i] as usize;
         begin_slot(
             book,
@@ -64,7 +62,6 @@ pub fn begin_slots(
             slots,
             i * SLOT_WIDE,
         );
-        i += 1;
     }
 }
 
@@ -84,61 +81,58 @@ pub fn take_into(slots: &mut [u8], at: usize, bodies: &[u8], from: usize)
     slots[at] = 1;
 }
 
-// The update whose body stands from `from` on is taken into the slot of its key, if there is one.
-fn take_update(
-    book: &[u8],
-    from: usize,
-    message: &[u8],
+// The passages that the entries of a message name: their places, by key, are the first of `order`.
+#[derive(Clone, Copy)]
+struct Names<'a> {
+    message: &'a [u8],
     entries: usize,
-    order: &[u32],
+    order: &'a [u32],
     named: usize,
-    slots: &mut [u8],
-)
-    requires body_wide_in_bounds { (from + body_wide ≤ length book.now) × (entries * entry_wide ≤ length message.now) × (named ≤ length order.now) × (named * slot_wide ≤ length slots.old) }
-    requires each { Each (λ (j : ℕ). j < entries) (take named order.now) }
-    requires order_value { sorted_rows (names_at message.now (take named order.now)) ≡ true }
-    requires slots_value { map slot_key (slots_of named slots.old) ≡ names_at message.now (take named order.now) }
-    ensures taken { slots_of named slots.new ≡ map (take_in (part from body_wide book.now)) (slots_of named slots.old) }
-    ensures rest { drop (named * slot_wide) slots.new ≡ drop (named * slot_wide) slots.old }
+    ghost entries_there: { entries * entry_wide ≤ length message.now },
+    ghost named_there: { named ≤ length order.now },
+    ghost places_below: { Below entries (take named order.now) },
+    ghost names_rise: { sorted_rows (names_at message.now (take named order.now)) ≡ true },
+}
+
+impl Names<'_> {
+    // Where the key from `from` on in `book` stands among the names, or, as `Err`, would stand.
+    fn find(self, book: &[u8], from: usize) -> Result<usize, usize>
+        requires { from + key_wide ≤ length book.now }
+        ensures { result ≡ lookup (part from key_wide book.now) (names_at self.entry.message.now (take self.entry.named self.entry.order.now)) }
+    {
+        sorting::find_place(
+            self.message,
+            self.entries,
+            book::BODY_AT,
+            book::ENTRY_WIDE,
+            self.order,
+            self.named,
+            book,
+            from,
+        )
+    }
+}
+
+// The update whose body stands from `from` on is taken into the slot of its key, if there is one.
+fn take_update(book: &[u8], from: usize, names: Names, slots: &mut [u8])
+    requires body_wide_in_bounds { (from + body_wide ≤ length book.now) × (names.named * slot_wide ≤ length slots.old) }
+    requires slots_value { map slot_key (slots_of names.named slots.old) ≡ names_at names.message.now (take names.named names.order.now) }
+    ensures taken { slots_of names.entry.named slots.new ≡ map (take_in (part from body_wide book.now)) (slots_of names.entry.named slots.old) }
+    ensures rest { drop (names.entry.named * slot_wide) slots.new ≡ drop (names.entry.named * slot_wide) slots.old }
 {
-    let f = sorting::find_place(
-        message,
-        entries,
-        book::BODY_AT,
-        book::ENTRY_WIDE,
-        order,
-        named,
-        book,
-        from,
-    );
+    let f = names.find(book, from);
     match f {
-        Ok(i) => {
-            take_into(slots, i * SLOT_WIDE, book, from);
-            return;
-        }
-        Err(_) => {
-            return;
-        }
+        Ok(i) => take_into(slots, i * SLOT_WIDE, book, from),
+        Err(_) => {}
     }
 }
 
 // The entry from `at` on is taken into its slot, if it stands and is of another message.
-fn replay_one(
-    book: &[u8],
-    at: usize,
-    number: u32,
-    message: &[u8],
-    entries: usize,
-    order: &[u32],
-    named: usize,
-    slots: &mut [u8],
-)
-    requires entry_wide_in_bounds { (at + entry_wide ≤ length book.now) × (entries * entry_wide ≤ length message.now) × (named ≤ length order.now) × (named * slot_wide ≤ length slots.old) }
-    requires each { Each (λ (j : ℕ). j < entries) (take named order.now) }
-    requires order_value { sorted_rows (names_at message.now (take named order.now)) ≡ true }
-    requires slots_value { map slot_key (slots_of named slots.old) ≡ names_at message.now (take named order.now) }
-    ensures taken { slots_of named slots.new ≡ map (heard_in number (part at entry_wide book.now ∷ [])) (slots_of named slots.old) }
-    ensures rest { drop (named * slot_wide) slots.new ≡ drop (named * slot_wide) slots.old }
+fn replay_one(book: &[u8], at: usize, number: u32, names: Names, slots: &mut [u8])
+    requires entry_wide_in_bounds { (at + entry_wide ≤ length book.now) × (names.named * slot_wide ≤ length slots.old) }
+    requires slots_value { map slot_key (slots_of names.named slots.old) ≡ names_at names.message.now (take names.named names.order.now) }
+    ensures taken { slots_of names.entry.named slots.new ≡ map (heard_in number (part at entry_wide book.now ∷ [])) (slots_of names.entry.named slots.old) }
+    ensures rest { drop (names.entry.named * slot_wide) slots.new ≡ drop (names.entry.named * slot_wide) slots.old }
 {
     let kind = book[at];
     if kind != 2 {
@@ -148,15 +142,7 @@ fn replay_one(
     if own == number {
         return;
     }
-    take_update(
-        book,
-        at + book::BODY_AT,
-        message,
-        entries,
-        order,
-        named,
-        slots,
-    );
+    take_update(book, at + book::BODY_AT, names, slots);
 }
 
 // So many updates from `at` on, one after another, in the order accepted.
@@ -178,19 +164,14 @@ pub fn replay(
     ensures taken { slots_of named slots.new ≡ map (heard_in number (rows_of entry_wide updates (drop at book.now))) (slots_of named slots.old) }
     ensures rest { drop (named * slot_wide) slots.new ≡ drop (named * slot_wide) slots.old }
 {
-    let mut i = 0;
-    while i < updates {
-        replay_one(
-            book,
-            at + i * book::ENTRY_WIDE,
-            number,
-            message,
-            entries,
-            order,
-            named,
-            slots,
-        );
-        i += 1;
+    let names = Names {
+        message,
+        entries,
+        order,
+        named,
+    };
+    for i in 0..updates {
+        replay_one(book, at + i * book::ENTRY_WIDE, number, names, slots);
     }
 }
 
@@ -208,17 +189,11 @@ fn weigh(table: &[u8], count: usize, slots: &[u8], at: usize, near: &mut usize) 
     match f {
         Ok(place) => {
             *near = place + 1;
-            if has == 1 {
-                return 1;
-            }
-            return 0;
+            if has == 1 { 1 } else { 0 }
         }
         Err(place) => {
             *near = place;
-            if has == 1 {
-                return 2;
-            }
-            return 1;
+            if has == 1 { 2 } else { 1 }
         }
     }
 }
@@ -230,12 +205,9 @@ fn count_after(table: &[u8], count: usize, slots: &[u8], named: usize) -> usize
     ensures { result ≡ count + weights (rows count table.now) (slots_of named slots.now) }
 {
     let mut sum = count;
-    let mut i = 0;
     let mut near = 0;
-    while i < named {
-        let w = weigh(table, count, slots, i * SLOT_WIDE, &mut near);
-        sum = sum + w;
-        i += 1;
+    for i in 0..named {
+        sum += weigh(table, count, slots, i * SLOT_WIDE, &mut near);
     }
     sum
 }
@@ -247,10 +219,7 @@ pub fn fits_after(table: &[u8], count: usize, slots: &[u8], named: usize) -> boo
     ensures { result ≡ leb (count + weights (rows count table.now) (slots_of named slots.now)) (table_room table.now + named) }
 {
     let most = table::rows_room(table);
-    if count + named <= most {
-        return true;
-    }
-    count_after(table, count, slots, named) <= most + named
+    count + named <= most || count_after(table, count, slots, named) <= most + named
 }
 
 // A slot without a row removes that of its key; the new count.
@@ -274,10 +243,8 @@ fn remove_all(table: &mut [u8], count: usize, slots: &[u8], named: usize) -> usi
     ensures table_after { table.new ≡ store row_wide count (removals (slots_of named slots.now) (rows count table.old)) table.old }
 {
     let mut held = count;
-    let mut i = 0;
-    while i < named {
+    for i in 0..named {
         held = remove_one(table, held, slots, i * SLOT_WIDE);
-        i += 1;
     }
     held
 }
@@ -325,11 +292,9 @@ fn put_all(table: &mut [u8], count: usize, slots: &[u8], named: usize) -> usize
     ensures table_after { table.new ≡ store row_wide count (puts (slots_of named slots.now) (rows count table.old)) table.old }
 {
     let mut held = count;
-    let mut i = 0;
     let mut near = 0;
-    while i < named {
+    for i in 0..named {
         held = put_one(table, held, slots, i * SLOT_WIDE, &mut near);
-        i += 1;
     }
     held
 }

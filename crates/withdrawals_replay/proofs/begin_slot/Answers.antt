@@ -52,15 +52,9 @@ returns-then-plan_row c =
     slot-planned a.at k a.slots.now _ _ (length_part a.from key_wide a.message.now c.requires.plan_wide_in_bounds.1) (rw (lent-part a.from key_wide a.message.now) at c.copy_to.ensures) c.clear.ensures
     (get k (plan_rows (bodies a.plans a.book.now))) _ plan.ensures.out_after (planned-whole (bodies a.plans a.book.now) (wide-bodies a.plans a.book.now c.requires.plan_wide_in_bounds.0) k) (sym plan.ensures.value ∙ c.if-plan_row.true)
 
-pub shape_of-slots : goal.shape_of-slots
-shape_of-slots c =
-    let a = c.args in
-    let l = length-set a.slots.now a.at 0 in
-    omega arith
-
-pub returns : goal.returns
+pub returns-else-plan_row : goal.returns-else-plan_row
 unfolding begun_slot
-returns c =
+returns-else-plan_row c =
     let a = c.args in
     let k = part a.from key_wide a.message.now in
     let plan = c.plan_row in

@@ -1,7 +1,5 @@
-use mathlib.Core.Path.{refl}
 use Prim.Native.Nat.{◌+◌, ◌*◌, ◌≤◌}
 use native.Mathlib.Omega.{arith}
-use borrow.Author.Rules.{rules}
 use lib.ListN.{get_or, length}
 use Rattle.book.specs.Entries.{entry_wide, body_at}
 use Rattle.passage.specs.Layout.{key_wide}
@@ -11,7 +9,7 @@ use Rattle.withdrawals_replay.proofs.begin_slots.Goals as goal
 pub loop-i-init : goal.loop-i-init
 loop-i-init c =
     let a = c.args in
-    (search rules, refl, begin-start a.plans a.book.now a.message.now a.entries a.order.now a.named c.requires.plan_wide_in_bounds.0 c.requires.plan_wide_in_bounds.1 c.requires.plan_wide_in_bounds.2 c.requires.each a.slots.now)
+    begin-start a.plans a.book.now a.message.now a.entries a.order.now a.named c.requires.plan_wide_in_bounds.0 c.requires.plan_wide_in_bounds.1 c.requires.plan_wide_in_bounds.2 c.requires.each a.slots.now
 
 pub overflow_cast-p : goal.overflow_cast-p
 overflow_cast-p c =
@@ -40,15 +38,12 @@ begin_slot-requires c =
 pub loop-i-preserved : goal.loop-i-preserved
 loop-i-preserved c =
     let a = c.args in
-    let loop = c.loop-i in (
-      omega arith,
-      omega arith,
-      begin-turn a.plans a.book.now a.message.now a.entries a.order.now a.named c.requires.plan_wide_in_bounds.0 c.requires.plan_wide_in_bounds.1 c.requires.plan_wide_in_bounds.2 c.requires.each a.slots.now loop.i loop.slots _ c.loop-i-test.true
-          loop.invariant.2 c.begin_slot.ensures,
-    )
+    let loop = c.loop-i in
+    begin-turn a.plans a.book.now a.message.now a.entries a.order.now a.named c.requires.plan_wide_in_bounds.0 c.requires.plan_wide_in_bounds.1 c.requires.plan_wide_in_bounds.2 c.requires.each a.slots.now loop.i loop.slots _ c.loop-i-test.true
+    loop.invariant c.begin_slot.ensures
 
 pub returns : goal.returns
 returns c =
     let a = c.args in
     let loop = c.loop-i in
-    begin-end a.plans a.book.now a.message.now a.entries a.order.now a.named c.requires.plan_wide_in_bounds.0 c.requires.plan_wide_in_bounds.1 c.requires.plan_wide_in_bounds.2 c.requires.each a.slots.now loop.i loop.slots (omega arith) loop.invariant.2
+    begin-end a.plans a.book.now a.message.now a.entries a.order.now a.named c.requires.plan_wide_in_bounds.0 c.requires.plan_wide_in_bounds.1 c.requires.plan_wide_in_bounds.2 c.requires.each a.slots.now loop.i loop.slots (omega arith) loop.invariant

@@ -1,7 +1,6 @@
 use mathlib.Core.List.{map}
 use mathlib.Core.Path.{◌≡◌}
-use Prim.Native.Nat.{◌-◌, ◌≤◌}
-use lib.ListN.{length, take}
+use lib.ListN.{take}
 use Rattle.book.proofs.PlanLaws.{bodies}
 use Rattle.lists.specs.Part.{over}
 use Rattle.lists.specs.Rows.{flat}
@@ -9,7 +8,4 @@ use Rattle.withdrawals_replay.specs.inner.Worked.{begun_slot, names_at}
 use Rattle.withdrawals_replay.proofs.begin_slots.Given as goal
 
 abbrev pub invariant-loop-i : goal.invariant-loop-i
-invariant-loop-i l = (l.i ≤ l.named) × (length l.slots ≡ length l.initial.slots) × (l.slots ≡ over 0 (flat (take l.i (map (begun_slot (bodies l.plans l.book)) (names_at l.message (take l.named l.order))))) l.initial.slots)
-
-abbrev pub decreases-loop-i : goal.decreases-loop-i
-decreases-loop-i l = l.named - l.i
+invariant-loop-i l = (l.slots ≡ over 0 (flat (take l.i (map (begun_slot (bodies l.plans l.book)) (names_at l.message (take l.named l.order))))) l.initial.slots)

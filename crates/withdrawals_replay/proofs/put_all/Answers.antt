@@ -1,10 +1,9 @@
 use mathlib.Core.Path.{◌≡◌}
 use Prim.Native.Nat.{◌+◌, ◌*◌, ◌≤◌}
 use native.Mathlib.Omega.{arith}
-use borrow.Author.Rules.{rules}
 use lib.ListN.{length}
 use Rattle.table.specs.Rules.{rows}
-use Rattle.table.proofs.RunLaws.{holds-length, holds_fits, holds-sorted}
+use Rattle.table.proofs.RunLaws.{holds_fits, holds-sorted}
 use Rattle.passage.specs.Layout.{row_wide}
 use Rattle.withdrawals_replay.specs.inner.Slots.{slot_wide, slots_of, puts}
 use Rattle.withdrawals_replay.proofs.TableLaws.{put-start, put-room, put-turn, puts-rises}
@@ -13,7 +12,7 @@ use Rattle.withdrawals_replay.proofs.put_all.Goals as goal
 pub loop-i-init : goal.loop-i-init
 loop-i-init c =
     let a = c.args in
-    (search rules, put-start a.count a.table.now a.slots.now c.requires.row_wide_in_bounds.0 c.requires.table_value)
+    put-start a.count a.table.now a.slots.now c.requires.row_wide_in_bounds.0 c.requires.table_value
 
 pub put_one-held-requires : goal.put_one-held-requires
 put_one-held-requires c =
@@ -23,7 +22,7 @@ put_one-held-requires c =
     let a = c.args in
     let loop = c.loop-i in
     let rs = puts (slots_of loop.i a.slots.now) (rows a.count a.table.now) in
-    let h = loop.invariant.1 in
+    let h = loop.invariant in
     record { row_wide_in_bounds = (holds_fits a.count a.table.now loop.held loop.table rs h, there, put-room a.count a.table.now a.slots.now loop.i loop.held loop.table h there space); table_value = holds-sorted a.count a.table.now loop.held loop.table rs h }
 
 pub loop-i-preserved : goal.loop-i-preserved
@@ -34,18 +33,12 @@ loop-i-preserved c =
     let a = c.args in
     let loop = c.loop-i in
     let one = c.put_one-held in
-    (omega arith, put-turn a.count a.table.now a.slots.now loop.i loop.held loop.table loop.invariant.1 there space one.result _ one.ensures.value one.ensures.table_after)
-
-pub shape_of-table : goal.shape_of-table
-shape_of-table c =
-    let a = c.args in
-    let loop = c.loop-i in
-    holds-length a.count a.table.now loop.held loop.table (puts (slots_of loop.i a.slots.now) (rows a.count a.table.now)) loop.invariant.1
+    put-turn a.count a.table.now a.slots.now loop.i loop.held loop.table loop.invariant there space one.result _ one.ensures.value one.ensures.table_after
 
 pub returns : goal.returns
 returns c =
     let a = c.args in
     let loop = c.loop-i in
     let e : loop.i ≡ a.named = omega arith in
-    let h = loop.invariant.1 in
+    let h = loop.invariant in
     record { value = rw e at h.count; table_after = rw e at h.stored }

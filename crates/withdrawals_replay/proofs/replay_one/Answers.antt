@@ -16,9 +16,9 @@ returns-then-own-number c =
 
 pub take_update-requires : goal.take_update-requires
 take_update-requires c =
-    record { body_wide_in_bounds = (omega arith, c.requires.entry_wide_in_bounds.1, c.requires.entry_wide_in_bounds.2, c.requires.entry_wide_in_bounds.3); each = c.requires.each; order_value = c.requires.order_value; slots_value = c.requires.slots_value }
+    record { body_wide_in_bounds = (omega arith, c.requires.entry_wide_in_bounds.1); slots_value = c.requires.slots_value }
 
 pub returns : goal.returns
 returns c =
     let a = c.args in
-    record { taken = c.take_update.ensures.taken ∙ entry_other a.number a.at a.book.now (slots_of a.named a.slots.now) c.requires.entry_wide_in_bounds.0 c.if-kind-ne2.false (λ e. c.if-own-number.false (c.get_number-own.ensures ∙ e)); rest = c.take_update.ensures.rest }
+    record { taken = c.take_update.ensures.taken ∙ entry_other a.number a.at a.book.now (slots_of a.names.named a.slots.now) c.requires.entry_wide_in_bounds.0 c.if-kind-ne2.false (λ e. c.if-own-number.false (c.get_number-own.ensures ∙ e)); rest = c.take_update.ensures.rest }

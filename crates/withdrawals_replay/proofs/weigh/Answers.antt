@@ -18,8 +18,8 @@ returns-then-has-eq1 c =
     let a = c.args in
     weigh-both a.count a.at _ a.table.now a.slots.now c.requires.row_wide_in_bounds.0 c.requires.row_wide_in_bounds.1 (sym c.in-Ok.is ∙ c.find_near-f.ensures) c.if-has-eq1.true
 
-pub returns-in-Ok : goal.returns-in-Ok
-returns-in-Ok c =
+pub returns-else-has-eq1 : goal.returns-else-has-eq1
+returns-else-has-eq1 c =
     let a = c.args in
     weigh-gone a.count a.at _ a.table.now a.slots.now c.requires.row_wide_in_bounds.0 c.requires.row_wide_in_bounds.1 (sym c.in-Ok.is ∙ c.find_near-f.ensures) c.if-has-eq1.false
 
@@ -28,7 +28,7 @@ returns-then-has-eq1-2 c =
     let a = c.args in
     weigh-come a.count a.at _ a.table.now a.slots.now c.requires.row_wide_in_bounds.0 c.requires.row_wide_in_bounds.1 (sym c.in-Err.is ∙ c.find_near-f.ensures) c.if-has-eq1-2.true
 
-pub returns-in-Err : goal.returns-in-Err
-returns-in-Err c =
+pub returns-else-has-eq1-2 : goal.returns-else-has-eq1-2
+returns-else-has-eq1-2 c =
     let a = c.args in
     weigh-neither a.count a.at _ a.table.now a.slots.now c.requires.row_wide_in_bounds.0 c.requires.row_wide_in_bounds.1 (sym c.in-Err.is ∙ c.find_near-f.ensures) c.if-has-eq1-2.false

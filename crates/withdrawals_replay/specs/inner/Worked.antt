@@ -1,5 +1,5 @@
 -- A slot worked out from the book: it begins with the plan's row, and updates change it; and the keys that entries name. Assumes nothing.
-use Rattle.std.specs.Prelude.{ℕ, ◌-◌, List, [], ◌∷◌, ◌++◌, replicate}
+use Rattle.std.specs.Prelude.{ℕ, ◌-◌, List, [], ◌∷◌, ◌++◌, replicate, ◌<◌, length, get_or}
 use Rattle.lists.specs.Logic.{on}
 use Rattle.lists.specs.Text.{same}
 use Rattle.passage.specs.Layout.{key_wide, row_wide, key_of}
@@ -38,3 +38,7 @@ heard_in n us s = taken_in (standing (withdrawn n us)) s
 
 abbrev pub names_at : List ℕ → List ℕ → List (List ℕ)
 names_at e places = keys_of (key_at e body_at entry_wide) places
+
+-- each of these places is below n
+abbrev pub Below : ℕ → List ℕ → Type 0
+Below n js = (i : ℕ) → i < length js → get_or js i 0 < n
