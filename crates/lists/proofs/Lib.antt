@@ -13,6 +13,7 @@ pub mod StoreLaws
 pub mod RowWriteLaws
 pub mod BigEndianLaws
 pub mod NumberTurnLaws
+pub mod ScanLaws
 pub mod Promise
 pub mod Determined
 pub mod Claims

@@ -4,5 +4,6 @@ pub mod Text
 pub mod Part
 pub mod Rows
 pub mod BigEndian
+pub mod Scan
 pub mod Claims
 pub mod Cases

@@ -1,6 +1,8 @@
 // Moves and comparisons of bytes in lent slices, over any width, and numbers as bytes.
 #![tactic(auto)]
 
+pub mod scan;
+
 ghost use Rattle.std.specs.Prelude.{◌≡◌, ◌+◌, ◌-◌, ◌≤◌, length, replicate};
 ghost use Rattle.lists.specs.Text.{same};
 ghost use Rattle.lists.specs.Part.{part, over};

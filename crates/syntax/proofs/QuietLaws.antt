@@ -1,15 +1,17 @@
-use Prim.Native.Nat.{ℕ, zero, suc, ◌+◌, ◌≤◌, ◌<◌}
+use Prim.Native.Nat.{ℕ, zero, suc, ◌+◌, ◌-◌, ◌≤◌, ◌<◌}
 use native.Mathlib.Numerals.{add-one}
 use native.Mathlib.Omega.{arith}
-use mathlib.Core.Path.{◌≡◌, refl, ap, ◌∙◌}
+use mathlib.Core.Path.{◌≡◌, refl, ap, subst, ◌∙◌}
 use mathlib.Core.Bool.{Bool, true, false}
 use mathlib.Core.List.{List, [], ◌∷◌}
 use borrow.Author.Tests.{eqb-false, ltb-false, lt-ltb, le-ltb}
-use lib.ListN.{length, get_or, drop, drop_of_length-le, length-drop}
+use lib.ListN.{length, get_or, take, drop, drop_of_length-le, length-drop}
 use lib.Seq.{drop-cons, drop-drop}
 use lib.Dec.{eqb, ltb}
 use Rattle.lists.specs.Logic.{on}
+use Rattle.lists.specs.Scan.{IsFirst}
 use Rattle.lists.proofs.LogicLaws.{or-fail}
+use Rattle.lists.proofs.PartLaws.{tail_all}
 use Rattle.syntax.specs.inner.Quiet.{loud, quiet_for}
 
 -- What the loops over quiet bytes cite: which bytes are loud, and how far the quiet ones go. Assumes nothing.
@@ -78,3 +80,17 @@ module _ (d : List ℕ) (i : ℕ) where
       go : (t : Bool) → loud (get_or d (i + quiet_for (drop i d)) 0) ≡ t → t ≡ true
       go true e = refl
       go false e = absurd (omega (arith, quiet-more (quiet_for (drop i d)) h (omega arith) e))
+
+-- where the first loud byte stands
+by-bytes : (l : List ℕ) (n : ℕ) → n ≤ length l → ((k : ℕ) → k < n → loud (get_or l k 0) ≡ false) → (n < length l → loud (get_or l n 0) ≡ true) → n ≡ quiet_for l
+unfolding quiet_for
+by-bytes [] n h c t = omega arith
+by-bytes (b ∷ l) zero h c t = rw (t (omega arith)) refl
+by-bytes (b ∷ l) (suc n) h c t = rw (c 0 (omega arith)) (ap suc (by-bytes l n (omega arith) (λ k w. c (suc k) (omega arith)) (λ w. t (omega arith))))
+
+-- where a test first holds that tells loud bytes, from i on
+pub first-quiet : {may : ℕ → Bool → Type 0} {n : ℕ} (d : List ℕ) (i : ℕ) → IsFirst may (take (length d - i) (drop i d)) n → ((b : ℕ) → may b false → loud b ≡ false) → ((b : ℕ) → may b true → loud b ≡ true) → n ≡ quiet_for (drop i d)
+first-quiet {may} {n} d i f quiet noisy = go (drop i d) (subst (λ l. IsFirst may l n) (tail_all i d) f)
+  where
+    go : (l : List ℕ) → IsFirst may l n → n ≡ quiet_for l
+    go l g = by-bytes l n g.within (λ k w. quiet (get_or l k 0) (g.clear k w)) (λ w. noisy (get_or l n 0) (g.there w))

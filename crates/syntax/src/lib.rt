@@ -41,40 +41,11 @@ pub fn ends_after(kind: Kind) -> bool
 
 // ---- runs of quiet bytes, skipped sixteen at a time
 
+// Whether a byte may end a run of text.
 fn is_loud(x: u8) -> bool
     ensures { result ≡ loud x }
 {
     (x < 32) | (x == b'\\')
-}
-
-// Whether one of sixteen bytes from i on may be loud. No branch in the loop, so that it compiles to a few vector instructions.
-fn loud_block(dossier: &[u8], i: usize) -> bool
-    requires { i + 16 ≤ length dossier.now }
-    ensures { result ≡ false → 16 ≤ quiet_for (drop i dossier.now) }
-{
-    let mut any = false;
-    let mut j = 0;
-    while j < 16 {
-        any = any | is_loud(dossier[i + j]);
-        j += 1;
-    }
-    any
-}
-
-// Past the whole quiet blocks from i on.
-fn quiet_blocks(dossier: &[u8], i: usize) -> usize
-    requires { i ≤ length dossier.now }
-    ensures within { result ≤ length dossier.now }
-    ensures left { result + quiet_for (drop result dossier.now) ≡ i + quiet_for (drop i dossier.now) }
-{
-    let mut p = i;
-    while 16 <= dossier.len() - p {
-        if loud_block(dossier, p) {
-            return p;
-        }
-        p += 16;
-    }
-    p
 }
 
 // The first loud byte from i on, or the length.
@@ -82,14 +53,7 @@ pub fn quiet_end(dossier: &[u8], i: usize) -> usize
     requires { i ≤ length dossier.now }
     ensures { result ≡ i + quiet_for (drop i dossier.now) }
 {
-    let mut p = quiet_blocks(dossier, i);
-    while p < dossier.len() {
-        if is_loud(dossier[p]) {
-            return p;
-        }
-        p += 1;
-    }
-    p
+    i + lists::scan::find_far(&dossier[i..], is_loud)
 }
 
 // Whether a field begins at j, where the bytes from i to j are quiet.

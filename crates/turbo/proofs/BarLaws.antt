@@ -1,71 +1,66 @@
 -- How many fields there are, by the bars counted so far: byte by byte, and in blocks of any size. Assumes nothing.
-use Prim.Native.Nat.{ℕ, suc, ◌+◌, ◌≤◌, ◌<◌}
+use Prim.Native.Nat.{ℕ, suc, ◌+◌, ◌*◌, ◌/◌, ◌≤◌, ◌<◌}
 use native.Mathlib.Numerals.{add-one}
 use native.Mathlib.Omega.{arith}
-use mathlib.Core.Path.{◌≡◌, refl, ap}
-use mathlib.Core.Bool.{Bool, true, false}
-use mathlib.Core.List.{List}
-use borrow.Author.Tests.{eqb-true, eqb-false, eq-eqb, ne_eqb}
-use lib.ListN.{length, get_or, drop, drop_of_length-le}
-use lib.Seq.{drop-cons}
+use mathlib.Core.Path.{◌≡◌, refl, sym, ap, ◌∙◌}
+use mathlib.Core.Bool.{Bool, true, false, cond}
+use mathlib.Core.List.{List, [], ◌∷◌, ◌++◌}
+use lib.ListN.{length, get_or, take, drop, length-drop}
+use lib.Seq.{length-take-le}
 use lib.Dec.{eqb}
-use mir.Val.{bool_byte}
-use Rattle.lists.proofs.LogicLaws.{bool-most}
-use Rattle.turbo.specs.Split.{fields}
-use Rattle.turbo.specs.inner.Bars.{BarsIn, BarsBefore}
+use Rattle.std.specs.List.{count_by}
+use Rattle.std.specs.Simd.{first_chunks}
+use Rattle.std.proofs.lemmas.List.{take-append-drop}
+use Rattle.std.proofs.lemmas.List.Sums.{count_by-le-length, sum_by-append}
+use Rattle.std.proofs.Math.Nat.{mul-suc, mul-zero, mul_comm, mul-div-le}
+use Rattle.std.proofs.Math.Seq.{take-add}
+use Rattle.lists.specs.Logic.{on}
+use Rattle.lists.proofs.ScanLaws.{chunk-at, chunk-within}
+use Rattle.turbo.specs.Split.{into_first, fields}
+use Rattle.turbo.specs.inner.Bars.{is_bar}
 use Rattle.turbo.proofs.SplitLaws.{onto-length, fields-some}
 
--- the byte at i as a count of bars: 0 or 1
-abbrev pub bar_at : List ℕ → ℕ → ℕ
-bar_at l i = bool_byte (eqb (get_or l i 0) 124)
+bars-append : (l m : List ℕ) → count_by is_bar (l ++ m) ≡ count_by is_bar l + count_by is_bar m
+bars-append l m = sum_by-append (λ x. cond (is_bar x) 1 0) l m
 
-module _ (l : List ℕ) where
-  pub bar-most : (i : ℕ) → bar_at l i ≤ 1
-  bar-most i = bool-most (eqb (get_or l i 0) 124)
+-- a line has a field more than bars
+pub fields-bars : (l : List ℕ) → length (fields l) ≡ count_by is_bar l + 1
+unfolding fields
+fields-bars [] = refl
+fields-bars (b ∷ l) = go (eqb b 124) (fields-bars l) ∙ ap (λ k. k + 1) (sym (bars-append (b ∷ []) l))
+  where
+    go : (t : Bool) → length (fields l) ≡ count_by is_bar l + 1 → length (on t ([] ∷ fields l) (into_first b (fields l))) ≡ 0 + cond t 1 0 + count_by is_bar l + 1
+    go true h = omega (arith, h)
+    go false h = omega (arith, h, onto-length b (fields l) (fields-some l))
 
-  -- one byte
-  module _ (i : ℕ) (h : i < length l) where
-    fields-bar : get_or l i 0 ≡ 124 → length (fields (drop i l)) ≡ suc (length (fields (drop (i + 1) l)))
-    unfolding fields
-    fields-bar e = rw (add-one, drop-cons l i 0 h) (rw (eq-eqb _ _ e))
+pub bars-most : (l : List ℕ) (i : ℕ) → i ≤ length l → count_by is_bar (take i l) ≤ i
+bars-most l i h = omega (arith, count_by-le-length is_bar (take i l), length-take-le i l h)
 
-    fields-byte : (get_or l i 0 ≡ 124 → ⊥) → length (fields (drop i l)) ≡ length (fields (drop (i + 1) l))
-    unfolding fields
-    fields-byte e = rw (add-one, drop-cons l i 0 h) (rw (ne_eqb _ _ e) (onto-length (get_or l i 0) (fields (drop (suc i) l)) (fields-some (drop (suc i) l))))
+-- the chunks cs of n bytes: none of them, and one more
+pub chunk-none : (n : ℕ) (l : List ℕ) → 0 ≡ count_by is_bar (take (n * 0) l)
+chunk-none n l = ap (λ k. count_by is_bar (take k l)) (sym (mul-zero n))
 
-    fields-turn : (t : Bool) → eqb (get_or l i 0) 124 ≡ t → length (fields (drop i l)) ≡ bool_byte t + length (fields (drop (i + 1) l))
-    fields-turn true e = omega (arith, fields-bar (eqb-true _ _ e))
-    fields-turn false e = omega (arith, fields-byte (eqb-false _ _ e))
+module _ (l : List ℕ) (cs : List (List ℕ)) (n : ℕ) (e : cs ≡ first_chunks n (length l / n) l) (i : ℕ) (h : i < length l / n) (k : ℕ) (c : k ≡ count_by is_bar (take (n * i) l)) where
+  pub chunk-bars : (block d : List ℕ) (b : ℕ) → block ≡ get_or cs i d → b ≡ count_by is_bar block → k + b ≡ count_by is_bar (take (n * (i + 1)) l)
+  chunk-bars block d b y f =
+      let q : n * (i + 1) ≡ n * i + n = ap (λ k. n * k) (add-one i) ∙ mul-suc n i in
+      let x : block ≡ take n (drop (n * i) l) = y ∙ ap (λ x. get_or x i d) e ∙ chunk-at n (length l / n) i l d h in
+      let t : count_by is_bar (take (n * (i + 1)) l) ≡ count_by is_bar (take (n * i) l) + count_by is_bar (take n (drop (n * i) l)) =
+          ap (λ k. count_by is_bar (take k l)) q ∙ ap (count_by is_bar) (take-add (n * i) n l) ∙ bars-append (take (n * i) l) (take n (drop (n * i) l)) in
+      omega (arith, c, f, t, ap (count_by is_bar) x)
 
-    byte-counted : BarsIn l i 1 (bar_at l i)
-    byte-counted = (bar-most i, fields-turn (eqb (get_or l i 0) 124) refl)
+  -- they are not many
+  pub chunk-few : k ≤ length l
+  chunk-few =
+      let w = chunk-within n i l h in
+      omega (arith, c, w, bars-most l (n * i) (omega (arith, w)))
 
-  -- a block: no byte of it, and one byte more
-  module _ (i : ℕ) where
-    pub block_none : BarsIn l i 0 0
-    block_none =
-        let e : i + 0 ≡ i = omega arith in
-        (omega arith, omega (arith, ap (λ (n : ℕ). length (fields (drop n l))) e))
-
-    pub block_more : (k n : ℕ) → i + k < length l → BarsIn l i k n → BarsIn l i (k + 1) (n + bar_at l (i + k))
-    block_more k n h b =
-        let t = byte-counted (i + k) h in
-        let e : i + k + 1 ≡ i + (k + 1) = omega arith in
-        (omega (arith, t.0), omega (arith, b.1, t.1, ap (λ (p : ℕ). length (fields (drop p l))) e))
-
-  -- the line: nothing of it, a block more, a byte more, all of it
-  pub line-none : BarsBefore l 0 0
-  line-none = (omega arith, omega arith, omega arith)
-
-  module _ (p n : ℕ) (b : BarsBefore l p n) where
-    pub line-more : (k m : ℕ) → p + k ≤ length l → BarsIn l p k m → BarsBefore l (p + k) (n + m)
-    line-more k m h t = (h, omega (arith, b.1, t.0), omega (arith, b.2, t.1))
-
-    pub line-byte : p < length l → BarsBefore l (p + 1) (n + bar_at l p)
-    line-byte h = line-more 1 (bar_at l p) (omega arith) (byte-counted p h)
-
-    pub line-all : length l ≤ p → n + 1 ≡ length (fields l)
-    unfolding fields
-    line-all h =
-        let e : length (fields (drop p l)) ≡ 1 = rw (drop_of_length-le l h) in
-        omega (arith, b.2)
+-- all chunks, and what is left
+pub rest-bars : (l : List ℕ) {rest : List ℕ} (n : ℕ) {i k : ℕ} → rest ≡ drop (length l / n * n) l → i ≡ length l / n → k ≡ count_by is_bar (take (n * i) l) → (count_by is_bar l ≡ k + count_by is_bar rest) × (k + length rest ≤ length l)
+rest-bars l {rest} n {i} {k} e h c =
+    let z : length l / n * n ≡ n * i = mul_comm (length l / n) n ∙ ap (λ x. n * x) (sym h) in
+    let r : rest ≡ drop (n * i) l = e ∙ ap (λ x. drop x l) z in
+    let w : n * i ≤ length l = omega (arith, mul-div-le (length l) n, ap (λ x. n * x) h) in
+    let t : count_by is_bar l ≡ count_by is_bar (take (n * i) l) + count_by is_bar (drop (n * i) l) =
+        ap (count_by is_bar) (sym (take-append-drop (n * i) l)) ∙ bars-append (take (n * i) l) (drop (n * i) l) in
+    (omega (arith, t, c, ap (count_by is_bar) r), omega (arith, c, w, bars-most l (n * i) w, ap length r, length-drop (n * i) l))

@@ -1,7 +1,8 @@
 use Prim.Native.Nat.{ℕ, zero, suc, ◌+◌, ◌≤◌, ◌<◌, ◌-◌}
 use native.Mathlib.Numerals.{add-one}
 use native.Mathlib.Omega.{arith}
-use mathlib.Core.Path.{◌≡◌, refl, sym, ap, ◌∙◌}
+use native.Mathlib.Decide.{dec_lt}
+use mathlib.Core.Path.{◌≡◌, refl, sym, ap, subst, ◌∙◌}
 use mathlib.Core.Bool.{Bool, true, false}
 use mathlib.Core.List.{List, [], ◌∷◌}
 use borrow.Author.Tests.{ltb-true, ltb-false, eq-eqb, ne_eqb}
@@ -9,6 +10,7 @@ use lib.ListN.{length, get_or, take, drop, drop_of_length-le}
 use lib.Seq.{drop-cons, take_all}
 use lib.Dec.{eqb, ltb}
 use Rattle.lists.specs.Logic.{on}
+use Rattle.lists.specs.Scan.{IsFirst}
 use Rattle.lists.proofs.PartLaws.{tail_all}
 use Rattle.turbo.specs.Split.{until, past, into_first, fields, field_at, tail_at}
 
@@ -165,3 +167,17 @@ until-free x l i (suc n) h f =
     let a = until-free x l i n (omega arith) (λ m w. f m (omega arith)) in
     let b = until-miss x l (i + n) (omega arith) (f n (omega arith)) in
     rw e (omega arith)
+
+-- where a test first holds that tells the byte x
+pub first-until : {may : ℕ → Bool → Type 0} {n : ℕ} (x : ℕ) (l : List ℕ) → IsFirst may l n → ((b : ℕ) → may b false → b ≡ x → ⊥) → ((b : ℕ) → may b true → b ≡ x) → n ≡ length (until x l)
+first-until {may} {n} x l f miss hit =
+    let z : 0 + n ≡ n = omega arith in
+    let u : length (until x l) ≡ n + length (until x (drop (0 + n) l)) = until-free x l 0 n (omega (arith, f.within)) (λ m w. miss (get_or l (0 + m) 0) (subst (λ i. may (get_or l i 0) false) (sym (zero_more m)) (f.clear m w))) in
+    omega (arith, u, ap (λ i. length (until x (drop i l))) z, go (dec_lt n (length l)))
+  where
+    zero_more : (m : ℕ) → 0 + m ≡ m
+    zero_more m = omega arith
+
+    go : Dec (n < length l) → length (until x (drop n l)) ≡ 0
+    go (yes h) = until-hit x l n h (hit (get_or l n 0) (f.there h))
+    go (no h) = until_end x l n (omega (arith, h))

@@ -1,10 +1,10 @@
 // The walk over a line: escapes, where a byte stands, the fields as parts of the lent bytes, and how many there are. A dossier's lines are `turbo_lines`.
 #![tactic(auto)]
 
-ghost use Rattle.std.specs.Prelude.{◌≡◌, false, ℕ, ◌+◌, ◌≤◌, ◌<◌, length, take, drop, get_or};
+ghost use Rattle.std.specs.Prelude.{◌≡◌, ◌+◌, ◌≤◌, ◌<◌, length, take, drop, count_by};
 ghost use Rattle.turbo.specs.Escape.{escaped};
 ghost use Rattle.turbo.specs.Split.{until, past, field_at, tail_at, fields};
-ghost use Rattle.turbo.specs.inner.Bars.{BarsIn, BarsBefore};
+ghost use Rattle.turbo.specs.inner.Bars.{is_bar};
 
 // ---- escapes
 
@@ -23,82 +23,12 @@ pub fn escaped(letter: u8) -> Option<u8>
 
 // ---- where a byte stands
 
-// Where the byte first stands among eight from `at` on, or 8. So short a loop is compiled without one.
-fn find_near(bytes: &[u8], at: usize, byte: u8) -> usize
-    requires { at + 8 ≤ length bytes.now }
-    ensures within { result ≤ 8 }
-    ensures left { length (until byte (drop at bytes.now)) ≡ result + length (until byte (drop (at + result) bytes.now)) }
-    ensures hit { result < 8 → length (until byte (drop (at + result) bytes.now)) ≡ 0 }
-{
-    let mut j = 0;
-    while j < 8 {
-        if bytes[at + j] == byte {
-            return j;
-        }
-        j += 1;
-    }
-    j
-}
-
-// Where the byte first stands from `at` on, or the length.
-fn find_from(bytes: &[u8], at: usize, byte: u8) -> usize
-    requires { at ≤ length bytes.now }
-    ensures is { result ≡ at + length (until byte (drop at bytes.now)) }
-    ensures within { result ≤ length bytes.now }
-{
-    let mut k = at;
-    while k < bytes.len() {
-        if bytes[k] == byte {
-            return k;
-        }
-        k += 1;
-    }
-    k
-}
-
 // Where the byte first stands, or the length.
 pub fn find(bytes: &[u8], byte: u8) -> usize
     ensures is { result ≡ length (until byte bytes.now) }
     ensures within { result ≤ length bytes.now }
 {
-    let mut p = 0;
-    while 8 <= bytes.len() - p {
-        let k = find_near(bytes, p, byte);
-        if k < 8 {
-            return p + k;
-        }
-        p += 8;
-    }
-    find_from(bytes, p, byte)
-}
-
-// Whether the byte is one of sixteen from `at` on. No branch in the loop, so that it compiles to a few vector instructions.
-fn block_has(bytes: &[u8], at: usize, byte: u8) -> bool
-    requires { at + 16 ≤ length bytes.now }
-    ensures { result ≡ false → (m : ℕ) → m < 16 → get_or bytes.now (at + m) 0 ≡ byte → ⊥ }
-{
-    let mut any = false;
-    let mut j = 0;
-    while j < 16 {
-        any = any | (bytes[at + j] == byte);
-        j += 1;
-    }
-    any
-}
-
-// Past the whole blocks without the byte.
-fn free_blocks(bytes: &[u8], byte: u8) -> usize
-    ensures within { result ≤ length bytes.now }
-    ensures left { length (until byte bytes.now) ≡ result + length (until byte (drop result bytes.now)) }
-{
-    let mut p = 0;
-    while 16 <= bytes.len() - p {
-        if block_has(bytes, p, byte) {
-            return p;
-        }
-        p += 16;
-    }
-    p
+    lists::scan::find_near(bytes, move |b| b == byte)
 }
 
 // The same as `find`, for a byte that is far off: by blocks, then by bytes.
@@ -106,8 +36,7 @@ pub fn find_far(bytes: &[u8], byte: u8) -> usize
     ensures is { result ≡ length (until byte bytes.now) }
     ensures within { result ≤ length bytes.now }
 {
-    let p = free_blocks(bytes, byte);
-    find_from(bytes, p, byte)
+    lists::scan::find_far(bytes, move |b| b == byte)
 }
 
 // ---- fields
@@ -164,78 +93,44 @@ pub fn field_of<'a>(line: &'a [u8], place: usize) -> &'a [u8]
 
 // ---- how many fields a line has: its bars counted by blocks, and one
 
-// How many of sixty-four bytes from `at` on are bars. No branch in the loop, and a count that fits a byte.
-fn bars_in_block(line: &[u8], at: usize) -> u8
-    requires { at + 64 ≤ length line.now }
-    ensures { BarsIn line.now at 64 result }
+// How many bytes of a block are bars. No branch in the loop, and a count that fits a byte.
+fn bars_in<const N: usize>(block: &[u8; N]) -> u8
+    requires { N < 256 }
+    ensures { result ≡ count_by is_bar block.now }
 {
     let mut bars: u8 = 0;
-    let mut j = 0;
-    while j < 64 {
-        bars += (line[at + j] == b'|') as u8;
-        j += 1;
+    for b in block {
+        bars += (*b == b'|') as u8;
     }
     bars
 }
 
-// The same of sixteen.
-fn bars_in_sixteen(line: &[u8], at: usize) -> u8
-    requires { at + 16 ≤ length line.now }
-    ensures { BarsIn line.now at 16 result }
+// The bars in the whole blocks of N bytes of a line, and what is left behind these.
+fn bars_in_blocks<const N: usize>(line: &[u8]) -> (usize, &[u8])
+    requires { (0 < N) × (N < 256) }
+    ensures bars { count_by is_bar line.now ≡ result.0 + count_by is_bar result.1.now }
+    ensures room { result.0 + length result.1.now ≤ length line.now }
 {
-    let mut bars: u8 = 0;
-    let mut m = 0;
-    while m < 16 {
-        bars += (line[at + m] == b'|') as u8;
-        m += 1;
+    let (blocks, rest) = line.as_chunks::<N>();
+    let mut bars: usize = 0;
+    for (i, block) in blocks.iter().enumerate() {
+        bars += bars_in(block) as usize;
     }
-    bars
+    (bars, rest)
 }
 
-// What the count of a line's bars has come to: how many stand before a place.
-#[derive(Clone, Copy)]
-struct Bars {
-    at: usize,
-    count: usize,
-}
-
-// The bars in the whole blocks of a line.
-fn bars_in_blocks(line: &[u8]) -> Bars
-    ensures { BarsBefore line.now result.at result.count }
+// How many bytes are bars, one by one.
+fn count_bars(bytes: &[u8]) -> usize
+    ensures { result ≡ count_by is_bar bytes.now }
 {
-    let mut n: usize = 0;
-    let mut p = 0;
-    while 64 <= line.len() - p {
-        n += bars_in_block(line, p) as usize;
-        p += 64;
-    }
-    Bars { at: p, count: n }
-}
-
-// The bars behind those, in what are whole blocks of sixteen.
-fn bars_in_sixteens(line: &[u8], before: Bars) -> Bars
-    requires { BarsBefore line.now before.at before.count }
-    ensures { BarsBefore line.now result.at result.count }
-{
-    let mut n: usize = before.count;
-    let mut p: usize = before.at;
-    while 16 <= line.len() - p {
-        n += bars_in_sixteen(line, p) as usize;
-        p += 16;
-    }
-    Bars { at: p, count: n }
+    bytes.iter().filter(|b| **b == b'|').count()
 }
 
 // How many fields a line has.
 pub fn count_fields(line: &[u8]) -> usize
     ensures { result ≡ length (fields line.now) }
 {
-    let whole = bars_in_sixteens(line, bars_in_blocks(line));
-    let mut n: usize = whole.count;
-    let mut i: usize = whole.at;
-    while i < line.len() {
-        n += (line[i] == b'|') as usize;
-        i += 1;
-    }
-    n + 1
+    let (wide, rest) = bars_in_blocks::<64>(line);
+    let (narrow, rest) = bars_in_blocks::<16>(rest);
+    wide + narrow + count_bars(rest) + 1
 }

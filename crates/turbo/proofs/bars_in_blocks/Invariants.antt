@@ -1,10 +1,9 @@
-use Prim.Native.Nat.{◌-◌}
-use lib.ListN.{length}
-use Rattle.turbo.specs.inner.Bars.{BarsBefore}
+use Prim.Native.Nat.{◌*◌}
+use mathlib.Core.Path.{◌≡◌}
+use lib.ListN.{take}
+use Rattle.std.specs.List.{count_by}
+use Rattle.turbo.specs.inner.Bars.{is_bar}
 use Rattle.turbo.proofs.bars_in_blocks.Given as goal
 
-abbrev pub invariant-loop-p : goal.invariant-loop-p
-invariant-loop-p l = BarsBefore l.line l.p l.n
-
-abbrev pub decreases-loop-p : goal.decreases-loop-p
-decreases-loop-p l = length l.line - l.p
+abbrev pub invariant-loop-i : goal.invariant-loop-i
+invariant-loop-i g l = l.bars ≡ count_by is_bar (take (g.row.N * l.i) l.line)

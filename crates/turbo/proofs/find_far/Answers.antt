@@ -1,8 +1,6 @@
-use mathlib.Core.Path.{sym, ◌∙◌}
+use borrow.Author.Rules.{rules}
+use Rattle.turbo.proofs.SplitLaws.{first-until}
 use Rattle.turbo.proofs.find_far.Goals as goal
 
-pub find_from-requires : goal.find_from-requires
-find_from-requires c = c.free_blocks-p.ensures.within
-
-pub returns : goal.returns
-returns c = let e = c.find_from.ensures in record { is = e.is ∙ sym c.free_blocks-p.ensures.left; within = e.within }
+pub returns-clause-is : goal.returns-clause-is
+returns-clause-is c = first-until c.args.byte c.args.bytes.now c.find_far.ensures (λ b p. search rules) (λ b p. search rules)

@@ -1,0 +1,5 @@
+use Rattle.lists.specs.Scan.{Clear}
+use Rattle.lists.proofs.scan.first.Given as goal
+
+abbrev pub invariant-loop-i : goal.invariant-loop-i
+invariant-loop-i g l = Clear (goal.F-post g l.test) l.bytes l.i
