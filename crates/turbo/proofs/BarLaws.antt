@@ -46,7 +46,7 @@ module _ (l : List ℕ) (cs : List (List ℕ)) (n : ℕ) (e : cs ≡ first_chunk
       let q : n * (i + 1) ≡ n * i + n = ap (λ k. n * k) (add-one i) ∙ mul-suc n i in
       let x : block ≡ take n (drop (n * i) l) = y ∙ ap (λ x. get_or x i d) e ∙ chunk-at n (length l / n) i l d h in
       let t : count_by is_bar (take (n * (i + 1)) l) ≡ count_by is_bar (take (n * i) l) + count_by is_bar (take n (drop (n * i) l)) =
-          ap (λ k. count_by is_bar (take k l)) q ∙ ap (count_by is_bar) (take-add (n * i) n l) ∙ bars-append (take (n * i) l) (take n (drop (n * i) l)) in
+      ap (λ k. count_by is_bar (take k l)) q ∙ ap (count_by is_bar) (take-add (n * i) n l) ∙ bars-append (take (n * i) l) (take n (drop (n * i) l)) in
       omega (arith, c, f, t, ap (count_by is_bar) x)
 
   -- they are not many
@@ -62,5 +62,5 @@ rest-bars l {rest} n {i} {k} e h c =
     let r : rest ≡ drop (n * i) l = e ∙ ap (λ x. drop x l) z in
     let w : n * i ≤ length l = omega (arith, mul-div-le (length l) n, ap (λ x. n * x) h) in
     let t : count_by is_bar l ≡ count_by is_bar (take (n * i) l) + count_by is_bar (drop (n * i) l) =
-        ap (count_by is_bar) (sym (take-append-drop (n * i) l)) ∙ bars-append (take (n * i) l) (drop (n * i) l) in
+    ap (count_by is_bar) (sym (take-append-drop (n * i) l)) ∙ bars-append (take (n * i) l) (drop (n * i) l) in
     (omega (arith, t, c, ap (count_by is_bar) r), omega (arith, c, w, bars-most l (n * i) w, ap length r, length-drop (n * i) l))

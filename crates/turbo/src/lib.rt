@@ -123,7 +123,12 @@ fn bars_in_blocks<const N: usize>(line: &[u8]) -> (usize, &[u8])
 fn count_bars(bytes: &[u8]) -> usize
     ensures { result ≡ count_by is_bar bytes.now }
 {
-    bytes.iter().filter(|b| **b == b'|').count()
+    // kept: filter and count compile to a branch for each byte, as the machine code shows, and this to none
+    let mut bars: usize = 0;
+    for b in bytes {
+        bars += (*b == b'|') as usize;
+    }
+    bars
 }
 
 // How many fields a line has.
