@@ -14,16 +14,16 @@ use Rattle.board_show.specs.Ask.{Question, asks_in_range, now_of}
 use Rattle.board_show.specs.inner.Look.{showing}
 use Rattle.board_show.proofs.AskLaws.{end_fits}
 use Rattle.board_show.proofs.ShowLaws.{showing-is}
-use Rattle.board.specs.declared.Listing.{Listing}
-use Rattle.board.specs.declared.Listing.TheVariants.{Unsound, OutOfRange}
-use Rattle.board.specs.Rules.{listed, board_of, Board, board_with, fitted, board_leaves, board_numbers, board_gives}
+use Rattle.std.specs.Prelude.{Err}
+use Rattle.board.specs.declared.Refusal.TheVariants.{Unsound, OutOfRange}
+use Rattle.board.specs.Rules.{Listing, listed, board_of, Board, board_with, fitted, board_leaves, board_numbers, board_gives}
 
 module _ (q : Question) (table : List ℕ) (n : ℕ) (places : List ℕ) where
-  pub unsound : table_sound n table ≡ false → board_with Unsound places ≡ board_leaves q table n places
+  pub unsound : table_sound n table ≡ false → board_with (Err Unsound) places ≡ board_leaves q table n places
   unfolding board_leaves
   unsound e = rw e
 
-  pub out_of_range : table_sound n table ≡ true → asks_in_range q ≡ false → board_with OutOfRange places ≡ board_leaves q table n places
+  pub out_of_range : table_sound n table ≡ true → asks_in_range q ≡ false → board_with (Err OutOfRange) places ≡ board_leaves q table n places
   unfolding board_leaves
   out_of_range e f = rw (e, f)
 
@@ -37,7 +37,7 @@ module _ (q : Question) (table : List ℕ) (n : ℕ) (places : List ℕ) where
   numbers-due = go (table_sound n table) (asks_in_range q) (board_of q table n)
     where
       go : (s a : Bool) (l : List ℕ)
-          → board_numbers (on s (on a (fitted l places) (board_with OutOfRange places)) (board_with Unsound places)).answer
+          → board_numbers (on s (on a (fitted l places) (board_with (Err OutOfRange) places)) (board_with (Err Unsound) places)).answer
           ≡ first_held ((not s, (1, 0, 0)) ∷ (not a, (13, 0, 0)) ∷ []) (board_numbers (fitted l places).answer)
       go true true l = refl
       go true false l = refl

@@ -1,5 +1,5 @@
 -- What is claimed of boards, for any table and question. Assumes nothing.
-use Rattle.std.specs.Prelude.{◌≡◌, true, false, List, [], ◌∷◌, ◌⊎◌, ◌↔◌, ℕ, ◌+◌, ◌*◌, ◌≤◌, ◌<◌, eqb, length, get_or}
+use Rattle.std.specs.Prelude.{◌≡◌, true, false, List, [], ◌∷◌, ◌⊎◌, ◌↔◌, ℕ, ◌+◌, ◌*◌, ◌≤◌, ◌<◌, eqb, length, get_or, Err}
 use Rattle.lists.specs.Logic.{on}
 use Rattle.lists.specs.Part.{part}
 use Rattle.clock.specs.Moment.{day_count}
@@ -8,10 +8,10 @@ use Rattle.passage.specs.Layout.{key_of, owner_of, date_of, fortify_of, stop_of,
 use Rattle.std.specs.declared.cmp.Ordering.TheVariants.{Less}
 use Rattle.keys.specs.Keys.{cmp}
 use Rattle.table.specs.Rules.{table_sound}
-use Rattle.board.specs.declared.Listing.TheVariants.{Listed, Unsound, OutOfRange}
+use Rattle.board.specs.declared.Refusal.TheVariants.{Unsound, OutOfRange}
 use Rattle.board_show.specs.Ask.{Question, asks_in_range}
 use Rattle.board_show.specs.Show.{shows}
-use Rattle.board.specs.Rules.{board_of, board_with, board_leaves, board_numbers, board_gives}
+use Rattle.board.specs.Rules.{board_of, listing, board_with, board_leaves, board_numbers, board_gives}
 
 -- ---- which rows
 
@@ -86,7 +86,7 @@ CutOnlyWhereFull =
     table_sound n table ≡ true
     → asks_in_range q ≡ true
     → (w : ℕ)
-    × ((board_leaves q table n places).answer ≡ Listed w (length l))
+    × ((board_leaves q table n places).answer ≡ listing w (length l))
     × (length l ≤ length places → w ≡ length l)
     × (length places ≤ length l → w ≡ length places)
     × ((k : ℕ) → k < w → get_or after k 0 ≡ get_or l k 0)
@@ -96,8 +96,8 @@ CutOnlyWhereFull =
 abbrev pub RefusesExactly : Type 0
 RefusesExactly =
     (q : Question) (table : List ℕ) (n : ℕ) (places : List ℕ)
-    → (table_sound n table ≡ false → board_leaves q table n places ≡ board_with Unsound places)
-    × (table_sound n table ≡ true → asks_in_range q ≡ false → board_leaves q table n places ≡ board_with OutOfRange places)
+    → (table_sound n table ≡ false → board_leaves q table n places ≡ board_with (Err Unsound) places)
+    × (table_sound n table ≡ true → asks_in_range q ≡ false → board_leaves q table n places ≡ board_with (Err OutOfRange) places)
 
 -- the numbers of what is answered are those due by document 01's order
 abbrev pub NumbersDue : Type 0

@@ -2,6 +2,8 @@
 #![tactic(auto)]
 
 ghost use Rattle.std.specs.Prelude.{◌≡◌, true, ◌+◌, ◌≤◌, length};
+ghost use Rattle.std.specs.List.{list_all};
+ghost use Rattle.lists.specs.Logic.{within};
 ghost use Rattle.lists.specs.Part.{part};
 ghost use Rattle.lists.specs.Text.{same};
 ghost use Rattle.passage.specs.Layout.{text_wide, row_wide, owner_of};
@@ -12,11 +14,11 @@ ghost use Rattle.board_show.specs.Ask.{asked, asks_in_range};
 
 use clock::{ClockSeconds, OperatingSeconds};
 
-// Whether a row is shown, and if so its departure moment.
+// The moments from one to another, both included.
 #[derive(Clone, Copy)]
-pub enum Shown {
-    At(ClockSeconds),
-    Hidden,
+pub struct Span {
+    pub from: ClockSeconds,
+    pub till: ClockSeconds,
 }
 
 // Whether the padded text stands from `at` on. No branch, and few loads.
@@ -40,25 +42,29 @@ pub fn is_owned(table: &[u8], at: usize, owner: &[u8]) -> bool
     same_text(table, at, owner)
 }
 
-// The show rule but for stop and stop type.
-fn may_be(
-    from: ClockSeconds,
-    till: ClockSeconds,
+// What the show rule looks at in a row, but for its stop and stop type.
+#[derive(Clone, Copy)]
+struct Passing {
     moment: ClockSeconds,
     status: u8,
-    show: u8,
+    show_cancelled: u8,
     flexible: u8,
     monitored: u8,
     fortify: u8,
     heard: u8,
-) -> bool
-    ensures { result ≡ may_be from till moment status show flexible monitored fortify heard }
-{
-    (status != 5)
-        & ((from.0 <= moment.0) & (moment.0 <= till.0))
-        & ((status != 1) | (show == 1))
-        & ((flexible <= 1) | (flexible == 3) & (monitored == 1))
-        & ((fortify == 0) | (heard == 1))
+}
+
+impl Passing {
+    // The show rule but for stop and stop type. No branch.
+    fn is_shown(self, span: Span) -> bool
+        ensures { result ≡ may_be span.from span.till self.moment self.status self.show_cancelled self.flexible self.monitored self.fortify self.heard }
+    {
+        (self.status != 5)
+            & ((span.from.0 <= self.moment.0) & (self.moment.0 <= span.till.0))
+            & ((self.status != 1) | (self.show_cancelled == 1))
+            & ((self.flexible <= 1) | (self.flexible == 3) & (self.monitored == 1))
+            & ((self.fortify == 0) | (self.heard == 1))
+    }
 }
 
 // Whether the row from `at` on, which is of this owner, is shown, and if so its departure moment.
@@ -67,72 +73,53 @@ pub fn shown_at(
     at: usize,
     owner: &[u8],
     stop: &[u8],
-    from: ClockSeconds,
-    till: ClockSeconds,
-) -> Shown
+    span: Span,
+) -> Option<ClockSeconds>
     requires { (at + row_wide ≤ length table.now) × (row_in_range (part at row_wide table.now) ≡ true)
         × (length stop.now ≡ text_wide) × (same (owner_of (part at row_wide table.now)) owner.now ≡ true) }
-    ensures { result ≡ shown_at owner.now stop.now from till (part at row_wide table.now) }
+    ensures { result ≡ shown_at owner.now stop.now span.from span.till (part at row_wide table.now) }
 {
     let here = same_text(table, at + passage::STOP_AT, stop);
-    if here {
-        if table[at + passage::STOP_TYPE_AT] == 2 {
-            return Shown::Hidden;
-        }
-        let date = lists::get_number(table, at + passage::DATE_AT, passage::DATE_WIDE);
-        let time = lists::get_number(table, at + passage::DEPARTURE_AT, passage::TIME_WIDE);
-        let moment = clock::moment(date, OperatingSeconds(time));
-        let status = table[at + passage::STATUS_AT];
-        let show_cancelled = table[at + passage::SHOW_CANCELLED_AT];
-        let flexible = table[at + passage::FLEXIBLE_AT];
-        let monitored = table[at + passage::MONITORED_AT];
-        let fortify = table[at + passage::FORTIFY_AT];
-        let heard = table[at + passage::HEARD_AT];
-        let may = may_be(
-            from,
-            till,
-            moment,
-            status,
-            show_cancelled,
-            flexible,
-            monitored,
-            fortify,
-            heard,
-        );
-        if may {
-            Shown::At(moment)
-        } else {
-            Shown::Hidden
-        }
+    if !here {
+        return None;
+    }
+    if table[at + passage::STOP_TYPE_AT] == 2 {
+        return None;
+    }
+    let date = lists::get_number(table, at + passage::DATE_AT, passage::DATE_WIDE);
+    let time = lists::get_number(table, at + passage::DEPARTURE_AT, passage::TIME_WIDE);
+    let moment = clock::moment(date, OperatingSeconds(time));
+    let passing = Passing {
+        moment,
+        status: table[at + passage::STATUS_AT],
+        show_cancelled: table[at + passage::SHOW_CANCELLED_AT],
+        flexible: table[at + passage::FLEXIBLE_AT],
+        monitored: table[at + passage::MONITORED_AT],
+        fortify: table[at + passage::FORTIFY_AT],
+        heard: table[at + passage::HEARD_AT],
+    };
+    if passing.is_shown(span) {
+        Some(moment)
     } else {
-        Shown::Hidden
+        None
     }
 }
 
 // ---- What may be asked: owner and stop as texts, a date, a second of the day and a horizon. This knows nothing of passages.
 
+// Whether each byte is one of 32 to 126.
+fn is_printed(text: &[u8]) -> bool
+    ensures { result ≡ list_all (within 32 126) text.now }
+{
+    text.iter().all(|&byte| (32 <= byte) & (byte <= 126))
+}
+
 // Whether a text is 1 to 10 bytes of 32 to 126.
 fn is_text(text: &[u8]) -> bool
     ensures { result ≡ is_text text.now }
 {
-    if text.len() < 1 {
-        return false;
-    }
-    if 10 < text.len() {
-        return false;
-    }
-    let mut i = 0;
-    while i < text.len() {
-        let b = text[i];
-        if b < 32 {
-            return false;
-        }
-        if 126 < b {
-            return false;
-        }
-        i += 1;
-    }
-    true
+    let length = text.len();
+    (1 <= length) & (length <= 10) && is_printed(text)
 }
 
 // Whether what is asked is in its range.

@@ -9,24 +9,24 @@ use Rattle.lists.specs.Logic.{on}
 use Rattle.script_text.specs.Rules.{word_at}
 use Rattle.table.specs.Rules.{table_sound}
 use Rattle.board_show.specs.Ask.{Question, asked, asks_in_range}
-use Rattle.board.specs.declared.Listing.{Listing}
-use Rattle.board.specs.declared.Listing.TheVariants as Listings
-use Rattle.board.specs.Rules.{board_of, board_numbers, board_gives}
+use Rattle.std.specs.Prelude.{Ok, Err}
+use Rattle.board.specs.declared.Refusal.TheVariants as Refusals
+use Rattle.board.specs.Rules.{Listing, board_of, board_numbers, board_gives}
 use Rattle.boards_departures.specs.Shown.{is_listed, is_shown}
 
 -- by its number: what is listed is of a sound table and in range, and what is not is not
 listed-number : (l : Listing) (t u : Bool) (y z : ℕ)
     → (board_numbers l).0 ≡ (on {A = ℕ × ℕ × ℕ} (not t) (1, 0, 0) (on {A = ℕ × ℕ × ℕ} (not u) (13, 0, 0) (0, y, z))).0
     → is_listed l ≡ (t && u)
-listed-number (Listings.Listed w s) true true y z e = refl
-listed-number (Listings.Listed w s) true false y z e = absurd (omega (arith, e))
-listed-number (Listings.Listed w s) false u y z e = absurd (omega (arith, e))
-listed-number Listings.Unsound true true y z e = absurd (omega (arith, e))
-listed-number Listings.Unsound true false y z e = absurd (omega (arith, e))
-listed-number Listings.Unsound false u y z e = refl
-listed-number Listings.OutOfRange true true y z e = absurd (omega (arith, e))
-listed-number Listings.OutOfRange true false y z e = refl
-listed-number Listings.OutOfRange false u y z e = refl
+listed-number (Ok found) true true y z e = refl
+listed-number (Ok found) true false y z e = absurd (omega (arith, e))
+listed-number (Ok found) false u y z e = absurd (omega (arith, e))
+listed-number (Err Refusals.Unsound) true true y z e = absurd (omega (arith, e))
+listed-number (Err Refusals.Unsound) true false y z e = absurd (omega (arith, e))
+listed-number (Err Refusals.Unsound) false u y z e = refl
+listed-number (Err Refusals.OutOfRange) true true y z e = absurd (omega (arith, e))
+listed-number (Err Refusals.OutOfRange) true false y z e = refl
+listed-number (Err Refusals.OutOfRange) false u y z e = refl
 
 listed-asked : (q : Question) (table : List ℕ) (n room : ℕ) (l : Listing) → board_numbers l ≡ board_gives q table n room → is_listed l ≡ (table_sound n table && asks_in_range q)
 unfolding board_gives

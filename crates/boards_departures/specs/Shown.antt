@@ -1,16 +1,13 @@
 -- Whether a board is shown. Assumes nothing.
-use Rattle.std.specs.Prelude.{ℕ, Bool, true, false, ◌&&◌, List}
+use Rattle.std.specs.Prelude.{ℕ, Bool, ◌&&◌, List, is_ok}
 use Rattle.script_text.specs.Rules.{word_at}
 use Rattle.table.specs.Rules.{table_sound}
 use Rattle.board_show.specs.Ask.{asked, asks_in_range}
-use Rattle.board.specs.declared.Listing.{Listing}
-use Rattle.board.specs.declared.Listing.TheVariants.{Listed, Unsound, OutOfRange}
+use Rattle.board.specs.Rules.{Listing}
 
 -- an answer that lists departures
 abbrev pub is_listed : Listing → Bool
-is_listed (Listed w s) = true
-is_listed Unsound = false
-is_listed OutOfRange = false
+is_listed l = is_ok l
 
 -- a board is shown of a sound table, for what is in its range; owner and stop are the first two words behind the line's command
 abbrev pub is_shown : List ℕ → ℕ → ℕ → ℕ → ℕ → List ℕ → Bool

@@ -4,7 +4,7 @@
 ghost use Rattle.std.specs.Prelude.{◌≡◌, ◌*◌, ◌<◌};
 ghost use Rattle.boards_departures.specs.Shown.{is_listed, is_shown};
 
-use board::Listing;
+use board::{Listed, Refusal};
 use clock::{ClockSeconds, OperatingSeconds};
 use std::io::Stdout;
 
@@ -157,20 +157,20 @@ fn told(
     horizon: u32,
     table: &[u8],
     places: &[u32],
-    listing: Listing,
+    listing: Result<Listed, Refusal>,
 ) -> bool
     ensures { result ≡ is_listed listing }
 {
     match listing {
-        Listing::Listed(written, shown) => {
-            listed(out, line, table, places, written, shown);
+        Ok(found) => {
+            listed(out, line, table, places, found.written, found.shown);
             true
         }
-        Listing::Unsound => {
+        Err(Refusal::Unsound) => {
             unshown(out, place, line, 1, second, horizon);
             false
         }
-        Listing::OutOfRange => {
+        Err(Refusal::OutOfRange) => {
             unshown(out, place, line, 13, second, horizon);
             false
         }

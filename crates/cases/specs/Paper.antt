@@ -11,8 +11,7 @@ use Rattle.calls.specs.declared.Answer.TheVariants.{Accepted, Field}
 use Rattle.calls.specs.declared.Counts.{Counts}
 use Rattle.calls.specs.Answers.{numbers}
 use Rattle.calls.specs.Message.{message_sound, message_answer}
-use Rattle.board.specs.declared.Listing.TheVariants.{Listed}
-use Rattle.board.specs.Rules.{board_with}
+use Rattle.board.specs.Rules.{listing, board_with}
 use Rattle.runs.specs.Runs.{Reply}
 use Rattle.cases.specs.Day.{says, says_of, sent, cancelled, withdrawn, board, relief_board, cancelled_board, statuses, orders, optionals, reply_after}
 
@@ -51,8 +50,8 @@ P7 =
 -- P8: a departure at now + horizon is shown, a second later not: 24:10:00 at 23:50:00, for 1,200 seconds and for 1,199; the other places stay
 abbrev pub P8 : Type 0
 P8 =
-    (reply_after [] (board 1200) ≡ Reply.showed (board_with (Listed 1 1) (0 ∷ 9 ∷ 9 ∷ [])))
-    × (reply_after [] (board 1199) ≡ Reply.showed (board_with (Listed 0 0) (9 ∷ 9 ∷ 9 ∷ [])))
+    (reply_after [] (board 1200) ≡ Reply.showed (board_with (listing 1 1) (0 ∷ 9 ∷ 9 ∷ [])))
+    × (reply_after [] (board 1199) ≡ Reply.showed (board_with (listing 0 0) (9 ∷ 9 ∷ 9 ∷ [])))
 
 -- P9: two order numbers at one stop are two passages: what is said of the second changes the first in nothing
 abbrev pub P9 : Type 0
@@ -71,16 +70,16 @@ TwoRows =
 -- a relief journey in the plan is shown once a message has told of it, and no more when that is withdrawn
 abbrev pub Relief : Type 0
 Relief =
-    (relief_board [] ≡ Reply.showed (board_with (Listed 1 1) (0 ∷ 9 ∷ 9 ∷ [])))
-    × (relief_board (sent (says_of "1" "1" "DRIVING" ∷ []) ∷ []) ≡ Reply.showed (board_with (Listed 2 2) (0 ∷ 1 ∷ 9 ∷ [])))
-    × (relief_board (sent (says_of "1" "1" "DRIVING" ∷ []) ∷ withdrawn 1 ∷ []) ≡ Reply.showed (board_with (Listed 1 1) (0 ∷ 9 ∷ 9 ∷ [])))
+    (relief_board [] ≡ Reply.showed (board_with (listing 1 1) (0 ∷ 9 ∷ 9 ∷ [])))
+    × (relief_board (sent (says_of "1" "1" "DRIVING" ∷ []) ∷ []) ≡ Reply.showed (board_with (listing 2 2) (0 ∷ 1 ∷ 9 ∷ [])))
+    × (relief_board (sent (says_of "1" "1" "DRIVING" ∷ []) ∷ withdrawn 1 ∷ []) ≡ Reply.showed (board_with (listing 1 1) (0 ∷ 9 ∷ 9 ∷ [])))
 
 -- a cancelled passage is shown with `true`; with `false` and with `message` it is not. All three are kept, as 1, 0 and 2
 abbrev pub Cancelled : Type 0
 Cancelled =
-    (cancelled_board "true" ≡ Reply.showed (board_with (Listed 1 1) (0 ∷ 9 ∷ 9 ∷ [])))
-    × (cancelled_board "message" ≡ Reply.showed (board_with (Listed 0 0) (9 ∷ 9 ∷ 9 ∷ [])))
-    × (cancelled_board "false" ≡ Reply.showed (board_with (Listed 0 0) (9 ∷ 9 ∷ 9 ∷ [])))
+    (cancelled_board "true" ≡ Reply.showed (board_with (listing 1 1) (0 ∷ 9 ∷ 9 ∷ [])))
+    × (cancelled_board "message" ≡ Reply.showed (board_with (listing 0 0) (9 ∷ 9 ∷ 9 ∷ [])))
+    × (cancelled_board "false" ≡ Reply.showed (board_with (listing 0 0) (9 ∷ 9 ∷ 9 ∷ [])))
     × (optionals (cancelled "message" ∷ []) ≡ (2 ∷ 0 ∷ 1 ∷ []) ∷ [])
     × (reply_after [] (cancelled "1") ≡ Reply.answered (Field 4 14 0))
 

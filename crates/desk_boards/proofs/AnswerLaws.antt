@@ -2,8 +2,7 @@
 use Prim.Native.Nat.{ℕ}
 use mathlib.Core.Path.{◌≡◌, ap, ◌∙◌}
 use mathlib.Core.List.{List, [], ◌∷◌}
-use Rattle.board.specs.declared.Listing.{Listing}
-use Rattle.board.specs.Rules.{Board, board_with, board_numbers}
+use Rattle.board.specs.Rules.{Listing, Board, board_with, board_numbers}
 use Rattle.desk_boards.specs.Answered.{board_number, board_answered}
 
 pub board-written : (o a : Listing) (r : ℕ) (l : List ℕ) → o ≡ a

@@ -6,7 +6,8 @@ use mathlib.Core.List.{List, [], ◌∷◌}
 use mathlib.Core.Logic.{inl, inr}
 use Rattle.lists.specs.Logic.{on}
 use Rattle.table.specs.Rules.{table_sound}
-use Rattle.board.specs.declared.Listing.TheVariants.{Listed, Unsound, OutOfRange}
+use Rattle.std.specs.Prelude.{Ok, Err}
+use Rattle.board.specs.declared.Refusal.TheVariants.{Unsound, OutOfRange}
 use Rattle.board_show.specs.Ask.{asks_in_range}
 use Rattle.board.specs.Rules.{board_of, board_with, fitted, board_leaves, board_numbers}
 use Rattle.desk_boards.specs.Answered.{board_number, board_answered}
@@ -21,7 +22,7 @@ unfolding board_leaves board_number board_answered
 board-gives-back q table rows places = go (table_sound rows table) (asks_in_range q) (board_of q table rows)
   where
     go : (s a : Bool) (l : List ℕ)
-        → let b = on s (on a (fitted l places) (board_with OutOfRange places)) (board_with Unsound places) in
+        → let b = on s (on a (fitted l places) (board_with (Err OutOfRange) places)) (board_with (Err Unsound) places) in
         let ns = board_numbers b.answer in
         (ns.0 ≡ 0 → ⊥)
         → (◌≡◌ {A = List ℕ} (ns.0 ∷ ns.1 ∷ ns.2 ∷ []) (ns.0 ∷ 0 ∷ 0 ∷ []))
@@ -32,9 +33,9 @@ board-gives-back q table rows places = go (table_sound rows table) (asks_in_rang
 
 board-listed : BoardNumbersListed
 unfolding board_number
-board-listed (Listed w s) = inl refl
-board-listed Unsound = inr (inl refl)
-board-listed OutOfRange = inr (inr refl)
+board-listed (Ok l) = inl refl
+board-listed (Err Unsound) = inr (inl refl)
+board-listed (Err OutOfRange) = inr (inr refl)
 
 pub claims : All
 claims = (numbers-of-board, board-gives-back, board-listed)

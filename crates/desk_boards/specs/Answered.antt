@@ -1,7 +1,6 @@
 -- The numbers of a board's answer, 0 where there is none: number, places written, shown in all. Assumes nothing.
 use Rattle.std.specs.Prelude.{ℕ, List, [], ◌∷◌}
-use Rattle.board.specs.declared.Listing.{Listing as Board}
-use Rattle.board.specs.Rules.{board_numbers}
+use Rattle.board.specs.Rules.{Listing as Board, board_numbers}
 
 -- document 01's number of a board
 unfoldable pub board_number : Board → ℕ

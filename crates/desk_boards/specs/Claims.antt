@@ -1,8 +1,7 @@
 -- What is certain of the numbers of a board's answer, for any table, question and places. Assumes nothing.
 use Rattle.std.specs.Prelude.{ℕ, ◌≡◌, List, [], ◌∷◌, ◌⊎◌, length, get_or}
-use Rattle.board.specs.declared.Listing.{Listing as Board}
 use Rattle.board_show.specs.Ask.{Question}
-use Rattle.board.specs.Rules.{board_leaves}
+use Rattle.board.specs.Rules.{Listing as Board, board_leaves}
 use Rattle.desk_boards.specs.Answered.{board_number, board_answered}
 
 -- it is three numbers, and the one returned is the first

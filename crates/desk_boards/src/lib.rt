@@ -6,6 +6,8 @@ ghost use Rattle.board_show.specs.Ask.{asked};
 ghost use Rattle.board.specs.Rules.{board_leaves};
 ghost use Rattle.desk_boards.specs.Answered.{board_number, board_answered};
 
+use board::{Listed, Refusal};
+
 // The board of a stop from a second of a date on: places of rows by departure moment, then key, as many as fit.
 pub fn desk_board(
     owner: &[u8],
@@ -40,13 +42,14 @@ fn write_three(answer: &mut [u64; 3], number: u32, value: u64, second: u64) -> u
 }
 
 // What a board came to. It has no counts, so that none can be taken for the day's.
-pub fn set_board(answer: &mut [u64; 3], listing: board::Listing) -> u32
+#[tactic(auto, unfolding(crate::specs::Answered::board_number, crate::specs::Answered::board_answered))]
+pub fn set_board(answer: &mut [u64; 3], listing: Result<Listed, Refusal>) -> u32
     ensures value { result ≡ board_number listing }
     ensures answer_after { answer.new ≡ board_answered listing }
 {
     match listing {
-        board::Listing::Listed(w, s) => write_three(answer, 0, w as u64, s as u64),
-        board::Listing::Unsound => write_three(answer, 1, 0, 0),
-        board::Listing::OutOfRange => write_three(answer, 13, 0, 0),
+        Ok(listed) => write_three(answer, 0, listed.written as u64, listed.shown as u64),
+        Err(Refusal::Unsound) => write_three(answer, 1, 0, 0),
+        Err(Refusal::OutOfRange) => write_three(answer, 13, 0, 0),
     }
 }

@@ -6,6 +6,7 @@ use Prim.Native.Nat.{ℕ, zero, suc, ◌+◌, ◌<◌}
 use native.Mathlib.Nat.{zero-add}
 use native.Mathlib.Omega.{arith}
 use lib.ListN.{length, get_or}
+use Rattle.std.specs.Prelude.{Err}
 use Rattle.lists.specs.Logic.{on}
 use Rattle.keys.specs.Replay.{taken_all}
 use Rattle.update.specs.Rule.{row_rule}
@@ -18,7 +19,7 @@ use Rattle.calls.specs.Open.{opened_by, open_leaves}
 use Rattle.calls.specs.Leaves.{Day}
 use Rattle.runs.specs.Runs.{Call, Reply, reply_to, is_listed, is_done, after, opened, Taken, Deed, deed_of, done, noted, Begun, begun_by, begun_if, day_after, log_after, begun_after}
 use Rattle.runs.specs.Claims.{AfterRuns, Sound, CallsKeepSound, Agrees, CallsKeepAgreeing, TableIsReplay, rows_in, SameStandingSameRows, AsIfNever, SameRowsSameBoards, NumberedInOrder, RefusedChangesNothing, CallsAreDeeds, BoardsChangeNothing, All}
-use Rattle.board.specs.declared.Listing.TheVariants.{OutOfRange, Unsound}
+use Rattle.board.specs.declared.Refusal.TheVariants.{OutOfRange, Unsound}
 use Rattle.board.specs.Rules.{listed, board_of, board_with, fitted, board_leaves}
 use Rattle.board_show.specs.Ask.{Question, asks_in_range}
 use Rattle.board_show.specs.Show.{shows}
@@ -112,7 +113,7 @@ as-if-never planning calendar book table planning' calendar' book' table' c c' c
 -- a board of a sound day is one of its rows
 board-of-rows : (question : Question) (places : List ℕ) (x : Day) → table_sound x.counts.rows x.table ≡ true
     → board_leaves question x.table x.counts.rows places
-    ≡ on (asks_in_range question) (fitted (listed (shows question) (rows_in x)) places) (board_with OutOfRange places)
+    ≡ on (asks_in_range question) (fitted (listed (shows question) (rows_in x)) places) (board_with (Err OutOfRange) places)
 unfolding board_leaves board_of
 board-of-rows question places x e = rw e
 
@@ -120,7 +121,7 @@ same-boards : SameRowsSameBoards
 same-boards planning calendar book table planning' calendar' book' table' c c' calls calls' a a' question places h =
     ap Reply.showed
     (board-of-rows question places (day_after calls (opened planning calendar book table c)) (follows planning calendar book table c calls a).agrees.0.1
-    ∙ ap (λ (rs : List (List ℕ)). on (asks_in_range question) (fitted (listed (shows question) rs) places) (board_with OutOfRange places)) h
+    ∙ ap (λ (rs : List (List ℕ)). on (asks_in_range question) (fitted (listed (shows question) rs) places) (board_with (Err OutOfRange) places)) h
     ∙ sym (board-of-rows question places (day_after calls' (opened planning' calendar' book' table' c')) (follows planning' calendar' book' table' c' calls' a').agrees.0.1))
 
 boards-nothing : BoardsChangeNothing
@@ -128,7 +129,7 @@ unfolding board_leaves
 boards-nothing question places x = (refl, refl, kept (table_sound x.counts.rows x.table) (asks_in_range question))
   where
     kept : (s t : Bool)
-        → let board = on s (on t (fitted (board_of question x.table x.counts.rows) places) (board_with OutOfRange places)) (board_with Unsound places) in
+        → let board = on s (on t (fitted (board_of question x.table x.counts.rows) places) (board_with (Err OutOfRange) places)) (board_with (Err Unsound) places) in
         is_listed board.answer ≡ false → board.places ≡ places
     kept true true e = absurd (let z : ◌≡◌ {A = ℕ} 0 1 = cc in omega arith)
     kept true false e = refl

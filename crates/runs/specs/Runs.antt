@@ -1,5 +1,5 @@
 -- A day, calls on it one after another, and a log made of the calls and their answers alone. Assumes nothing.
-use Rattle.std.specs.Prelude.{ℕ, ◌-◌, Bool, true, false, List, [], ◌∷◌, ◌++◌, map, eqb, ltb}
+use Rattle.std.specs.Prelude.{ℕ, ◌-◌, Bool, true, false, List, [], ◌∷◌, ◌++◌, map, eqb, ltb, is_ok}
 use Rattle.lists.specs.Logic.{on}
 use Rattle.lists.specs.Part.{over}
 use Rattle.lists.specs.Rows.{flat}
@@ -14,9 +14,7 @@ use Rattle.calls.specs.Message.{message_rows, message_answer, book_taking, table
 use Rattle.calls.specs.Withdraw.{rows_without, withdraw_answer, book_without, table_without, counts_without, withdraw_leaves}
 use Rattle.calls.specs.End.{staged_rows, end_answer, EndLeaves, end_leaves}
 use Rattle.calls.specs.Open.{plan_of, open_answer, counts_opened, open_leaves}
-use Rattle.board.specs.declared.Listing.{Listing}
-use Rattle.board.specs.declared.Listing.TheVariants.{Listed, Unsound, OutOfRange}
-use Rattle.board.specs.Rules.{Board, board_leaves}
+use Rattle.board.specs.Rules.{Listing, Board, board_leaves}
 use Rattle.board_show.specs.Ask.{Question}
 
 -- an open (planning, calendar), a message (dossier, sender, form, register), the end of a dossier that came in parts (register, staging area, the feed's numbers: whatever
@@ -41,9 +39,7 @@ reply_to (withdraw n sender) x = answered (withdraw_answer n sender x.book x.tab
 reply_to (look question places) x = showed (board_leaves question x.table x.counts.rows places)
 
 abbrev pub is_listed : Listing → Bool
-is_listed (Listed written shown) = true
-is_listed Unsound = false
-is_listed OutOfRange = false
+is_listed l = is_ok l
 
 -- the call was not refused
 abbrev pub is_done : Reply → Bool

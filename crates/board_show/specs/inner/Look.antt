@@ -1,11 +1,9 @@
 -- A row, as the code looks at it. Assumes nothing.
-use Rattle.std.specs.Prelude.{ℕ, Bool, not, ◌&&◌, ◌||◌, List, eqb}
+use Rattle.std.specs.Prelude.{ℕ, Bool, not, ◌&&◌, ◌||◌, List, eqb, Option, Some, None}
 use Rattle.lists.specs.Logic.{on, within}
 use Rattle.lists.specs.Text.{same}
 use Rattle.clock.specs.declared.ClockSeconds.{ClockSeconds}
 use Rattle.passage.specs.Layout.{owner_of, stop_of}
-use Rattle.board_show.specs.declared.Shown.{Shown}
-use Rattle.board_show.specs.declared.Shown.TheVariants.{At, Hidden}
 use Rattle.board_show.specs.Show.{departs, may_show}
 
 -- the row is of this owner and this stop, both padded
@@ -17,8 +15,8 @@ unfoldable pub showing : List ℕ → List ℕ → ClockSeconds → ClockSeconds
 showing owner stop from till r = is_of owner stop r && may_show from till r
 
 -- the departure moment of a row that is shown
-unfoldable pub shown_at : List ℕ → List ℕ → ClockSeconds → ClockSeconds → List ℕ → Shown
-shown_at owner stop from till r = on (showing owner stop from till r) (At (departs r)) Hidden
+unfoldable pub shown_at : List ℕ → List ℕ → ClockSeconds → ClockSeconds → List ℕ → Option ClockSeconds
+shown_at owner stop from till r = on (showing owner stop from till r) (Some (departs r)) None
 
 -- the show rule but for stop and stop type, over the numbers that it looks at
 unfoldable pub may_be : ClockSeconds → ClockSeconds → ClockSeconds → ℕ → ℕ → ℕ → ℕ → ℕ → ℕ → Bool
