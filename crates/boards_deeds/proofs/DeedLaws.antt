@@ -1,12 +1,12 @@
 -- What the ways through a command come to. Assumes nothing.
+use Rattle.std.specs.Prelude.{Ok, Err}
 use Rattle.std.proofs.Common.{◌≡◌, ℕ, ◌+◌, ◌<◌, ◌≤◌, Bool, true, false, List, [], ◌∷◌, sym, refl, ap, ◌∙◌, arith, le-ltb, lt-ltb}
 use Rattle.script_text.specs.Rules.{appended}
 use Rattle.boards_departures.specs.Shown.{is_shown}
-use Rattle.calls.specs.declared.Answer.{Answer}
-use Rattle.calls.specs.declared.Answer.TheVariants as Answers
+use Rattle.calls.specs.declared.Refusal.TheVariants as Answers
 use Rattle.calls.specs.declared.Four.{Four}
 use Rattle.calls.specs.declared.Outcome.{Outcome}
-use Rattle.calls.specs.Answers.{numbers, is_accepted}
+use Rattle.calls.specs.Answers.{Answer, numbers, is_accepted}
 use Rattle.calls.specs.inner.Steps.{four_of}
 use Rattle.calls.specs.Leaves.{Leaves as CallLeaves, leaves}
 use Rattle.boards_saved.specs.declared.Saved.{Saved}
@@ -52,40 +52,26 @@ next-is h n e = ap (λ (k : ℕ). record { counts = h.counts; register = h.regis
 
 -- an answer's number says whether it is an acceptance
 number-accepted : (a : Answer) → (numbers a).0 ≡ 0 → is_accepted a ≡ true
-number-accepted (Answers.Accepted n) h = refl
-number-accepted Answers.Unsound h = absurd (omega (arith, h))
-number-accepted (Answers.TooLong w) h = absurd (omega (arith, h))
-number-accepted (Answers.Syntax i w) h = absurd (omega (arith, h))
-number-accepted (Answers.Long l w) h = absurd (omega (arith, h))
-number-accepted (Answers.Form l w) h = absurd (omega (arith, h))
-number-accepted (Answers.Field l c w) h = absurd (omega (arith, h))
-number-accepted (Answers.Owner l) h = absurd (omega (arith, h))
-number-accepted Answers.StagingShort h = absurd (omega (arith, h))
-number-accepted Answers.BookShort h = absurd (omega (arith, h))
-number-accepted Answers.TableShort h = absurd (omega (arith, h))
-number-accepted Answers.KeyTwice h = absurd (omega (arith, h))
-number-accepted Answers.NoMessage h = absurd (omega (arith, h))
-number-accepted Answers.AlreadyWithdrawn h = absurd (omega (arith, h))
-number-accepted Answers.OtherSender h = absurd (omega (arith, h))
-number-accepted Answers.UnknownForm h = absurd (omega (arith, h))
+number-accepted (Ok n) h = refl
+number-accepted (Err Answers.Unsound) h = absurd (omega (arith, h))
+number-accepted (Err (Answers.TooLong w)) h = absurd (omega (arith, h))
+number-accepted (Err (Answers.Syntax i w)) h = absurd (omega (arith, h))
+number-accepted (Err (Answers.Long l w)) h = absurd (omega (arith, h))
+number-accepted (Err (Answers.Form l w)) h = absurd (omega (arith, h))
+number-accepted (Err (Answers.Field l c w)) h = absurd (omega (arith, h))
+number-accepted (Err (Answers.Owner l)) h = absurd (omega (arith, h))
+number-accepted (Err Answers.StagingShort) h = absurd (omega (arith, h))
+number-accepted (Err Answers.BookShort) h = absurd (omega (arith, h))
+number-accepted (Err Answers.TableShort) h = absurd (omega (arith, h))
+number-accepted (Err Answers.KeyTwice) h = absurd (omega (arith, h))
+number-accepted (Err Answers.NoMessage) h = absurd (omega (arith, h))
+number-accepted (Err Answers.AlreadyWithdrawn) h = absurd (omega (arith, h))
+number-accepted (Err Answers.OtherSender) h = absurd (omega (arith, h))
+number-accepted (Err Answers.UnknownForm) h = absurd (omega (arith, h))
 
 number-refused : (a : Answer) → ((numbers a).0 ≡ 0 → ⊥) → is_accepted a ≡ false
-number-refused (Answers.Accepted n) h = absurd (h refl)
-number-refused Answers.Unsound h = refl
-number-refused (Answers.TooLong w) h = refl
-number-refused (Answers.Syntax i w) h = refl
-number-refused (Answers.Long l w) h = refl
-number-refused (Answers.Form l w) h = refl
-number-refused (Answers.Field l c w) h = refl
-number-refused (Answers.Owner l) h = refl
-number-refused Answers.StagingShort h = refl
-number-refused Answers.BookShort h = refl
-number-refused Answers.TableShort h = refl
-number-refused Answers.KeyTwice h = refl
-number-refused Answers.NoMessage h = refl
-number-refused Answers.AlreadyWithdrawn h = refl
-number-refused Answers.OtherSender h = refl
-number-refused Answers.UnknownForm h = refl
+number-refused (Ok n) h = absurd (h refl)
+number-refused (Err x) h = refl
 
 pub told-accepted : (o : Outcome) (h : Held) (f : Four) → f ≡ four_of (numbers o.answer) → f.number ≡ 0
     → record { counts = o.counts; register = h.register; day = true; line = h.line; bad = h.bad; refused = h.refused } ≡ holding o h

@@ -18,10 +18,9 @@ use Rattle.reader.proofs.AnswerLaws.{accepted}
 use Rattle.table.specs.Rules.{table_sound, table_room}
 use Rattle.book.specs.Entries.{entry_wide, sender_of, kind_of, updates_in}
 use Rattle.book.specs.Rules.{book_sound, book_room, message_entries}
-use Rattle.calls.specs.declared.Answer.{Answer}
-use Rattle.calls.specs.declared.Answer.TheVariants.{Accepted, Unsound, BookShort, TableShort, AlreadyWithdrawn, OtherSender, UnknownForm}
+use Rattle.calls.specs.declared.Refusal.TheVariants.{Unsound, BookShort, TableShort, AlreadyWithdrawn, OtherSender, UnknownForm}
 use Rattle.calls.specs.declared.Counts.{Counts}
-use Rattle.calls.specs.Answers.{is_accepted, unless_refused}
+use Rattle.calls.specs.Answers.{Answer, is_accepted, unless_refused}
 use Rattle.calls.specs.Message.{message_sound, message_table, message_rows, number_for, rows_taken, room_for, message_answer}
 use Rattle.calls.specs.Withdraw.{withdraw_sound, rows_without, unless_barred, room_without, withdraw_answer}
 use Rattle.calls.specs.Claims.{MessageAcceptedExactly, WithdrawAcceptedExactly}
@@ -34,12 +33,7 @@ first_of false a x r e = absurd (let z : ◌≡◌ {A = ℕ} 0 1 = cc in omega a
 
 -- only rows go on
 pub read-on : (w : ℕ) (r : Reading) (next : Answer) → is_accepted (unless_refused w r next) ≡ true → ((n : ℕ) × (r ≡ Ok n)) × (is_accepted next ≡ true)
-read-on w (Err Faults.TooLong) next e = absurd (let z : ◌≡◌ {A = ℕ} 0 1 = cc in omega arith)
-read-on w (Err (Faults.Syntax i)) next e = absurd (let z : ◌≡◌ {A = ℕ} 0 1 = cc in omega arith)
-read-on w (Err (Faults.Long l)) next e = absurd (let z : ◌≡◌ {A = ℕ} 0 1 = cc in omega arith)
-read-on w (Err (Faults.Form l)) next e = absurd (let z : ◌≡◌ {A = ℕ} 0 1 = cc in omega arith)
-read-on w (Err (Faults.Field l c)) next e = absurd (let z : ◌≡◌ {A = ℕ} 0 1 = cc in omega arith)
-read-on w (Err (Faults.Owner l)) next e = absurd (let z : ◌≡◌ {A = ℕ} 0 1 = cc in omega arith)
+read-on w (Err f) next e = absurd (let z : ◌≡◌ {A = ℕ} 0 1 = cc in omega arith)
 read-on w (Ok n) next e = ((n, refl), e)
 
 -- ---- message
@@ -66,15 +60,15 @@ module _ (d register book table : List ℕ) (sender form : ℕ) (c : Counts) whe
   unfolding message_answer room_for
   passed e =
       let read = unless_refused 0 (reading_of (message_table form) register sender d) (room_for bodies book table c) in
-      let s = first_of (message_sound register book table c) (on (is_form form) read UnknownForm) Unsound refl e in
-      let k = first_of (is_form form) read UnknownForm refl s.1 in
+      let s = first_of (message_sound register book table c) (on (is_form form) read (Err UnknownForm)) (Err Unsound) refl e in
+      let k = first_of (is_form form) read (Err UnknownForm) refl s.1 in
       let r = read-on 0 (reading_of (message_table form) register sender d) (room_for bodies book table c) k.1 in
-      let b = first_of fits (on holds (Accepted (number_for bodies c.used book)) TableShort) BookShort refl r.1 in
-      let t = first_of holds (Accepted (number_for bodies c.used book)) TableShort refl b.1 in
+      let b = first_of fits (on holds (Ok (number_for bodies c.used book)) (Err TableShort)) (Err BookShort) refl r.1 in
+      let t = first_of holds (Ok (number_for bodies c.used book)) (Err TableShort) refl b.1 in
       record { sound = s.0; known = k.0; rows = r.0; in-book = leb-true _ _ b.0; in_table = leb-true _ _ t.0 }
 
   -- and it is accepted with its number
-  pub passes : Passed → message_answer d sender form register book table c ≡ Accepted (number_for bodies c.used book)
+  pub passes : Passed → message_answer d sender form register book table c ≡ Ok (number_for bodies c.used book)
   unfolding message_answer room_for
   passes p = rw (p.sound, p.known, p.rows.1, le-leb _ _ p.in-book, le-leb _ _ p.in_table)
 
@@ -118,10 +112,10 @@ module _ (book table : List ℕ) (number sender : ℕ) (c : Counts) where
   unbarred : (ms : List (List ℕ)) (next : Answer) → is_accepted (unless_barred ms sender next) ≡ true → Standing ms × (is_accepted next ≡ true)
   unbarred [] next e = absurd (let z : ◌≡◌ {A = ℕ} 0 1 = cc in omega arith)
   unbarred (m ∷ ms) next e =
-      let p = first_of (eqb sender 0 || eqb sender (sender_of m)) (on (eqb (kind_of m) 3) AlreadyWithdrawn next) OtherSender refl e in
+      let p = first_of (eqb sender 0 || eqb sender (sender_of m)) (on (eqb (kind_of m) 3) (Err AlreadyWithdrawn) next) (Err OtherSender) refl e in
       go (eqb (kind_of m) 3) refl p.0 p.1
     where
-      go : (b : Bool) → eqb (kind_of m) 3 ≡ b → (eqb sender 0 || eqb sender (sender_of m)) ≡ true → is_accepted (on b AlreadyWithdrawn next) ≡ true → Standing (m ∷ ms) × (is_accepted next ≡ true)
+      go : (b : Bool) → eqb (kind_of m) 3 ≡ b → (eqb sender 0 || eqb sender (sender_of m)) ≡ true → is_accepted (on b (Err AlreadyWithdrawn) next) ≡ true → Standing (m ∷ ms) × (is_accepted next ≡ true)
       go true q h k = absurd (let z : ◌≡◌ {A = ℕ} 0 1 = cc in omega arith)
       go false q h k = ((m, ms, refl, h, q), k)
 
@@ -135,13 +129,13 @@ module _ (book table : List ℕ) (number sender : ℕ) (c : Counts) where
   pub left : is_accepted (withdraw_answer number sender book table c) ≡ true → Left
   unfolding withdraw_answer withdraw_sound room_without
   left e =
-      let s = first_of (withdraw_sound book table c) (unless_barred (message_entries number us) sender (on remains (Accepted 0) TableShort)) Unsound refl e in
+      let s = first_of (withdraw_sound book table c) (unless_barred (message_entries number us) sender (on remains (Ok 0) (Err TableShort))) (Err Unsound) refl e in
       let q = and-pass (book_sound c.used book) (table_sound c.rows table) s.0 in
-      let u = unbarred (message_entries number us) (on remains (Accepted 0) TableShort) s.1 in
-      let t = first_of remains (Accepted 0) TableShort refl u.1 in
+      let u = unbarred (message_entries number us) (on remains (Ok 0) (Err TableShort)) s.1 in
+      let t = first_of remains (Ok 0) (Err TableShort) refl u.1 in
       record { book-sound = q.0; table-sound = q.1; stands = u.0; in_table = leb-true _ _ t.0 }
 
-  without : Left → withdraw_answer number sender book table c ≡ Accepted 0
+  without : Left → withdraw_answer number sender book table c ≡ Ok 0
   unfolding withdraw_answer withdraw_sound room_without
   without p = rw (p.book-sound, p.table-sound, p.stands.2, p.stands.3, p.stands.4, le-leb _ _ p.in_table)
 

@@ -2,12 +2,13 @@
 use Prim.Native.Nat.{ℕ}
 use mathlib.Core.Path.{refl, ap, ◌∙◌}
 use mathlib.Core.List.{List}
+use Rattle.std.specs.Prelude.{Err}
 use Rattle.lists.specs.Logic.{on}
 use Rattle.columns.specs.declared.Form.TheVariants.{Old, New}
 use Rattle.columns.specs.declared.Table.TheVariants.{Message}
 use Rattle.reader.specs.Rules.{Reading, reading_of}
 use Rattle.reader.proofs.AlikeLaws.{forms-read-alike}
-use Rattle.calls.specs.declared.Answer.TheVariants.{Unsound}
+use Rattle.calls.specs.declared.Refusal.TheVariants.{Unsound}
 use Rattle.calls.specs.declared.Counts.{Counts}
 use Rattle.calls.specs.Answers.{unless_refused}
 use Rattle.calls.specs.Leaves.{Leaves}
@@ -21,7 +22,7 @@ old-form-answers dossier register staging book table kept sender c = (refl, λ e
 
 -- what a reading and rows come to
 abbrev comes_to : List ℕ → List ℕ → List ℕ → ℕ → Counts → Reading → List (List ℕ) → Leaves
-comes_to register book table sender c r rows = taken_by (on (message_sound register book table c) (unless_refused 0 r (room_for rows book table c)) Unsound) rows sender book table c
+comes_to register book table sender c r rows = taken_by (on (message_sound register book table c) (unless_refused 0 r (room_for rows book table c)) (Err Unsound)) rows sender book table c
 
 pub forms-taken-alike : FormsTakenAlike
 unfolding message_leaves message_answer message_rows

@@ -17,11 +17,10 @@ use Rattle.feeds.specs.Kept.{feed_of}
 use Rattle.table.specs.Rules.{table_room}
 use Rattle.book.specs.Entries.{entry_wide}
 use Rattle.book.specs.Rules.{book_room}
-use Rattle.calls.specs.declared.Answer.{Answer}
-use Rattle.calls.specs.declared.Answer.TheVariants.{Accepted, Unsound, Owner, StagingShort, BookShort, TableShort, UnknownForm}
+use Rattle.calls.specs.declared.Refusal.TheVariants.{Unsound, Owner, StagingShort, BookShort, TableShort, UnknownForm}
 use Rattle.calls.specs.declared.Counts.{Counts}
 use Rattle.calls.specs.declared.Outcome.{Outcome}
-use Rattle.calls.specs.Answers.{numbers, unless_refused}
+use Rattle.calls.specs.Answers.{Answer, numbers, unless_refused}
 use Rattle.calls.specs.Message.{number_for, rows_taken, room_for, taken_by}
 use Rattle.calls.specs.End.{EndLeaves, staged_rows, any_denied, falls_short, end_sound, reading_kept, post_answer, end_answer, end_with, end_leaves}
 use Rattle.calls.specs.Numbers.{line, dossier_lines, kept_table, end_numbers}
@@ -47,7 +46,7 @@ kept-by-table f =
     (kept-first (is_line s.wrong) _ _ _
     (kept-first (is_line s.owner) _ _ _ refl))))))
 
-post-first : (p q : Bool) (a : Answer) (ls : Lines) (z : Four) → numbers a ≡ first_held ls z → numbers (on p (Owner 0) (on q StagingShort a)) ≡ first_held (line 6 p ∷ line 14 q ∷ ls) z
+post-first : (p q : Bool) (a : Answer) (ls : Lines) (z : Four) → numbers a ≡ first_held ls z → numbers (on p (Err (Owner 0)) (on q (Err StagingShort) a)) ≡ first_held (line 6 p ∷ line 14 q ∷ ls) z
 post-first true q a ls z h = refl
 post-first false true a ls z h = refl
 post-first false false a ls z h = h
@@ -83,11 +82,11 @@ end-told register staging book table c kept r b t k e =
 abbrev Passes : Answer → Type 0
 Passes a = is_one_of (0 ∷ 1 ∷ 18 ∷ 2 ∷ 3 ∷ 15 ∷ 4 ∷ 5 ∷ 6 ∷ 14 ∷ 7 ∷ 8 ∷ []) (numbers a).0 ≡ true
 
-passes-sound : (b : Bool) (a : Answer) → Passes a → Passes (on b a Unsound)
+passes-sound : (b : Bool) (a : Answer) → Passes a → Passes (on b a (Err Unsound))
 passes-sound true a h = h
 passes-sound false a h = refl
 
-passes-known : (b : Bool) (a : Answer) → Passes a → Passes (on b a UnknownForm)
+passes-known : (b : Bool) (a : Answer) → Passes a → Passes (on b a (Err UnknownForm))
 passes-known true a h = h
 passes-known false a h = refl
 
@@ -100,7 +99,7 @@ passes-reading (Err (Faults.Field l c)) next h = refl
 passes-reading (Err (Faults.Owner l)) next h = refl
 passes-reading (Ok n) next h = h
 
-passes-post : (p q r s : Bool) (n : ℕ) → Passes (on p (Owner 0) (on q StagingShort (on r (on s (Accepted n) TableShort) BookShort)))
+passes-post : (p q r s : Bool) (n : ℕ) → Passes (on p (Err (Owner 0)) (on q (Err StagingShort) (on r (on s (Ok n) (Err TableShort)) (Err BookShort))))
 passes-post true q r s n = refl
 passes-post false true r s n = refl
 passes-post false false true true n = refl

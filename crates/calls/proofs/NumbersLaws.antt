@@ -18,11 +18,10 @@ use Rattle.reader.proofs.LookLaws.{numbers-by-table}
 use Rattle.table.specs.Rules.{table_room}
 use Rattle.book.specs.Entries.{plan_wide, entry_wide, kind_of, sender_of, updates_in}
 use Rattle.book.specs.Rules.{book_room, message_entries}
-use Rattle.calls.specs.declared.Answer.{Answer}
-use Rattle.calls.specs.declared.Answer.TheVariants.{Accepted, Unsound, BookShort, TableShort, KeyTwice, AlreadyWithdrawn, OtherSender, UnknownForm}
+use Rattle.calls.specs.declared.Refusal.TheVariants.{Unsound, BookShort, TableShort, KeyTwice, AlreadyWithdrawn, OtherSender, UnknownForm}
 use Rattle.calls.specs.declared.Counts.{Counts}
 use Rattle.calls.specs.declared.Outcome.{Outcome}
-use Rattle.calls.specs.Answers.{numbers, unless_refused}
+use Rattle.calls.specs.Answers.{Answer, numbers, unless_refused}
 use Rattle.calls.specs.Leaves.{Leaves, leaves}
 use Rattle.calls.specs.Message.{message_sound, message_table, message_rows, number_for, rows_taken, room_for, message_answer, taken_by, message_leaves}
 use Rattle.calls.specs.Withdraw.{withdraw_sound, rows_without, unless_barred, room_without, withdraw_answer, without_by, withdraw_leaves}
@@ -46,11 +45,11 @@ too_many n room = go (leb n room) refl
     go false e = lt-ltb room n (leb-false n room e)
 
 -- a line before others
-pub sound-first : (s : Bool) (a : Answer) (ls : Lines) (z : Four) → numbers a ≡ first_held ls z → numbers (on s a Unsound) ≡ first_held (line 1 (not s) ∷ ls) z
+pub sound-first : (s : Bool) (a : Answer) (ls : Lines) (z : Four) → numbers a ≡ first_held ls z → numbers (on s a (Err Unsound)) ≡ first_held (line 1 (not s) ∷ ls) z
 sound-first true a ls z h = h
 sound-first false a ls z h = refl
 
-pub known-first : (k : Bool) (a : Answer) (ls : Lines) (z : Four) → numbers a ≡ first_held ls z → numbers (on k a UnknownForm) ≡ first_held (line 18 (not k) ∷ ls) z
+pub known-first : (k : Bool) (a : Answer) (ls : Lines) (z : Four) → numbers a ≡ first_held ls z → numbers (on k a (Err UnknownForm)) ≡ first_held (line 18 (not k) ∷ ls) z
 known-first true a ls z h = h
 known-first false a ls z h = refl
 
@@ -81,7 +80,7 @@ by-table w r k a ls z e h = subst (λ (x : ℕ × ℕ × ℕ). numbers (unless_r
 
 -- ---- message
 
-pub rooms : (p q : Bool) (n : ℕ) → numbers (on p (on q (Accepted n) TableShort) BookShort) ≡ first_held (line 7 (not p) ∷ line 8 (not q) ∷ []) (0, n, 0, 0)
+pub rooms : (p q : Bool) (n : ℕ) → numbers (on p (on q (Ok n) (Err TableShort)) (Err BookShort)) ≡ first_held (line 7 (not p) ∷ line 8 (not q) ∷ []) (0, n, 0, 0)
 rooms true true n = refl
 rooms true false n = refl
 rooms false q n = refl
@@ -113,11 +112,11 @@ barred_lines es sender q =
     ∷ line 8 q
     ∷ []
 
-barred : (es : List (List ℕ)) (sender : ℕ) (q : Bool) → numbers (unless_barred es sender (on q (Accepted 0) TableShort)) ≡ first_held (barred_lines es sender (not q)) (0, 0, 0, 0)
+barred : (es : List (List ℕ)) (sender : ℕ) (q : Bool) → numbers (unless_barred es sender (on q (Ok 0) (Err TableShort))) ≡ first_held (barred_lines es sender (not q)) (0, 0, 0, 0)
 barred [] sender q = refl
 barred (e ∷ es) sender q = go (eqb sender 0 || eqb sender (sender_of e)) (eqb (kind_of e) 3) q
   where
-    go : (own gone fits : Bool) → numbers (on own (on gone AlreadyWithdrawn (on fits (Accepted 0) TableShort)) OtherSender)
+    go : (own gone fits : Bool) → numbers (on own (on gone (Err AlreadyWithdrawn) (on fits (Ok 0) (Err TableShort))) (Err OtherSender))
         ≡ first_held (line 12 (not own) ∷ line 11 gone ∷ line 8 (not fits) ∷ []) (0, 0, 0, 0)
     go true true fits = refl
     go true false true = refl
@@ -134,7 +133,7 @@ withdraw-numbers book table number sender c =
 
 -- ---- open
 
-open-rooms : (p q r : Bool) → numbers (on p (on q (on r (Accepted 0) TableShort) KeyTwice) BookShort) ≡ first_held (line 7 (not p) ∷ line 9 (not q) ∷ line 8 (not r) ∷ []) (0, 0, 0, 0)
+open-rooms : (p q r : Bool) → numbers (on p (on q (on r (Ok 0) (Err TableShort)) (Err KeyTwice)) (Err BookShort)) ≡ first_held (line 7 (not p) ∷ line 9 (not q) ∷ line 8 (not r) ∷ []) (0, 0, 0, 0)
 open-rooms true true true = refl
 open-rooms true true false = refl
 open-rooms true false r = refl

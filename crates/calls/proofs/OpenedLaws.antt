@@ -8,7 +8,7 @@ use mathlib.Core.Logic.{◌⊎◌, inl, inr, ⊎_elim}
 use borrow.Author.Tests.{leb-true, eqb-true}
 use lib.Dec.{eqb, leb}
 use lib.ListN.{length, drop, length-map, length-append}
-use Rattle.std.specs.Prelude.{Ok}
+use Rattle.std.specs.Prelude.{Ok, Err}
 use Rattle.lists.specs.Each.{Each}
 use Rattle.lists.specs.Part.{over}
 use Rattle.lists.specs.Rows.{flat, Wide}
@@ -33,7 +33,7 @@ use Rattle.table.proofs.SoundLaws.{room-holds}
 use Rattle.book.specs.Entries.{plan_wide, plan_entry}
 use Rattle.book.specs.Rules.{plan_row, plan_rows, book_room}
 use Rattle.book.proofs.SoundLaws.{room_within}
-use Rattle.calls.specs.declared.Answer.TheVariants.{Accepted, BookShort, TableShort, KeyTwice}
+use Rattle.calls.specs.declared.Refusal.TheVariants.{BookShort, TableShort, KeyTwice}
 use Rattle.calls.specs.Answers.{is_accepted}
 use Rattle.calls.specs.Open.{passages_of, plan_of, room_to_open, open_answer, opened_by, open_leaves}
 use Rattle.calls.specs.Claims.{OpenLeavesPlan, PlanExactly, OpenReadsLengths}
@@ -54,9 +54,9 @@ open-taken planning calendar book table e =
     let bodies : List (List ℕ) = passages_of planning calendar in
     let p = read-on 1 (reading_of Tables.Planning [] 0 planning) _ e in
     let q = read-on 2 (reading_of Tables.Calendar [] 0 calendar) _ p.1 in
-    let b = first_of (leb (length bodies * plan_wide) (book_room book)) _ BookShort refl q.1 in
-    let o = first_of (eqb (length (put_all bodies [])) (length bodies)) _ KeyTwice refl b.1 in
-    let t = first_of (leb (length bodies) (table_room table)) (Accepted 0) TableShort refl o.1 in
+    let b = first_of (leb (length bodies * plan_wide) (book_room book)) _ (Err BookShort) refl q.1 in
+    let o = first_of (eqb (length (put_all bodies [])) (length bodies)) _ (Err KeyTwice) refl b.1 in
+    let t = first_of (leb (length bodies) (table_room table)) (Ok 0) (Err TableShort) refl o.1 in
     record { planned = p.0; dated = q.0; book-room = leb-true _ _ b.0; once = eqb-true _ _ o.0; table-room = leb-true _ _ t.0 }
 
 -- ---- rows put one after another

@@ -20,10 +20,9 @@ use Rattle.keys.specs.Sorted.{put_all}
 use Rattle.table.specs.Rules.{table_room}
 use Rattle.book.specs.Entries.{plan_wide, sender_of, kind_of, updates_in}
 use Rattle.book.specs.Rules.{book_room, message_entries}
-use Rattle.calls.specs.declared.Answer.{Answer}
-use Rattle.calls.specs.declared.Answer.TheVariants.{Accepted, Unsound, TooLong, Syntax, Long, Form, Field, Owner, StagingShort, BookShort, TableShort, KeyTwice, NoMessage, AlreadyWithdrawn, OtherSender, UnknownForm}
+use Rattle.calls.specs.declared.Refusal.TheVariants.{Unsound, TooLong, Syntax, Long, Form, Field, Owner, StagingShort, BookShort, TableShort, KeyTwice, NoMessage, AlreadyWithdrawn, OtherSender, UnknownForm}
 use Rattle.calls.specs.declared.Counts.{Counts}
-use Rattle.calls.specs.Answers.{numbers, unless_refused}
+use Rattle.calls.specs.Answers.{Answer, numbers, unless_refused}
 use Rattle.calls.specs.Message.{message_sound, message_table, message_rows, number_for, room_for, message_answer, taken_by, message_leaves}
 use Rattle.calls.specs.Withdraw.{withdraw_sound, unless_barred, room_without, withdraw_answer, without_by, withdraw_leaves}
 use Rattle.calls.specs.Open.{passages_of, room_to_open, open_answer, opened_by, open_leaves}
@@ -31,22 +30,22 @@ use Rattle.calls.specs.Claims.{AcceptanceIsZero, RefusalsGiveBack, is_one_of, Nu
 use Rattle.register.specs.Register.{may_send}
 
 pub acceptance-is-zero : AcceptanceIsZero
-acceptance-is-zero (Accepted n) = (λ e. refl, λ e. refl)
-acceptance-is-zero Unsound = (λ e. absurd (let z : ◌≡◌ {A = ℕ} 0 1 = cc in omega arith), λ e. absurd (omega arith))
-acceptance-is-zero (TooLong w) = (λ e. absurd (let z : ◌≡◌ {A = ℕ} 0 1 = cc in omega arith), λ e. absurd (omega arith))
-acceptance-is-zero (Syntax i w) = (λ e. absurd (let z : ◌≡◌ {A = ℕ} 0 1 = cc in omega arith), λ e. absurd (omega arith))
-acceptance-is-zero (Long l w) = (λ e. absurd (let z : ◌≡◌ {A = ℕ} 0 1 = cc in omega arith), λ e. absurd (omega arith))
-acceptance-is-zero (Form l w) = (λ e. absurd (let z : ◌≡◌ {A = ℕ} 0 1 = cc in omega arith), λ e. absurd (omega arith))
-acceptance-is-zero (Field l c w) = (λ e. absurd (let z : ◌≡◌ {A = ℕ} 0 1 = cc in omega arith), λ e. absurd (omega arith))
-acceptance-is-zero (Owner l) = (λ e. absurd (let z : ◌≡◌ {A = ℕ} 0 1 = cc in omega arith), λ e. absurd (omega arith))
-acceptance-is-zero StagingShort = (λ e. absurd (let z : ◌≡◌ {A = ℕ} 0 1 = cc in omega arith), λ e. absurd (omega arith))
-acceptance-is-zero BookShort = (λ e. absurd (let z : ◌≡◌ {A = ℕ} 0 1 = cc in omega arith), λ e. absurd (omega arith))
-acceptance-is-zero TableShort = (λ e. absurd (let z : ◌≡◌ {A = ℕ} 0 1 = cc in omega arith), λ e. absurd (omega arith))
-acceptance-is-zero KeyTwice = (λ e. absurd (let z : ◌≡◌ {A = ℕ} 0 1 = cc in omega arith), λ e. absurd (omega arith))
-acceptance-is-zero NoMessage = (λ e. absurd (let z : ◌≡◌ {A = ℕ} 0 1 = cc in omega arith), λ e. absurd (omega arith))
-acceptance-is-zero AlreadyWithdrawn = (λ e. absurd (let z : ◌≡◌ {A = ℕ} 0 1 = cc in omega arith), λ e. absurd (omega arith))
-acceptance-is-zero OtherSender = (λ e. absurd (let z : ◌≡◌ {A = ℕ} 0 1 = cc in omega arith), λ e. absurd (omega arith))
-acceptance-is-zero UnknownForm = (λ e. absurd (let z : ◌≡◌ {A = ℕ} 0 1 = cc in omega arith), λ e. absurd (omega arith))
+acceptance-is-zero (Ok n) = (λ e. refl, λ e. refl)
+acceptance-is-zero (Err Unsound) = (λ e. absurd (let z : ◌≡◌ {A = ℕ} 0 1 = cc in omega arith), λ e. absurd (omega arith))
+acceptance-is-zero (Err (TooLong w)) = (λ e. absurd (let z : ◌≡◌ {A = ℕ} 0 1 = cc in omega arith), λ e. absurd (omega arith))
+acceptance-is-zero (Err (Syntax i w)) = (λ e. absurd (let z : ◌≡◌ {A = ℕ} 0 1 = cc in omega arith), λ e. absurd (omega arith))
+acceptance-is-zero (Err (Long l w)) = (λ e. absurd (let z : ◌≡◌ {A = ℕ} 0 1 = cc in omega arith), λ e. absurd (omega arith))
+acceptance-is-zero (Err (Form l w)) = (λ e. absurd (let z : ◌≡◌ {A = ℕ} 0 1 = cc in omega arith), λ e. absurd (omega arith))
+acceptance-is-zero (Err (Field l c w)) = (λ e. absurd (let z : ◌≡◌ {A = ℕ} 0 1 = cc in omega arith), λ e. absurd (omega arith))
+acceptance-is-zero (Err (Owner l)) = (λ e. absurd (let z : ◌≡◌ {A = ℕ} 0 1 = cc in omega arith), λ e. absurd (omega arith))
+acceptance-is-zero (Err StagingShort) = (λ e. absurd (let z : ◌≡◌ {A = ℕ} 0 1 = cc in omega arith), λ e. absurd (omega arith))
+acceptance-is-zero (Err BookShort) = (λ e. absurd (let z : ◌≡◌ {A = ℕ} 0 1 = cc in omega arith), λ e. absurd (omega arith))
+acceptance-is-zero (Err TableShort) = (λ e. absurd (let z : ◌≡◌ {A = ℕ} 0 1 = cc in omega arith), λ e. absurd (omega arith))
+acceptance-is-zero (Err KeyTwice) = (λ e. absurd (let z : ◌≡◌ {A = ℕ} 0 1 = cc in omega arith), λ e. absurd (omega arith))
+acceptance-is-zero (Err NoMessage) = (λ e. absurd (let z : ◌≡◌ {A = ℕ} 0 1 = cc in omega arith), λ e. absurd (omega arith))
+acceptance-is-zero (Err AlreadyWithdrawn) = (λ e. absurd (let z : ◌≡◌ {A = ℕ} 0 1 = cc in omega arith), λ e. absurd (omega arith))
+acceptance-is-zero (Err OtherSender) = (λ e. absurd (let z : ◌≡◌ {A = ℕ} 0 1 = cc in omega arith), λ e. absurd (omega arith))
+acceptance-is-zero (Err UnknownForm) = (λ e. absurd (let z : ◌≡◌ {A = ℕ} 0 1 = cc in omega arith), λ e. absurd (omega arith))
 
 pub refusals-give-back : RefusalsGiveBack
 unfolding open_leaves message_leaves withdraw_leaves opened_by taken_by without_by
@@ -74,16 +73,16 @@ message-reading (Err (Faults.Field l c)) next h = refl
 message-reading (Err (Faults.Owner l)) next h = refl
 message-reading (Ok n) next h = h
 
-message-room : (p q : Bool) (n : ℕ) → Passes sends (on p (on q (Accepted n) TableShort) BookShort)
+message-room : (p q : Bool) (n : ℕ) → Passes sends (on p (on q (Ok n) (Err TableShort)) (Err BookShort))
 message-room true true n = refl
 message-room true false n = refl
 message-room false q n = refl
 
-message-sound : (b : Bool) (a : Answer) → Passes sends a → Passes sends (on b a Unsound)
+message-sound : (b : Bool) (a : Answer) → Passes sends a → Passes sends (on b a (Err Unsound))
 message-sound true a h = h
 message-sound false a h = refl
 
-message-known : (b : Bool) (a : Answer) → Passes sends a → Passes sends (on b a UnknownForm)
+message-known : (b : Bool) (a : Answer) → Passes sends a → Passes sends (on b a (Err UnknownForm))
 message-known true a h = h
 message-known false a h = refl
 
@@ -150,7 +149,7 @@ open-reading w (Err (Faults.Field l c)) next f h = refl
 open-reading w (Err (Faults.Owner l)) next f h = absurd (let z : ◌≡◌ {A = ℕ} 0 1 = cc in omega arith)
 open-reading w (Ok n) next f h = h
 
-open-room : (p q r : Bool) → Passes opens (on p (on q (on r (Accepted 0) TableShort) KeyTwice) BookShort)
+open-room : (p q r : Bool) → Passes opens (on p (on q (on r (Ok 0) (Err TableShort)) (Err KeyTwice)) (Err BookShort))
 open-room true true true = refl
 open-room true true false = refl
 open-room true false r = refl
@@ -171,16 +170,16 @@ barred : (es : List (List ℕ)) (sender : ℕ) (next : Answer) → Passes withdr
 barred [] sender next h = refl
 barred (e ∷ es) sender next h = go (eqb sender 0 || eqb sender (sender_of e)) (eqb (kind_of e) 3)
   where
-    go : (p q : Bool) → Passes withdraws (on p (on q AlreadyWithdrawn next) OtherSender)
+    go : (p q : Bool) → Passes withdraws (on p (on q (Err AlreadyWithdrawn) next) (Err OtherSender))
     go true true = refl
     go true false = h
     go false q = refl
 
-withdraw-room : (p : Bool) → Passes withdraws (on p (Accepted 0) TableShort)
+withdraw-room : (p : Bool) → Passes withdraws (on p (Ok 0) (Err TableShort))
 withdraw-room true = refl
 withdraw-room false = refl
 
-withdraw-sound : (b : Bool) (a : Answer) → Passes withdraws a → Passes withdraws (on b a Unsound)
+withdraw-sound : (b : Bool) (a : Answer) → Passes withdraws a → Passes withdraws (on b a (Err Unsound))
 withdraw-sound true a h = h
 withdraw-sound false a h = refl
 

@@ -13,9 +13,8 @@ use Rattle.reader.specs.Rules.{Reading, reading_of}
 use Rattle.feeds.specs.Kept.{feed_of}
 use Rattle.table.specs.Rules.{table_room}
 use Rattle.book.specs.Rules.{book_room}
-use Rattle.calls.specs.declared.Answer.{Answer}
-use Rattle.calls.specs.declared.Answer.TheVariants.{Accepted, Unsound, Owner, StagingShort, BookShort, TableShort, UnknownForm}
-use Rattle.calls.specs.Answers.{numbers, unless_refused}
+use Rattle.calls.specs.declared.Refusal.TheVariants.{Unsound, Owner, StagingShort, BookShort, TableShort, UnknownForm}
+use Rattle.calls.specs.Answers.{Answer, numbers, unless_refused}
 use Rattle.calls.specs.Message.{message_sound, message_table, message_rows, number_for, room_for, message_answer}
 use Rattle.calls.specs.End.{staged_rows, any_denied, falls_short, end_sound, reading_kept, post_answer, end_answer}
 use Rattle.calls.specs.Claims.{UnknownFormExactly}
@@ -33,22 +32,22 @@ other-reading (Err (Faults.Field l c)) next h = refl
 other-reading (Err (Faults.Owner l)) next h = refl
 other-reading (Ok n) next h = h
 
-other-room : (p q : Bool) (n : ℕ) → Other (on p (on q (Accepted n) TableShort) BookShort)
+other-room : (p q : Bool) (n : ℕ) → Other (on p (on q (Ok n) (Err TableShort)) (Err BookShort))
 other-room true true n = refl
 other-room true false n = refl
 other-room false q n = refl
 
-other-post : (p q : Bool) (next : Answer) → Other next → Other (on p (Owner 0) (on q StagingShort next))
+other-post : (p q : Bool) (next : Answer) → Other next → Other (on p (Err (Owner 0)) (on q (Err StagingShort) next))
 other-post true q next h = refl
 other-post false true next h = refl
 other-post false false next h = h
 
 -- behind a sound state and a known form no 18 is left
-exactly : (s : Bool) (form : ℕ) (a : Answer) → Other a → ((numbers (on s (on (leb form 1) a UnknownForm) Unsound)).0 ≡ 18) ↔ ((s ≡ true) × (1 < form))
+exactly : (s : Bool) (form : ℕ) (a : Answer) → Other a → ((numbers (on s (on (leb form 1) a (Err UnknownForm)) (Err Unsound))).0 ≡ 18) ↔ ((s ≡ true) × (1 < form))
 exactly false form a h = (λ e. absurd (omega arith), λ p. absurd (let z : ◌≡◌ {A = ℕ} 0 1 = cc in omega arith))
 exactly true form a h = go (leb form 1) refl
   where
-    go : (k : Bool) → leb form 1 ≡ k → ((numbers (on k a UnknownForm)).0 ≡ 18) ↔ ((true ≡ true) × (1 < form))
+    go : (k : Bool) → leb form 1 ≡ k → ((numbers (on k a (Err UnknownForm))).0 ≡ 18) ↔ ((true ≡ true) × (1 < form))
     go true q = (
       λ e. absurd (let t = eq-eqb (numbers a).0 18 e in let z : ◌≡◌ {A = ℕ} 0 1 = cc in omega arith),
       λ p. absurd (let l = leb-true form 1 q in omega arith),

@@ -1,5 +1,5 @@
 -- Demands 1 and 2: what is certain of the calls' rules, in plain form. Demand 3 is claimed in `runs`. Assumes nothing.
-use Rattle.std.specs.Prelude.{ℕ, ◌+◌, ◌-◌, ◌*◌, ◌≤◌, ◌<◌, ◌≡◌, Bool, true, false, ◌||◌, List, [], ◌∷◌, ◌++◌, map, ◌↔◌, eqb, length, take, drop, get_or, replicate, Ok}
+use Rattle.std.specs.Prelude.{ℕ, ◌+◌, ◌-◌, ◌*◌, ◌≤◌, ◌<◌, ◌≡◌, Bool, true, false, ◌||◌, List, [], ◌∷◌, ◌++◌, map, ◌↔◌, eqb, length, take, drop, get_or, replicate, Ok, Err}
 use Rattle.lists.specs.Logic.{on}
 use Rattle.lists.specs.Each.{Each, Bytes}
 use Rattle.lists.specs.Part.{part}
@@ -26,10 +26,9 @@ use Rattle.update.specs.Rule.{row_rule}
 use Rattle.table.specs.Rules.{table_sound, table_room}
 use Rattle.book.specs.Entries.{plan_wide, entry_wide, number_of, sender_of, kind_of, entry_body, plan_count, plan_bodies, updates_in}
 use Rattle.book.specs.Rules.{book_sound, book_room, next_number, message_entries, others, standing, plan_rows}
-use Rattle.calls.specs.declared.Answer.{Answer}
-use Rattle.calls.specs.declared.Answer.TheVariants.{Unsound}
+use Rattle.calls.specs.declared.Refusal.TheVariants.{Unsound}
 use Rattle.calls.specs.declared.Counts.{Counts}
-use Rattle.calls.specs.Answers.{numbers, is_accepted, unless_refused}
+use Rattle.calls.specs.Answers.{Answer, numbers, is_accepted, unless_refused}
 use Rattle.calls.specs.Leaves.{Leaves}
 use Rattle.calls.specs.Message.{message_sound, message_table, message_rows, rows_taken, room_for, message_answer, message_leaves}
 use Rattle.calls.specs.Withdraw.{rows_without, withdraw_answer, withdraw_leaves}
@@ -149,12 +148,12 @@ OldFormAnswers =
     ≡ on (message_sound register book table c)
     (unless_refused 0 (reading_of (Tables.Message Old) register sender dossier)
     (room_for (data_rows (Tables.Message Old) (items_of (Tables.Message Old) dossier)) book table c))
-    Unsound)
+    (Err Unsound))
     × ((feed_of kept).form ≡ 0
     → end_answer register staging book table c kept
     ≡ on (end_sound register staging book table c kept)
     (unless_refused 0 (reading_kept (feed_of kept)) (post_answer register staging book table c (feed_of kept)))
-    Unsound)
+    (Err Unsound))
 
 -- a message whose labels have none of the names in which the forms differ comes to the same in both
 abbrev pub FormsTakenAlike : Type 0

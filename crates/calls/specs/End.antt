@@ -11,11 +11,10 @@ use Rattle.reader.specs.declared.Fault.TheVariants as Faults
 use Rattle.reader.specs.Rules.{Reading, largest, is_line}
 use Rattle.feeds.specs.declared.Feed.{Feed}
 use Rattle.feeds.specs.Kept.{feed_of, is_begun}
-use Rattle.calls.specs.declared.Answer.{Answer}
-use Rattle.calls.specs.declared.Answer.TheVariants.{Unsound, Owner, StagingShort, UnknownForm}
+use Rattle.calls.specs.declared.Refusal.TheVariants.{Unsound, Owner, StagingShort, UnknownForm}
 use Rattle.calls.specs.declared.Counts.{Counts}
 use Rattle.calls.specs.declared.Outcome.{Outcome}
-use Rattle.calls.specs.Answers.{is_accepted, unless_refused}
+use Rattle.calls.specs.Answers.{Answer, is_accepted, unless_refused}
 use Rattle.calls.specs.Message.{message_sound, room_for, taken_by}
 
 -- ---- the staged rows
@@ -74,8 +73,8 @@ unfoldable pub post_answer : List ℕ → List ℕ → List ℕ → List ℕ →
 post_answer register staging book table c f =
     let rows = staged_rows staging f in
     first_held
-    ((any_denied register f.sender rows, Owner 0)
-    ∷ (falls_short staging f, StagingShort)
+    ((any_denied register f.sender rows, Err (Owner 0))
+    ∷ (falls_short staging f, Err StagingShort)
     ∷ [])
     (room_for rows book table c)
 
@@ -85,8 +84,8 @@ end_answer register staging book table c kept =
     on (end_sound register staging book table c kept)
     (on (is_form (feed_of kept).form)
     (unless_refused 0 (reading_kept (feed_of kept)) (post_answer register staging book table c (feed_of kept)))
-    UnknownForm)
-    Unsound
+    (Err UnknownForm))
+    (Err Unsound)
 
 -- ---- afterwards
 

@@ -1,10 +1,9 @@
 -- What a call leaves: its outcome, and book and table afterwards. Assumes nothing.
 use Rattle.std.specs.Prelude.{ℕ, List}
 use Rattle.lists.specs.Logic.{on}
-use Rattle.calls.specs.declared.Answer.{Answer}
 use Rattle.calls.specs.declared.Counts.{Counts}
 use Rattle.calls.specs.declared.Outcome.{Outcome}
-use Rattle.calls.specs.Answers.{is_accepted}
+use Rattle.calls.specs.Answers.{Answer, is_accepted}
 
 -- used bytes of the book, rows of the table
 abbrev pub counts_of : ℕ → ℕ → Counts

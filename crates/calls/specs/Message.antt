@@ -1,5 +1,5 @@
 -- Message: what is answered, and what becomes of book, table and counts. Assumes nothing.
-use Rattle.std.specs.Prelude.{ℕ, ◌+◌, ◌*◌, Bool, ◌&&◌, List, eqb, leb, length}
+use Rattle.std.specs.Prelude.{ℕ, ◌+◌, ◌*◌, Bool, ◌&&◌, List, eqb, leb, length, Ok, Err}
 use Rattle.lists.specs.Logic.{on}
 use Rattle.lists.specs.Part.{over}
 use Rattle.lists.specs.Rows.{rows_of, flat, store}
@@ -14,10 +14,9 @@ use Rattle.update.specs.Rule.{row_rule}
 use Rattle.table.specs.Rules.{table_sound, table_room}
 use Rattle.book.specs.Entries.{entry_wide, entries_of, updates_in}
 use Rattle.book.specs.Rules.{book_sound, book_room, next_number}
-use Rattle.calls.specs.declared.Answer.{Answer}
-use Rattle.calls.specs.declared.Answer.TheVariants.{Accepted, Unsound, BookShort, TableShort, UnknownForm}
+use Rattle.calls.specs.declared.Refusal.TheVariants.{Unsound, BookShort, TableShort, UnknownForm}
 use Rattle.calls.specs.declared.Counts.{Counts}
-use Rattle.calls.specs.Answers.{unless_refused}
+use Rattle.calls.specs.Answers.{Answer, unless_refused}
 use Rattle.calls.specs.Leaves.{Leaves, counts_of, day_of, leaves_by}
 
 -- 1: what a message is lent
@@ -47,8 +46,8 @@ rows_taken bodies table n = taken_all row_rule bodies (rows_of row_wide n table)
 unfoldable pub room_for : List (List ℕ) → List ℕ → List ℕ → Counts → Answer
 room_for bodies book table c =
     on (leb (c.used + length bodies * entry_wide) (book_room book))
-    (on (leb (length (rows_taken bodies table c.rows)) (table_room table)) (Accepted (number_for bodies c.used book)) TableShort)
-    BookShort
+    (on (leb (length (rows_taken bodies table c.rows)) (table_room table)) (Ok (number_for bodies c.used book)) (Err TableShort))
+    (Err BookShort)
 
 -- 18 for a form that is not known, before the dossier is looked at
 unfoldable pub message_answer : List ℕ → ℕ → ℕ → List ℕ → List ℕ → List ℕ → Counts → Answer
@@ -56,8 +55,8 @@ message_answer dossier sender form register book table c =
     on (message_sound register book table c)
     (on (is_form form)
     (unless_refused 0 (reading_of (message_table form) register sender dossier) (room_for (message_rows form dossier) book table c))
-    UnknownForm)
-    Unsound
+    (Err UnknownForm))
+    (Err Unsound)
 
 -- ---- afterwards
 

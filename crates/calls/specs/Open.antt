@@ -1,5 +1,5 @@
 -- Open: what is answered, and what becomes of book, table and counts. Assumes nothing.
-use Rattle.std.specs.Prelude.{ℕ, ◌*◌, List, [], map, eqb, leb, length}
+use Rattle.std.specs.Prelude.{ℕ, ◌*◌, List, [], map, eqb, leb, length, Ok, Err}
 use Rattle.lists.specs.Logic.{on}
 use Rattle.lists.specs.Part.{over}
 use Rattle.lists.specs.Rows.{flat}
@@ -10,10 +10,9 @@ use Rattle.keys.specs.Sorted.{put_all}
 use Rattle.table.specs.Rules.{table_room}
 use Rattle.book.specs.Entries.{plan_wide, plan_entry}
 use Rattle.book.specs.Rules.{book_room, plan_rows}
-use Rattle.calls.specs.declared.Answer.{Answer}
-use Rattle.calls.specs.declared.Answer.TheVariants.{Accepted, BookShort, TableShort, KeyTwice}
+use Rattle.calls.specs.declared.Refusal.TheVariants.{BookShort, TableShort, KeyTwice}
 use Rattle.calls.specs.declared.Counts.{Counts}
-use Rattle.calls.specs.Answers.{unless_refused}
+use Rattle.calls.specs.Answers.{Answer, unless_refused}
 use Rattle.calls.specs.Leaves.{Leaves, counts_of, day_of, leaves_by}
 
 -- each pass time joined with each validity of the same owner and service level
@@ -28,8 +27,8 @@ plan_of planning calendar = put_all (passages_of planning calendar) []
 unfoldable pub room_to_open : List (List ℕ) → List ℕ → List ℕ → Answer
 room_to_open bodies book table =
     on (leb (length bodies * plan_wide) (book_room book))
-    (on (eqb (length (put_all bodies [])) (length bodies)) (on (leb (length bodies) (table_room table)) (Accepted 0) TableShort) KeyTwice)
-    BookShort
+    (on (eqb (length (put_all bodies [])) (length bodies)) (on (leb (length bodies) (table_room table)) (Ok 0) (Err TableShort)) (Err KeyTwice))
+    (Err BookShort)
 
 -- the planning goes through 2, 3, 15, 4, 5 before the calendar
 unfoldable pub open_answer : List ℕ → List ℕ → List ℕ → List ℕ → Answer

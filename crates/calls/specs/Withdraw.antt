@@ -1,5 +1,5 @@
 -- Withdraw: what is answered, and what becomes of book, table and counts. Assumes nothing.
-use Rattle.std.specs.Prelude.{ℕ, ◌*◌, Bool, ◌&&◌, ◌||◌, List, [], ◌∷◌, eqb, leb, length}
+use Rattle.std.specs.Prelude.{ℕ, ◌*◌, Bool, ◌&&◌, ◌||◌, List, [], ◌∷◌, eqb, leb, length, Ok, Err}
 use Rattle.lists.specs.Logic.{on}
 use Rattle.lists.specs.Part.{over}
 use Rattle.lists.specs.Rows.{rows_of, flat, store}
@@ -9,8 +9,8 @@ use Rattle.update.specs.Rule.{row_rule}
 use Rattle.table.specs.Rules.{table_sound, table_room}
 use Rattle.book.specs.Entries.{plan_wide, kind_of, sender_of, plan_count, plan_bodies, updates_in}
 use Rattle.book.specs.Rules.{book_sound, message_entries, keys_named, withdrawn, row_for}
-use Rattle.calls.specs.declared.Answer.{Answer}
-use Rattle.calls.specs.declared.Answer.TheVariants.{Accepted, Unsound, TableShort, NoMessage, AlreadyWithdrawn, OtherSender}
+use Rattle.calls.specs.Answers.{Answer}
+use Rattle.calls.specs.declared.Refusal.TheVariants.{Unsound, TableShort, NoMessage, AlreadyWithdrawn, OtherSender}
 use Rattle.calls.specs.declared.Counts.{Counts}
 use Rattle.calls.specs.Leaves.{Leaves, counts_of, day_of, leaves_by}
 
@@ -28,18 +28,18 @@ rows_without n book used table m =
 
 -- 10, then 12, then 11: there is such a message, the sender is its own or the desk, it stands
 abbrev pub unless_barred : List (List ℕ) → ℕ → Answer → Answer
-unless_barred [] sender next = NoMessage
-unless_barred (e ∷ es) sender next = on (eqb sender 0 || eqb sender (sender_of e)) (on (eqb (kind_of e) 3) AlreadyWithdrawn next) OtherSender
+unless_barred [] sender next = Err NoMessage
+unless_barred (e ∷ es) sender next = on (eqb sender 0 || eqb sender (sender_of e)) (on (eqb (kind_of e) 3) (Err AlreadyWithdrawn) next) (Err OtherSender)
 
 -- 8, or acceptance
 unfoldable pub room_without : ℕ → List ℕ → List ℕ → Counts → Answer
-room_without n book table c = on (leb (length (rows_without n book c.used table c.rows)) (table_room table)) (Accepted 0) TableShort
+room_without n book table c = on (leb (length (rows_without n book c.used table c.rows)) (table_room table)) (Ok 0) (Err TableShort)
 
 unfoldable pub withdraw_answer : ℕ → ℕ → List ℕ → List ℕ → Counts → Answer
 withdraw_answer number sender book table c =
     on (withdraw_sound book table c)
     (unless_barred (message_entries number (updates_in c.used book)) sender (room_without number book table c))
-    Unsound
+    (Err Unsound)
 
 -- ---- afterwards
 

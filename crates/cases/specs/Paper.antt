@@ -1,5 +1,5 @@
 -- Document 01's cases P1 to P11, one statement each. `proofs/Paper.antt` proves them together. Assumes nothing.
-use Rattle.std.specs.Prelude.{ℕ, ◌≤◌, ◌≡◌, true, List, [], ◌∷◌, ◌++◌, Some, None, Err}
+use Rattle.std.specs.Prelude.{ℕ, ◌≤◌, ◌≡◌, true, List, [], ◌∷◌, ◌++◌, Some, None, Err, Ok}
 use Rattle.lists.specs.Text.{bytes}
 use Rattle.syntax.specs.Machine.{fault}
 use Rattle.turbo.specs.Escape.{decode}
@@ -7,7 +7,7 @@ use Rattle.field_types.specs.Times.{time}
 use Rattle.field_types.specs.Dates.{date}
 use Rattle.field_types.specs.Stamps.{stamp}
 use Rattle.update.specs.Moves.{status_after}
-use Rattle.calls.specs.declared.Answer.TheVariants.{Accepted, Field}
+use Rattle.calls.specs.declared.Refusal.TheVariants.{Field}
 use Rattle.calls.specs.declared.Counts.{Counts}
 use Rattle.calls.specs.Answers.{numbers}
 use Rattle.calls.specs.Message.{message_sound, message_answer}
@@ -60,10 +60,10 @@ P9 = (orders (sent (says "2" "PASSED" ∷ []) ∷ []) ≡ 1 ∷ 2 ∷ []) × (st
 -- a dossier of two rows is one message: both are taken under one number, and both leave with it; columns that it does not have keep what is held
 abbrev pub TwoRows : Type 0
 TwoRows =
-    (reply_after [] (sent (says "1" "CANCEL" ∷ says "2" "DRIVING" ∷ [])) ≡ Reply.answered (Accepted 1))
+    (reply_after [] (sent (says "1" "CANCEL" ∷ says "2" "DRIVING" ∷ [])) ≡ Reply.answered (Ok 1))
     × (statuses (sent (says "1" "CANCEL" ∷ says "2" "DRIVING" ∷ []) ∷ []) ≡ 1 ∷ 3 ∷ [])
     × (optionals (sent (says "1" "CANCEL" ∷ says "2" "DRIVING" ∷ []) ∷ []) ≡ (1 ∷ 0 ∷ 0 ∷ []) ∷ (1 ∷ 0 ∷ 0 ∷ []) ∷ [])
-    × (reply_after (sent (says "1" "CANCEL" ∷ says "2" "DRIVING" ∷ []) ∷ []) (withdrawn 1) ≡ Reply.answered (Accepted 0))
+    × (reply_after (sent (says "1" "CANCEL" ∷ says "2" "DRIVING" ∷ []) ∷ []) (withdrawn 1) ≡ Reply.answered (Ok 0))
     × (statuses (sent (says "1" "CANCEL" ∷ says "2" "DRIVING" ∷ []) ∷ withdrawn 1 ∷ []) ≡ 0 ∷ [])
     × (optionals [] ≡ (1 ∷ 0 ∷ 0 ∷ []) ∷ [])
 
@@ -81,7 +81,7 @@ Cancelled =
     × (cancelled_board "message" ≡ Reply.showed (board_with (listing 0 0) (9 ∷ 9 ∷ 9 ∷ [])))
     × (cancelled_board "false" ≡ Reply.showed (board_with (listing 0 0) (9 ∷ 9 ∷ 9 ∷ [])))
     × (optionals (cancelled "message" ∷ []) ≡ (2 ∷ 0 ∷ 1 ∷ []) ∷ [])
-    × (reply_after [] (cancelled "1") ≡ Reply.answered (Field 4 14 0))
+    × (reply_after [] (cancelled "1") ≡ Reply.answered (Err (Field 4 14 0)))
 
 -- what a message of these bytes gets, whoever sends it and in either form, where all that it is lent is sound
 abbrev pub Gets : List ℕ → ℕ × ℕ × ℕ × ℕ → Type 0

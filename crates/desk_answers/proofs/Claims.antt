@@ -3,9 +3,8 @@ use Prim.Native.Nat.{ℕ}
 use mathlib.Core.Path.{◌≡◌, refl}
 use mathlib.Core.Bool.{Bool, true, false}
 use mathlib.Core.List.{List, [], ◌∷◌}
-use Rattle.calls.specs.declared.Answer.{Answer}
-use Rattle.calls.specs.Answers.{numbers, is_accepted}
-use Rattle.calls.specs.declared.Answer.TheVariants.{Unsound as Refused}
+use Rattle.calls.specs.Answers.{Answer, numbers, is_accepted}
+use Rattle.calls.specs.declared.Refusal.TheVariants.{Unsound as Refused}
 use Rattle.calls.specs.declared.Counts.{Counts}
 use Rattle.calls.specs.Claims.{GivesBack as CallGivesBack, is_one_of}
 use Rattle.calls.specs.Leaves.{Leaves, counts_of}
@@ -19,6 +18,7 @@ use Rattle.feeds.specs.Kept.{is_begun}
 use Rattle.feeds.specs.Feed.{fed}
 use Rattle.feeds.specs.Feeding.{Feeding, fed_in, feeding, fed_out, feed_leaves}
 use Rattle.calls.specs.Message.{message_sound}
+use Rattle.std.specs.Prelude.{Err}
 use Rattle.lists.proofs.LogicLaws.{and-false}
 use Rattle.lists.specs.Logic.{on}
 use Rattle.desk_answers.specs.Answered.{outcome_number, answered, told_of}
@@ -81,7 +81,7 @@ cleared-none : is_begun cleared ≡ false
 unfolding is_begun
 cleared-none = refl
 
-cleared-refused : (register staging book table : List ℕ) (c : Counts) → end_answer register staging book table c cleared ≡ Refused
+cleared-refused : (register staging book table : List ℕ) (c : Counts) → end_answer register staging book table c cleared ≡ Err Refused
 unfolding end_answer end_sound
 cleared-refused register staging book table c = rw (cleared-none, and-false (message_sound register book table c))
 

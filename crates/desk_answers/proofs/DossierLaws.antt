@@ -15,10 +15,9 @@ use Rattle.table.specs.Rules.{table_room}
 use Rattle.keys.specs.Sorted.{put_all}
 use Rattle.book.specs.Entries.{plan_wide, sender_of, kind_of, updates_in}
 use Rattle.book.specs.Rules.{book_room, message_entries}
-use Rattle.calls.specs.declared.Answer.{Answer}
-use Rattle.calls.specs.declared.Answer.TheVariants.{Accepted, Unsound, BookShort, TableShort, KeyTwice, AlreadyWithdrawn, OtherSender, UnknownForm}
+use Rattle.calls.specs.declared.Refusal.TheVariants.{Unsound, BookShort, TableShort, KeyTwice, AlreadyWithdrawn, OtherSender, UnknownForm}
 use Rattle.calls.specs.declared.Counts.{Counts}
-use Rattle.calls.specs.Answers.{numbers, unless_refused}
+use Rattle.calls.specs.Answers.{Answer, numbers, unless_refused}
 use Rattle.calls.specs.Leaves.{counts_of}
 use Rattle.calls.specs.Claims.{is_one_of}
 use Rattle.calls.specs.Open.{passages_of, room_to_open, open_answer, opened_by, open_leaves}
@@ -42,7 +41,7 @@ reading-named w p (Err (Faults.Field l c)) next h = p
 reading-named w p (Err (Faults.Owner l)) next h = (refl, refl)
 reading-named w p (Ok n) next h = h
 
-room-named : (p q r : Bool) → Named (on p (on q (on r (Accepted 0) TableShort) KeyTwice) BookShort)
+room-named : (p q r : Bool) → Named (on p (on q (on r (Ok 0) (Err TableShort)) (Err KeyTwice)) (Err BookShort))
 room-named true true true = (refl, refl)
 room-named true true false = (refl, refl)
 room-named true false r = (refl, refl)
@@ -61,11 +60,11 @@ open-named planning calendar book table =
 abbrev None : Answer → Type 0
 None a = (numbers a).3 ≡ 0
 
-sound_none : (b : Bool) (a : Answer) → None a → None (on b a Unsound)
+sound_none : (b : Bool) (a : Answer) → None a → None (on b a (Err Unsound))
 sound_none true a h = h
 sound_none false a h = refl
 
-known-none : (b : Bool) (a : Answer) → None a → None (on b a UnknownForm)
+known-none : (b : Bool) (a : Answer) → None a → None (on b a (Err UnknownForm))
 known-none true a h = h
 known-none false a h = refl
 
@@ -78,7 +77,7 @@ reading-none (Err (Faults.Field l c)) next h = refl
 reading-none (Err (Faults.Owner l)) next h = refl
 reading-none (Ok n) next h = h
 
-rooms-none : (p q : Bool) (n : ℕ) → None (on p (on q (Accepted n) TableShort) BookShort)
+rooms-none : (p q : Bool) (n : ℕ) → None (on p (on q (Ok n) (Err TableShort)) (Err BookShort))
 rooms-none true true n = refl
 rooms-none true false n = refl
 rooms-none false q n = refl
@@ -95,12 +94,12 @@ barred-none : (es : List (List ℕ)) (sender : ℕ) (next : Answer) → None nex
 barred-none [] sender next h = refl
 barred-none (e ∷ es) sender next h = go (eqb sender 0 || eqb sender (sender_of e)) (eqb (kind_of e) 3)
   where
-    go : (p q : Bool) → None (on p (on q AlreadyWithdrawn next) OtherSender)
+    go : (p q : Bool) → None (on p (on q (Err AlreadyWithdrawn) next) (Err OtherSender))
     go true true = refl
     go true false = h
     go false q = refl
 
-room-none : (p : Bool) → None (on p (Accepted 0) TableShort)
+room-none : (p : Bool) → None (on p (Ok 0) (Err TableShort))
 room-none true = refl
 room-none false = refl
 

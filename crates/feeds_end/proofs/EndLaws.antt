@@ -21,11 +21,11 @@ use Rattle.feeds.specs.declared.Feed.{Feed}
 use Rattle.std.specs.Prelude.{Some, None}
 use Rattle.feeds.specs.Kept.{feed_of, feed_may, zeros, is_begun, read_of}
 use Rattle.feeds.proofs.KeptLaws.{may-facts, read-told, read-not}
-use Rattle.calls.specs.declared.Answer.{Answer}
-use Rattle.calls.specs.declared.Answer.TheVariants.{Unsound, Owner, StagingShort, UnknownForm}
+use Rattle.calls.specs.declared.Refusal.{Refusal}
+use Rattle.calls.specs.declared.Refusal.TheVariants.{Unsound, Owner, StagingShort, UnknownForm}
 use Rattle.calls.specs.declared.Counts.{Counts}
 use Rattle.calls.specs.declared.Outcome.{Outcome}
-use Rattle.calls.specs.Answers.{is_accepted}
+use Rattle.calls.specs.Answers.{Answer, is_accepted}
 use Rattle.calls.specs.Leaves.{Leaves, outcome_of, leaves}
 use Rattle.calls.specs.Message.{message_sound, room_for, taken_by}
 use Rattle.calls.specs.End.{most_rows, least, staged_rows, all_in_range, any_denied, falls_short, reading_kept, post_answer, end_sound, end_answer, end_with, cleared, end_leaves}
@@ -113,17 +113,17 @@ module _ (register staging book table : List ℕ) (c : Counts) where
 
   module _ (f : Feed) (rows : List (List ℕ)) (is : rows ≡ staged_rows staging f) where
     post_is : (p q : Bool) → any_denied register f.sender rows ≡ p → falls_short staging f ≡ q
-        → post_answer register staging book table c f ≡ on p (Owner 0) (on q StagingShort (room_for (staged_rows staging f) book table c))
+        → post_answer register staging book table c f ≡ on p (Err (Owner 0)) (on q (Err StagingShort) (room_for (staged_rows staging f) book table c))
     unfolding post_answer
     post_is p q d s = let e : any_denied register f.sender (staged_rows staging f) ≡ p = ap (any_denied register f.sender) (sym is) ∙ d in rw (e, s)
 
-    pub post-denied : any_denied register f.sender rows ≡ true → (r : Outcome) → r ≡ outcome_of (Owner 0) c
+    pub post-denied : any_denied register f.sender rows ≡ true → (r : Outcome) → r ≡ outcome_of (Err (Owner 0)) c
         → leaves r book table ≡ taken_from (post_answer register staging book table c f) f staging book table c
-    post-denied d r h = refused f _ (Owner 0) (post_is true (falls_short staging f) d refl) refl r h
+    post-denied d r h = refused f _ (Err (Owner 0)) (post_is true (falls_short staging f) d refl) refl r h
 
-    pub post-short : any_denied register f.sender rows ≡ false → falls_short staging f ≡ true → (r : Outcome) → r ≡ outcome_of StagingShort c
+    pub post-short : any_denied register f.sender rows ≡ false → falls_short staging f ≡ true → (r : Outcome) → r ≡ outcome_of (Err StagingShort) c
         → leaves r book table ≡ taken_from (post_answer register staging book table c f) f staging book table c
-    post-short d s r h = refused f _ StagingShort (post_is false true d s) refl r h
+    post-short d s r h = refused f _ (Err StagingShort) (post_is false true d s) refl r h
 
     pub post-taken : any_denied register f.sender rows ≡ false → falls_short staging f ≡ false → (r : Outcome) (b t : List ℕ)
         → leaves r b t ≡ taken_leaves rows f.sender book table c → leaves r b t ≡ taken_from (post_answer register staging book table c f) f staging book table c
@@ -131,12 +131,12 @@ module _ (register staging book table : List ℕ) (c : Counts) where
     post-taken d s r b t h = rw (post_is false false d s) (h ∙ ap (λ (bs : List (List ℕ)). taken_by (room_for bs book table c) bs f.sender book table c) is)
 
   module _ (f : Feed) where
-    pub found : (a : Answer) → passed_of 0 (reading_kept f) ≡ Err a → (r : Outcome) → r ≡ outcome_of a c
+    pub found : (a : Refusal) → passed_of 0 (reading_kept f) ≡ Err a → (r : Outcome) → r ≡ outcome_of (Err a) c
         → leaves r book table ≡ taken_from (found_or register staging book table c f) f staging book table c
     unfolding found_or
     found a e r h =
         let off = passed-off 0 (reading_kept f) a e (post_answer register staging book table c f) in
-        refused f _ a off.0 off.1 r h
+        refused f _ (Err a) off refl r h
 
     pub posted : (n : ℕ) → reading_kept f ≡ Ok n → (l : Leaves) → l ≡ taken_from (post_answer register staging book table c f) f staging book table c
         → l ≡ taken_from (found_or register staging book table c f) f staging book table c
@@ -149,21 +149,21 @@ module _ (register staging book table : List ℕ) (c : Counts) where
     unfolding known_or
     form-known e l h = rw e h
 
-    pub form-unknown : is_form f.form ≡ false → (r : Outcome) → r ≡ outcome_of UnknownForm c
+    pub form-unknown : is_form f.form ≡ false → (r : Outcome) → r ≡ outcome_of (Err UnknownForm) c
         → leaves r book table ≡ taken_from (known_or register staging book table c f) f staging book table c
     unfolding known_or
-    form-unknown e r h = refused f _ UnknownForm (rw e) refl r h
+    form-unknown e r h = refused f _ (Err UnknownForm) (rw e) refl r h
 
   module _ (f : Feed) where
-    pub lent-unsound : message_sound register book table c ≡ false → (r : Outcome) → r ≡ outcome_of Unsound c
+    pub lent-unsound : message_sound register book table c ≡ false → (r : Outcome) → r ≡ outcome_of (Err Unsound) c
         → leaves r book table ≡ taken_from (right_answer register staging book table c f) f staging book table c
     unfolding right_answer
-    lent-unsound e r h = refused f _ Unsound (rw e) refl r h
+    lent-unsound e r h = refused f _ (Err Unsound) (rw e) refl r h
 
-    pub kept-unsound : message_sound register book table c ≡ true → staged_right staging f ≡ false → (r : Outcome) → r ≡ outcome_of Unsound c
+    pub kept-unsound : message_sound register book table c ≡ true → staged_right staging f ≡ false → (r : Outcome) → r ≡ outcome_of (Err Unsound) c
         → leaves r book table ≡ taken_from (right_answer register staging book table c f) f staging book table c
     unfolding right_answer
-    kept-unsound e u r h = refused f _ Unsound (rw (e, u)) refl r h
+    kept-unsound e u r h = refused f _ (Err Unsound) (rw (e, u)) refl r h
 
     pub all_right : message_sound register book table c ≡ true → staged_right staging f ≡ true → (l : Leaves)
         → l ≡ taken_from (known_or register staging book table c f) f staging book table c
@@ -187,13 +187,13 @@ module _ (register staging book table : List ℕ) (c : Counts) where
         h ∙ ap (λ (x : Feed). taken_from (right_answer register staging book table c x) x staging book table c) t.1 ∙ begun-taken t.0
 
     -- numbers of no begun one
-    unread-unsound : is_begun kept ≡ false → end_answer register staging book table c kept ≡ Unsound
+    unread-unsound : is_begun kept ≡ false → end_answer register staging book table c kept ≡ Err Unsound
     unfolding end_answer end_sound
     unread-unsound e = rw (e, and-false (message_sound register book table c))
 
-    pub unread-taken : read_of kept ≡ None → (r : Outcome) → r ≡ outcome_of Unsound c → leaves r book table ≡ taken
+    pub unread-taken : read_of kept ≡ None → (r : Outcome) → r ≡ outcome_of (Err Unsound) c → leaves r book table ≡ taken
     unfolding taken_from
-    unread-taken is r h = refused (feed_of kept) _ Unsound (unread-unsound (read-not kept is)) refl r h
+    unread-taken is r h = refused (feed_of kept) _ (Err Unsound) (unread-unsound (read-not kept is)) refl r h
 
     pub end-leaves : (r : Outcome) (b t : List ℕ) → leaves r b t ≡ taken
         → (n : List ℕ) → n ≡ on (is_accepted r.answer) cleared kept → end_with r b t n ≡ end_leaves register staging book table c kept

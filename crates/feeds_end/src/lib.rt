@@ -6,14 +6,14 @@ ghost use Rattle.lists.specs.Part.{part};
 ghost use Rattle.lists.specs.Rows.{rows_of};
 ghost use Rattle.passage.specs.Layout.{body_wide};
 ghost use Rattle.passage.specs.inner.Roles.{all_common};
-ghost use Rattle.calls.specs.Answers.{numbers, is_accepted};
+ghost use Rattle.calls.specs.Answers.{numbers};
 ghost use Rattle.calls.specs.Leaves.{leaves};
 ghost use Rattle.calls.specs.Message.{message_sound};
 ghost use Rattle.calls.specs.End.{most_rows, least, all_in_range, any_denied, reading_kept, post_answer, end_with, cleared, end_leaves};
 ghost use Rattle.calls.specs.Numbers.{end_numbers};
 ghost use Rattle.feeds_end.specs.inner.Steps.{lines_reading, staged_right, found_or, known_or, right_answer, taken_from};
 
-use calls::{Answer, Counts, Outcome};
+use calls::{Counts, Outcome, Refusal};
 use feeds::Feed;
 use reader::Fault;
 
@@ -167,10 +167,10 @@ fn post(
     let rows = feed.lines.rows;
     let here = staged_here(staging, staged);
     if any_denied(register, sender, staging, here) {
-        return calls::unchanged(Answer::Owner(0), counts);
+        return calls::unchanged(Err(Refusal::Owner(0)), counts);
     }
     if falls_short(staging, staged, rows) {
-        return calls::unchanged(Answer::StagingShort, counts);
+        return calls::unchanged(Err(Refusal::StagingShort), counts);
     }
     messages::take_rows(staging, here, sender, book, table, counts)
 }
@@ -192,7 +192,7 @@ fn end_read(
 {
     match calls::passed(reading_kept(feed), 0) {
         Ok(_) => post(feed, register, staging, book, table, counts),
-        Err(answer) => calls::unchanged(answer, counts),
+        Err(refusal) => calls::unchanged(Err(refusal), counts),
     }
 }
 
@@ -214,7 +214,7 @@ fn end_known(
     if columns::is_form(feed.form) {
         return end_read(feed, register, staging, book, table, counts);
     }
-    calls::unchanged(Answer::UnknownForm, counts)
+    calls::unchanged(Err(Refusal::UnknownForm), counts)
 }
 
 // 1 before everything else.
@@ -235,32 +235,9 @@ fn end_kept(
         if staged_right(feed, staging) {
             return end_known(feed, register, staging, book, table, counts);
         }
-        return calls::unchanged(Answer::Unsound, counts);
+        return calls::unchanged(Err(Refusal::Unsound), counts);
     }
-    calls::unchanged(Answer::Unsound, counts)
-}
-
-fn is_accepted(answer: Answer) -> bool
-    ensures { result ≡ is_accepted answer }
-{
-    match answer {
-        Answer::Accepted(_) => true,
-        Answer::Unsound => false,
-        Answer::TooLong(_) => false,
-        Answer::Syntax(_, _) => false,
-        Answer::Long(_, _) => false,
-        Answer::Form(_, _) => false,
-        Answer::Field(_, _, _) => false,
-        Answer::Owner(_) => false,
-        Answer::StagingShort => false,
-        Answer::BookShort => false,
-        Answer::TableShort => false,
-        Answer::KeyTwice => false,
-        Answer::NoMessage => false,
-        Answer::AlreadyWithdrawn => false,
-        Answer::OtherSender => false,
-        Answer::UnknownForm => false,
-    }
+    calls::unchanged(Err(Refusal::Unsound), counts)
 }
 
 fn clear(kept: &mut [u64; 48])
@@ -285,11 +262,10 @@ pub fn end(
         ≡ end_numbers register.now staging.now book.old table.old counts kept.old }
 {
     let Some(feed) = feeds::read(*kept) else {
-        return calls::unchanged(Answer::Unsound, counts);
+        return calls::unchanged(Err(Refusal::Unsound), counts);
     };
     let outcome = end_kept(feed, register, staging, book, table, counts);
-    let answer = outcome.answer;
-    if is_accepted(answer) {
+    if outcome.answer.is_ok() {
         clear(kept);
         return outcome;
     }

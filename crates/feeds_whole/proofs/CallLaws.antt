@@ -21,10 +21,9 @@ use Rattle.reader.proofs.AnswerLaws.{rows-counted}
 use Rattle.feeds.specs.declared.Feed.{Feed}
 use Rattle.feeds.specs.Feed.{Fed, fed}
 use Rattle.feeds.specs.Kept.{kept_of, feed_of}
-use Rattle.calls.specs.declared.Answer.{Answer}
-use Rattle.calls.specs.declared.Answer.TheVariants.{Accepted, Unsound, StagingShort, BookShort, TableShort, UnknownForm}
+use Rattle.calls.specs.declared.Refusal.TheVariants.{Unsound, StagingShort, BookShort, TableShort, UnknownForm}
 use Rattle.calls.specs.declared.Counts.{Counts}
-use Rattle.calls.specs.Answers.{numbers, is_accepted, unless_refused}
+use Rattle.calls.specs.Answers.{Answer, numbers, is_accepted, unless_refused}
 use Rattle.calls.specs.Leaves.{Leaves}
 use Rattle.calls.specs.Message.{message_sound, message_table, message_rows, number_for, rows_taken, room_for, message_answer, taken_by, message_leaves}
 use Rattle.calls.specs.End.{staged_rows, end_answer, end_leaves}
@@ -39,10 +38,10 @@ use Rattle.feeds_whole.proofs.PartLaws.{parts_from, parts-begun}
 -- ---- an answer by its lines: sound or not, what the dossier is refused for, whether the staging area is short, what comes next
 
 abbrev answer_by : Bool → Bool → Reading → Bool → Answer → Answer
-answer_by sound known r short next = on sound (on known (unless_refused 0 r (on short StagingShort next)) UnknownForm) Unsound
+answer_by sound known r short next = on sound (on known (unless_refused 0 r (on short (Err StagingShort) next)) (Err UnknownForm)) (Err Unsound)
 
 -- but for 14 the staging area does not matter
-but-fourteen : (s k : Bool) (r : Reading) (short : Bool) (a : Answer) → ((numbers (answer_by s k r short a)).0 ≡ 14 → ⊥) → answer_by s k r short a ≡ on s (on k (unless_refused 0 r a) UnknownForm) Unsound
+but-fourteen : (s k : Bool) (r : Reading) (short : Bool) (a : Answer) → ((numbers (answer_by s k r short a)).0 ≡ 14 → ⊥) → answer_by s k r short a ≡ on s (on k (unless_refused 0 r a) (Err UnknownForm)) (Err Unsound)
 but-fourteen false k r short a h = refl
 but-fourteen true false r short a h = refl
 but-fourteen true true (Err Faults.TooLong) short a h = refl
@@ -88,7 +87,7 @@ unfolding room_for
 room-never bodies book table c =
     go (leb (c.used + length bodies * entry_wide) (book_room book)) (leb (length (rows_taken bodies table c.rows)) (table_room table)) (number_for bodies c.used book)
   where
-    go : (p q : Bool) (n : ℕ) → (numbers (on p (on q (Accepted n) TableShort) BookShort)).0 ≡ 14 → ⊥
+    go : (p q : Bool) (n : ℕ) → (numbers (on p (on q (Ok n) (Err TableShort)) (Err BookShort))).0 ≡ 14 → ⊥
     go true true n e = omega arith
     go true false n e = omega arith
     go false q n e = omega arith

@@ -41,10 +41,9 @@ use Rattle.reader.proofs.AnswerLaws.{reading-looked, rows-counted, accepted-rows
 use Rattle.feeds.specs.declared.Feed.{Feed}
 use Rattle.feeds.specs.Feed.{Fed}
 use Rattle.feeds.specs.Kept.{feed_of, is_begun}
-use Rattle.calls.specs.declared.Answer.{Answer}
-use Rattle.calls.specs.declared.Answer.TheVariants.{Unsound, Owner, StagingShort, UnknownForm}
+use Rattle.calls.specs.declared.Refusal.TheVariants.{Unsound, Owner, StagingShort, UnknownForm}
 use Rattle.calls.specs.declared.Counts.{Counts}
-use Rattle.calls.specs.Answers.{unless_refused}
+use Rattle.calls.specs.Answers.{Answer, unless_refused}
 use Rattle.calls.specs.Message.{message_sound, message_table, message_rows, room_for}
 use Rattle.calls.specs.End.{least, staged_rows, all_in_range, any_denied, falls_short, most_rows, end_sound, reading_kept, post_answer, end_answer}
 use Rattle.turbo_lines.specs.Ended.{ended_lines}
@@ -288,11 +287,11 @@ module _ (register : List ℕ) (sender form : ℕ) (staging d : List ℕ) (y : F
           let m : least kept-rows room ≡ kept-rows = least-low kept-rows room (omega (arith, count-is, k)) in
           staged-rows ∙ ap (λ (i : ℕ). take i rs) m ∙ ap (take kept-rows) rows_are ∙ take_all kept-rows (message_rows form d) (omega (arith, count-is))
 
-      post_is : post_answer register y.staging book table c y.feed ≡ on (ltb room (length (message_rows form d))) StagingShort (room_for (message_rows form d) book table c)
+      post_is : post_answer register y.staging book table c y.feed ≡ on (ltb room (length (message_rows form d))) (Err StagingShort) (room_for (message_rows form d) book table c)
       unfolding post_answer
-      post_is = ap (λ (b : Bool). on b (Owner 0) (on (falls_short y.staging y.feed) StagingShort (room_for (staged_rows y.staging y.feed) book table c))) granted ∙ go (ltb room (length (message_rows form d))) refl
+      post_is = ap (λ (b : Bool). on b (Err (Owner 0)) (on (falls_short y.staging y.feed) (Err StagingShort) (room_for (staged_rows y.staging y.feed) book table c))) granted ∙ go (ltb room (length (message_rows form d))) refl
         where
-          go : (b : Bool) → ltb room (length (message_rows form d)) ≡ b → on (falls_short y.staging y.feed) StagingShort (room_for (staged_rows y.staging y.feed) book table c) ≡ on b StagingShort (room_for (message_rows form d) book table c)
+          go : (b : Bool) → ltb room (length (message_rows form d)) ≡ b → on (falls_short y.staging y.feed) (Err StagingShort) (room_for (staged_rows y.staging y.feed) book table c) ≡ on b (Err StagingShort) (room_for (message_rows form d) book table c)
           go true h =
               let k : room < length (message_rows form d) = ltb-true room (length (message_rows form d)) h in
               let m : y.feed.staged ≡ room = staged-is ∙ least-high kept-rows room (omega (arith, count-is)) in
@@ -306,13 +305,13 @@ module _ (register : List ℕ) (sender form : ℕ) (staging d : List ℕ) (y : F
     pub end_is : end_answer register y.staging book table c kept
         ≡ on (message_sound register book table c)
         (on (is_form form)
-        (unless_refused 0 (reading_of (message_table form) register sender d) (on (ltb room (length (message_rows form d))) StagingShort (room_for (message_rows form d) book table c)))
-        UnknownForm)
-        Unsound
+        (unless_refused 0 (reading_of (message_table form) register sender d) (on (ltb room (length (message_rows form d))) (Err StagingShort) (room_for (message_rows form d) book table c)))
+        (Err UnknownForm))
+        (Err Unsound)
     unfolding end_answer
     end_is =
-        ap (λ (b : Bool). on b (on (is_form (feed_of kept).form) (unless_refused 0 (reading_kept (feed_of kept)) (post_answer register y.staging book table c (feed_of kept))) UnknownForm) Unsound) sound-is
-        ∙ ap (λ (f : Feed). on (message_sound register book table c) (on (is_form f.form) (unless_refused 0 (reading_kept f) (post_answer register y.staging book table c f)) UnknownForm) Unsound) is
-        ∙ ap (λ (n : ℕ). on (message_sound register book table c) (on (is_form n) (unless_refused 0 (reading_kept y.feed) (post_answer register y.staging book table c y.feed)) UnknownForm) Unsound) whole.stated
-        ∙ ap (λ (r : Reading). on (message_sound register book table c) (on (is_form form) (unless_refused 0 r (post_answer register y.staging book table c y.feed)) UnknownForm) Unsound) reading-is
-        ∙ ap (λ (a : Answer). on (message_sound register book table c) (on (is_form form) a UnknownForm) Unsound) (next-same (reading_of (message_table form) register sender d) _ _ post_is)
+        ap (λ (b : Bool). on b (on (is_form (feed_of kept).form) (unless_refused 0 (reading_kept (feed_of kept)) (post_answer register y.staging book table c (feed_of kept))) (Err UnknownForm)) (Err Unsound)) sound-is
+        ∙ ap (λ (f : Feed). on (message_sound register book table c) (on (is_form f.form) (unless_refused 0 (reading_kept f) (post_answer register y.staging book table c f)) (Err UnknownForm)) (Err Unsound)) is
+        ∙ ap (λ (n : ℕ). on (message_sound register book table c) (on (is_form n) (unless_refused 0 (reading_kept y.feed) (post_answer register y.staging book table c y.feed)) (Err UnknownForm)) (Err Unsound)) whole.stated
+        ∙ ap (λ (r : Reading). on (message_sound register book table c) (on (is_form form) (unless_refused 0 r (post_answer register y.staging book table c y.feed)) (Err UnknownForm)) (Err Unsound)) reading-is
+        ∙ ap (λ (a : Answer). on (message_sound register book table c) (on (is_form form) a (Err UnknownForm)) (Err Unsound)) (next-same (reading_of (message_table form) register sender d) _ _ post_is)

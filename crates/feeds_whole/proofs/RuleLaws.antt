@@ -7,7 +7,7 @@ use mathlib.Core.List.{List, [], ◌∷◌}
 use borrow.Author.Tests.{not-false, le-leb}
 use lib.Dec.{leb}
 use lib.ListN.{length, get_or}
-use Rattle.std.specs.Prelude.{Ok}
+use Rattle.std.specs.Prelude.{Ok, Err}
 use Rattle.lists.specs.Logic.{on}
 use Rattle.lists.specs.Part.{part}
 use Rattle.lists.proofs.LogicLaws.{and-false, and-pass, or-fail}
@@ -17,7 +17,7 @@ use Rattle.passage.specs.Ranges.{update_in_range}
 use Rattle.columns.specs.Tables.{is_form}
 use Rattle.register.specs.Register.{grants}
 use Rattle.feeds.specs.Kept.{feed_of, is_begun}
-use Rattle.calls.specs.declared.Answer.TheVariants.{Unsound, Owner}
+use Rattle.calls.specs.declared.Refusal.TheVariants.{Unsound, Owner}
 use Rattle.calls.specs.declared.Counts.{Counts}
 use Rattle.calls.specs.Message.{message_sound, taken_by}
 use Rattle.calls.specs.End.{least, staged_rows, all_in_range, any_denied, most_rows, end_sound, reading_kept, post_answer, end_answer, end_leaves, cleared}
@@ -28,7 +28,7 @@ use Rattle.feeds_whole.proofs.PartLaws.{fed-never}
 
 -- ---- 1
 
-unsound : (register staging book table kept : List ℕ) (c : Counts) → end_sound register staging book table c kept ≡ false → end_answer register staging book table c kept ≡ Unsound
+unsound : (register staging book table kept : List ℕ) (c : Counts) → end_sound register staging book table c kept ≡ false → end_answer register staging book table c kept ≡ Err Unsound
 unfolding end_answer
 unsound register staging book table kept c e = rw e refl
 
@@ -94,7 +94,7 @@ granted-at register sender (r ∷ rs) (suc i) h e = granted-at register sender r
 pub rows-out-of-range : RowsOutOfRange
 rows-out-of-range register staging book table kept c i s e = go (all_in_range (staged_rows staging (feed_of kept))) refl
   where
-    go : (b : Bool) → all_in_range (staged_rows staging (feed_of kept)) ≡ b → end_answer register staging book table c kept ≡ Unsound
+    go : (b : Bool) → all_in_range (staged_rows staging (feed_of kept)) ≡ b → end_answer register staging book table c kept ≡ Err Unsound
     go true h =
         let k = staged-at staging kept i s in
         let m : true ≡ false = sym (range_at (staged_rows staging (feed_of kept)) i k.0 h) ∙ ap update_in_range k.1 ∙ e in
@@ -102,14 +102,14 @@ rows-out-of-range register staging book table kept c i s e = go (all_in_range (s
     go false h = unsound register staging book table kept c (range-sound register staging book table kept c h)
 
 denied-post : (register staging book table kept : List ℕ) (c : Counts) (n : ℕ) → end_sound register staging book table c kept ≡ true → is_form (feed_of kept).form ≡ true → reading_kept (feed_of kept) ≡ Ok n
-    → any_denied register (feed_of kept).sender (staged_rows staging (feed_of kept)) ≡ true → end_answer register staging book table c kept ≡ Owner 0
+    → any_denied register (feed_of kept).sender (staged_rows staging (feed_of kept)) ≡ true → end_answer register staging book table c kept ≡ Err (Owner 0)
 unfolding end_answer post_answer
 denied-post register staging book table kept c n s o r d = rw (s, o, r, d) refl
 
 pub unregistered : Unregistered
 unregistered register staging book table kept c n i sound known reading s e = go (any_denied register (feed_of kept).sender (staged_rows staging (feed_of kept))) refl
   where
-    go : (b : Bool) → any_denied register (feed_of kept).sender (staged_rows staging (feed_of kept)) ≡ b → end_answer register staging book table c kept ≡ Owner 0
+    go : (b : Bool) → any_denied register (feed_of kept).sender (staged_rows staging (feed_of kept)) ≡ b → end_answer register staging book table c kept ≡ Err (Owner 0)
     go true h = denied-post register staging book table kept c n sound (le-leb _ _ known) reading h
     go false h =
         let k = staged-at staging kept i s in

@@ -1,5 +1,5 @@
 -- What is certain of a dossier that comes in parts. `proofs/Claims.antt` proves `All`. Assumes nothing.
-use Rattle.std.specs.Prelude.{ℕ, ◌+◌, ◌*◌, ◌/◌, ◌≤◌, ◌<◌, ◌≡◌, true, false, List, ◌++◌, ◌↔◌, length, Ok}
+use Rattle.std.specs.Prelude.{ℕ, ◌+◌, ◌*◌, ◌/◌, ◌≤◌, ◌<◌, ◌≡◌, true, false, List, ◌++◌, ◌↔◌, length, Ok, Err}
 use Rattle.lists.specs.Part.{part}
 use Rattle.lists.specs.Rows.{flat}
 use Rattle.passage.specs.Layout.{body_wide, owner_of}
@@ -9,7 +9,7 @@ use Rattle.reader.specs.Rules.{reading_of}
 use Rattle.reader.specs.Staging.{laid}
 use Rattle.feeds.specs.Kept.{feed_of, is_begun}
 use Rattle.feeds.specs.Feeding.{feeding, feed_leaves}
-use Rattle.calls.specs.declared.Answer.TheVariants.{Unsound, Owner}
+use Rattle.calls.specs.declared.Refusal.TheVariants.{Unsound, Owner}
 use Rattle.calls.specs.declared.Counts.{Counts}
 use Rattle.calls.specs.Answers.{numbers, is_accepted}
 use Rattle.calls.specs.Leaves.{outcome_of}
@@ -54,7 +54,7 @@ abbrev pub NeverBegun : Type 0
 NeverBegun =
     (register staging book table line kept part : List ℕ) (c : Counts) → is_begun kept ≡ false
     → let left = end_leaves register staging book table c kept in
-    (left.outcome ≡ outcome_of Unsound c) × (left.book ≡ book) × (left.table ≡ table) × (left.kept ≡ kept)
+    (left.outcome ≡ outcome_of (Err Unsound) c) × (left.book ≡ book) × (left.table ≡ table) × (left.kept ≡ kept)
     × (feed_leaves part register staging line kept ≡ feeding 1 kept line staging)
 
 -- an acceptance clears the numbers, and those are of no begun feed: what is ended cannot be ended again, nor fed
@@ -74,14 +74,14 @@ abbrev pub RowsOutOfRange : Type 0
 RowsOutOfRange =
     (register staging book table kept : List ℕ) (c : Counts) (i : ℕ) → Staged staging kept i
     → update_in_range (part (i * body_wide) body_wide staging) ≡ false
-    → end_answer register staging book table c kept ≡ Unsound
+    → end_answer register staging book table c kept ≡ Err Unsound
 
 -- where what is lent is sound, the form is known and reading found nothing, a staged row whose owner the register does not grant now gets 6, with line 0
 abbrev pub Unregistered : Type 0
 Unregistered =
     (register staging book table kept : List ℕ) (c : Counts) (n i : ℕ) → end_sound register staging book table c kept ≡ true → (feed_of kept).form ≤ 1 → reading_kept (feed_of kept) ≡ Ok n
     → Staged staging kept i → grants register (feed_of kept).sender (owner_of (part (i * body_wide) body_wide staging)) ≡ false
-    → end_answer register staging book table c kept ≡ Owner 0
+    → end_answer register staging book table c kept ≡ Err (Owner 0)
 
 -- all of these
 abbrev pub All : Type 0

@@ -15,17 +15,16 @@ use Rattle.passage.specs.Layout.{row_wide}
 use Rattle.keys.specs.Replay.{taken_all}
 use Rattle.table.specs.Rules.{table_sound, table_room}
 use Rattle.table.proofs.SoundLaws.{sound-within}
-use Rattle.std.specs.Prelude.{Option, Some, None}
+use Rattle.std.specs.Prelude.{Option, Some, None, Ok, Err}
 use Rattle.messages_take.specs.inner.Fitting.{fitting, fitting_in}
 use Rattle.messages_take.proofs.FittingLaws.{count-told, too-many-told, in-yes, in-no}
 use Rattle.book.specs.Entries.{entry_wide, entries_of, updates_in}
 use Rattle.book.specs.Rules.{book_sound, book_room, next_number}
 use Rattle.book.proofs.SoundLaws.{sound-facts}
-use Rattle.calls.specs.declared.Answer.{Answer}
-use Rattle.calls.specs.declared.Answer.TheVariants.{Accepted, BookShort, TableShort}
+use Rattle.calls.specs.declared.Refusal.TheVariants.{BookShort, TableShort}
 use Rattle.calls.specs.declared.Counts.{Counts}
 use Rattle.calls.specs.declared.Outcome.{Outcome}
-use Rattle.calls.specs.Answers.{is_accepted}
+use Rattle.calls.specs.Answers.{Answer, is_accepted}
 use Rattle.calls.specs.Leaves.{counts_of, outcome_of, leaves}
 use Rattle.calls.specs.Message.{next_in, rows_taken, room_for, counts_taking, book_taking, table_taking, taken_by}
 use Rattle.calls.proofs.LeavesLaws.{leaves-refused, leaves-accepted}
@@ -42,14 +41,14 @@ module _ (bodies : List (List ℕ)) (sender : ℕ) (book table : List ℕ) (c : 
   refuses a e f r h = leaves-refused (room_for bodies book table c) a _ book table c e f r h
 
   -- an acceptance
-  accepts : (n : ℕ) → room_for bodies book table c ≡ Accepted n → (r : Outcome) (b t : List ℕ) (k : Counts) → r ≡ outcome_of (Accepted n) k → k ≡ counts_taking bodies table c
+  accepts : (n : ℕ) → room_for bodies book table c ≡ Ok n → (r : Outcome) (b t : List ℕ) (k : Counts) → r ≡ outcome_of (Ok n) k → k ≡ counts_taking bodies table c
       → b ≡ book_taking (next_in c.used book) bodies sender book c.used → t ≡ table_taking bodies table c.rows → Left r b t
   unfolding taken_leaves taken_by
   accepts n e r b t k h l f g = leaves-accepted (room_for bodies book table c) n _ _ e r b t k h l f g
 
-  pub book-short : book_room book < c.used + length bodies * entry_wide → (r : Outcome) → r ≡ outcome_of BookShort c → Left r book table
+  pub book-short : book_room book < c.used + length bodies * entry_wide → (r : Outcome) → r ≡ outcome_of (Err BookShort) c → Left r book table
   unfolding room_for
-  book-short h r e = refuses BookShort (rw (lt-leb _ _ h)) refl r e
+  book-short h r e = refuses (Err BookShort) (rw (lt-leb _ _ h)) refl r e
 
   -- the table's rows taken, or too many of them
   module _ (most : ℕ) (m : most ≡ table_room table) (f : Option ℕ) (t : List ℕ)
@@ -57,15 +56,15 @@ module _ (bodies : List (List ℕ)) (sender : ℕ) (book table : List ℕ) (c : 
     abbrev rs : List (List ℕ)
     rs = rows_taken bodies table c.rows
 
-    pub table-short : c.used + length bodies * entry_wide ≤ book_room book → f ≡ None → (r : Outcome) → r ≡ outcome_of TableShort c → Left r book t
+    pub table-short : c.used + length bodies * entry_wide ≤ book_room book → f ≡ None → (r : Outcome) → r ≡ outcome_of (Err TableShort) c → Left r book t
     unfolding room_for
     table-short h e r x =
         let over = too-many-told c.rows most rs table (sym p.0 ∙ e) in
         let k : leb (length rs) (table_room table) ≡ false = ap (leb (length rs)) (sym m) ∙ over in
-        ap (leaves r book) (p.1 ∙ in-no c.rows most rs table over) ∙ refuses TableShort (rw (le-leb _ _ h, k)) refl r x
+        ap (leaves r book) (p.1 ∙ in-no c.rows most rs table over) ∙ refuses (Err TableShort) (rw (le-leb _ _ h, k)) refl r x
 
     pub fits : (length bodies ≡ 0 → ⊥) → c.used + length bodies * entry_wide ≤ book_room book → (n : ℕ) → f ≡ Some n → (r : Outcome) (b : List ℕ) (k : ℕ) → k ≡ length bodies
-        → r ≡ outcome_of (Accepted (next_number (updates_in c.used book))) (counts_of (c.used + k * entry_wide) n)
+        → r ≡ outcome_of (Ok (next_number (updates_in c.used book))) (counts_of (c.used + k * entry_wide) n)
         → b ≡ book_taking (next_in c.used book) bodies sender book c.used → Left r b t
     unfolding room_for table_taking
     fits some h n e r b k l x z =
@@ -86,7 +85,7 @@ module _ (sender : ℕ) (book table : List ℕ) (c : Counts) (sound : (book_soun
   none-counts : counts_taking [] table c ≡ c
   none-counts = let z : c.used + 0 * entry_wide ≡ c.used = omega arith in λ i. record { used = z i; rows = none-count i }
 
-  none-room : room_for [] book table c ≡ Accepted 0
+  none-room : room_for [] book table c ≡ Ok 0
   unfolding room_for
   none-room =
       let u : c.used + 0 * entry_wide ≤ book_room book = let k = (sound-facts c.used book sound.0).room in omega arith in
@@ -101,5 +100,5 @@ module _ (sender : ℕ) (book table : List ℕ) (c : Counts) (sound : (book_soun
   unfolding table_taking taken_all
   none-table = sym (store_same row_wide c.rows table)
 
-  pub rowless : (bodies : List (List ℕ)) → bodies ≡ [] → (r : Outcome) → r ≡ outcome_of (Accepted 0) c → Left bodies sender book table c r book table
+  pub rowless : (bodies : List (List ℕ)) → bodies ≡ [] → (r : Outcome) → r ≡ outcome_of (Ok 0) c → Left bodies sender book table c r book table
   rowless bodies e r h = rw e (accepts [] sender book table c 0 none-room r book table c h (sym none-counts) none-book none-table)

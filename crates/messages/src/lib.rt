@@ -1,14 +1,13 @@
 // Message: a dossier from a sender, taken whole into book and table or refused whole.
 #![tactic(auto)]
 
-ghost use Rattle.std.specs.Prelude.{◌≡◌, true, ◌+◌, ◌*◌, ◌≤◌, length};
+ghost use Rattle.std.specs.Prelude.{◌≡◌, true, Ok, ◌+◌, ◌*◌, ◌≤◌, length};
 ghost use Rattle.lists.specs.Rows.{rows_of};
 ghost use Rattle.passage.specs.Layout.{body_wide};
 ghost use Rattle.columns.specs.Tables.{is_form};
 ghost use Rattle.table.specs.Rules.{table_sound};
 ghost use Rattle.book.specs.Entries.{entry_wide, updates_in};
 ghost use Rattle.book.specs.Rules.{book_sound, book_room, next_number};
-ghost use Rattle.calls.specs.declared.Answer.TheVariants.{Accepted};
 ghost use Rattle.calls.specs.Answers.{numbers};
 ghost use Rattle.calls.specs.Leaves.{counts_of, outcome_of, leaves};
 ghost use Rattle.calls.specs.Message.{next_in, message_sound, book_taking, message_leaves};
@@ -16,7 +15,7 @@ ghost use Rattle.calls.specs.Numbers.{message_numbers};
 ghost use Rattle.messages_take.specs.inner.Fitting.{most_updates};
 ghost use Rattle.messages.specs.inner.Steps.{HoldsRows, taken_leaves};
 
-use calls::{Answer, Counts, Outcome};
+use calls::{Counts, Outcome, Refusal};
 
 // Room for the rows of any dossier.
 const STAGED: usize = messages_take::MOST_UPDATES * passage::BODY_WIDE;
@@ -63,7 +62,7 @@ fn read_and_take(
     let reading = reader::read_message(columns::form_of(form), dossier, register, sender, staging);
     match calls::passed(reading, 0) {
         Ok(count) => take_rows(staging, count, sender, book, table, counts),
-        Err(answer) => calls::unchanged(answer, counts),
+        Err(refusal) => calls::unchanged(Err(refusal), counts),
     }
 }
 
@@ -126,9 +125,9 @@ pub fn message(
         if columns::is_form(form) {
             return take_sound(dossier, sender, form, register, book, table, counts);
         }
-        return calls::unchanged(Answer::UnknownForm, counts);
+        return calls::unchanged(Err(Refusal::UnknownForm), counts);
     }
-    calls::unchanged(Answer::Unsound, counts)
+    calls::unchanged(Err(Refusal::Unsound), counts)
 }
 
 // ---- The staged rows of a message: taken into book and table, or refused for want of room.
@@ -146,7 +145,7 @@ fn write_rows(
     requires book_value { book_sound used book.old ≡ true }
     requires entry_wide_bound { used + count * entry_wide ≤ book_room book.old }
     ensures outcome { result
-        ≡ outcome_of (Accepted (next_number (updates_in used book.old))) (counts_of (used + count * entry_wide) rows) }
+        ≡ outcome_of (Ok (next_number (updates_in used book.old))) (counts_of (used + count * entry_wide) rows) }
     ensures entries { book.new ≡ book_taking (next_in used book.old) (rows_of body_wide count staging.now) sender book.old used }
 {
     let number = book_write::next_number(book, used);
@@ -171,14 +170,14 @@ pub fn take_rows(
     let used = counts.used;
     let held = counts.rows;
     if count == 0 {
-        return calls::unchanged(Answer::Accepted(0), counts);
+        return calls::unchanged(Ok(0), counts);
     }
     if book::book_room(book) < used + count * book::ENTRY_WIDE {
-        return calls::unchanged(Answer::BookShort, counts);
+        return calls::unchanged(Err(Refusal::BookShort), counts);
     }
     let most = table::rows_room(table);
     match messages_take::take_fitting(table, held, staging, count, most) {
         Some(rows) => write_rows(staging, count, sender, book, used, rows),
-        None => calls::unchanged(Answer::TableShort, counts),
+        None => calls::unchanged(Err(Refusal::TableShort), counts),
     }
 }

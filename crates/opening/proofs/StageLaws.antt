@@ -11,10 +11,10 @@ use Rattle.reader.specs.Staging.{staged_by}
 use Rattle.reader.specs.Passes.{pass_wide, validity_wide}
 use Rattle.reader.proofs.StagedLaws.{staged-passes, staged-validities}
 use Rattle.plan.specs.Rules.{joined}
-use Rattle.calls.specs.declared.Answer.{Answer}
+use Rattle.calls.specs.declared.Refusal.{Refusal}
 use Rattle.calls.specs.declared.Counts.{Counts}
 use Rattle.calls.specs.declared.Outcome.{Outcome}
-use Rattle.calls.specs.Answers.{unless_refused}
+use Rattle.calls.specs.Answers.{Answer, unless_refused}
 use Rattle.calls.specs.Leaves.{outcome_of, leaves}
 use Rattle.calls.specs.Open.{passages_of, plan_of, room_to_open, open_answer, open_leaves}
 use Rattle.calls.specs.inner.Steps.{passed_of}
@@ -29,12 +29,12 @@ module _ (calendar : List ℕ) (ps : List (List ℕ)) (book table : List ℕ) wh
   unfolding calendar_answer
   calendar-is x e = ap (λ (y : Reading). unless_refused 2 y (room_to_open (joined_to calendar ps) book table)) e
 
-  pub calendar-refused : (c : Counts) (a : Answer) → passed_of 2 (reading_of Tables.Calendar [] 0 calendar) ≡ Err a
-      → (r : Outcome) → r ≡ outcome_of a c → Opened (calendar_answer calendar ps book table) (joined_to calendar ps) book table c r book table
+  pub calendar-refused : (c : Counts) (a : Refusal) → passed_of 2 (reading_of Tables.Calendar [] 0 calendar) ≡ Err a
+      → (r : Outcome) → r ≡ outcome_of (Err a) c → Opened (calendar_answer calendar ps book table) (joined_to calendar ps) book table c r book table
   calendar-refused c a e r k =
       let x = reading_of Tables.Calendar [] 0 calendar in
       let off = passed-off 2 x a e (room_to_open (joined_to calendar ps) book table) in
-      refused-with (joined_to calendar ps) book table c a (calendar_answer calendar ps book table) off.1 (calendar-is x refl ∙ off.0) r k
+      refused-with (joined_to calendar ps) book table c (Err a) (calendar_answer calendar ps book table) refl (calendar-is x refl ∙ off) r k
 
   -- the validities are read back
   calendar-read : (v₀ v : List ℕ) (nv : ℕ) → reading_of Tables.Calendar [] 0 calendar ≡ Ok nv → v ≡ staged_by Tables.Calendar [] 0 calendar v₀ → nv * validity_wide ≤ length v₀
@@ -65,11 +65,11 @@ module _ (planning calendar book table : List ℕ) where
   unfolding open_leaves plan_of
   open_is c r b t o = o
 
-  pub planning-refused : (c : Counts) (a : Answer) → passed_of 1 (reading_of Tables.Planning [] 0 planning) ≡ Err a → (r : Outcome) → r ≡ outcome_of a c → Opens c r book table
+  pub planning-refused : (c : Counts) (a : Refusal) → passed_of 1 (reading_of Tables.Planning [] 0 planning) ≡ Err a → (r : Outcome) → r ≡ outcome_of (Err a) c → Opens c r book table
   planning-refused c a e r k =
       let x = reading_of Tables.Planning [] 0 planning in
       let off = passed-off 1 x a e (calendar_answer calendar rs book table) in
-      open_is c r book table (refused-with (passages_of planning calendar) book table c a (open_answer planning calendar book table) off.1 (planning-is x refl ∙ off.0) r k)
+      open_is c r book table (refused-with (passages_of planning calendar) book table c (Err a) (open_answer planning calendar book table) refl (planning-is x refl ∙ off) r k)
 
   pub planning-taken : (c : Counts) (r : Outcome) (b t p₀ p : List ℕ) (np : ℕ) → reading_of Tables.Planning [] 0 planning ≡ Ok np → p ≡ staged_by Tables.Planning [] 0 planning p₀ → np * pass_wide ≤ length p₀
       → Opened (calendar_answer calendar (rows_of pass_wide np p) book table) (joined_to calendar (rows_of pass_wide np p)) book table c r b t

@@ -12,7 +12,7 @@ ghost use Rattle.opening_write.specs.inner.Steps.{opened_leaves};
 ghost use Rattle.opening.specs.inner.Steps.{most_passes, most_validities, HoldsPasses, HoldsValidities, calendar_leaves};
 ghost use Rattle.opening.specs.inner.Joining.{fewer, staged_pairs, Enough};
 
-use calls::{Answer, Counts, Outcome};
+use calls::{Counts, Outcome, Refusal};
 
 // The most pass times of any planning, and room for them.
 const MOST_PASSES: usize = 6553;
@@ -56,7 +56,7 @@ fn read_and_join(
     let reading = reader::read_calendar(calendar, validities);
     match calls::passed(reading, 2) {
         Ok(days) => join_fitting(passes, times, validities, days, book, table, counts),
-        Err(answer) => calls::unchanged(answer, counts),
+        Err(refusal) => calls::unchanged(Err(refusal), counts),
     }
 }
 
@@ -78,7 +78,7 @@ fn open_by(
     let reading = reader::read_planning(planning, passes);
     match calls::passed(reading, 1) {
         Ok(times) => read_and_join(passes, times, calendar, validities, book, table, counts),
-        Err(answer) => calls::unchanged(answer, counts),
+        Err(refusal) => calls::unchanged(Err(refusal), counts),
     }
 }
 
@@ -163,7 +163,7 @@ fn join_all(
     let most = fewer(room, bodies.len() / passage::BODY_WIDE);
     let pairs = plan::join(passes, times, validities, days, bodies, most);
     if most < pairs {
-        return calls::unchanged(Answer::BookShort, counts);
+        return calls::unchanged(Err(Refusal::BookShort), counts);
     }
     opening_write::sort_and_write(bodies, pairs, book, table, counts)
 }

@@ -11,7 +11,7 @@ ghost use Rattle.book.specs.Rules.{book_room, plan_row, plan_rows};
 ghost use Rattle.calls.specs.Leaves.{leaves};
 ghost use Rattle.opening_write.specs.inner.Steps.{bodies_at, opened_leaves};
 
-use calls::{Answer, Counts, Outcome};
+use calls::{Counts, Outcome, Refusal};
 
 // As many plan entries as a book has room for.
 pub const MOST_PLANS: usize = book::MOST_BYTES / book::PLAN_WIDE;
@@ -70,10 +70,10 @@ pub fn sort_and_write(
     let distinct = sorting_merge::sort_keys(bodies, count, 0, passage::BODY_WIDE, &mut order);
     let room = table::rows_room(table);
     if distinct != count {
-        return calls::unchanged(Answer::KeyTwice, counts);
+        return calls::unchanged(Err(Refusal::KeyTwice), counts);
     }
     if room < count {
-        return calls::unchanged(Answer::TableShort, counts);
+        return calls::unchanged(Err(Refusal::TableShort), counts);
     }
     write_plan(book, bodies, &order, count);
     write_rows(table, bodies, &order, count);

@@ -8,7 +8,7 @@ use native.Mathlib.Omega.{arith}
 use borrow.Author.Tests.{leb-true, not-false}
 use lib.Dec.{leb}
 use lib.ListN.{length}
-use Rattle.std.specs.Prelude.{Ok}
+use Rattle.std.specs.Prelude.{Ok, Err}
 use Rattle.lists.specs.Logic.{on}
 use Rattle.lists.specs.Each.{Each}
 use Rattle.lists.specs.Rows.{Wide}
@@ -25,9 +25,8 @@ use Rattle.book.specs.Entries.{entry_wide}
 use Rattle.book.specs.Rules.{book_sound, book_room}
 use Rattle.feeds.specs.declared.Feed.{Feed}
 use Rattle.feeds.specs.Kept.{feed_of, is_begun}
-use Rattle.calls.specs.declared.Answer.{Answer}
-use Rattle.calls.specs.declared.Answer.TheVariants.{Accepted, Unsound, Owner, StagingShort, BookShort, TableShort, UnknownForm}
-use Rattle.calls.specs.Answers.{is_accepted, unless_refused}
+use Rattle.calls.specs.declared.Refusal.TheVariants.{Unsound, Owner, StagingShort, BookShort, TableShort, UnknownForm}
+use Rattle.calls.specs.Answers.{Answer, is_accepted, unless_refused}
 use Rattle.calls.specs.Message.{message_sound, number_for, rows_taken, room_for, taken_by}
 use Rattle.calls.specs.End.{least, staged_rows, all_in_range, any_denied, falls_short, most_rows, end_sound, reading_kept, post_answer, end_answer, end_leaves}
 use Rattle.calls.proofs.AcceptedLaws.{first_of, read-on}
@@ -102,17 +101,17 @@ module _ (register staging kept : List ℕ) (x : Day) where
     unfolding end_answer post_answer room_for
     went =
         let found = unless_refused 0 (reading_kept (feed_of kept)) (post_answer register staging x.book x.table x.counts (feed_of kept)) in
-        let s = first_of (end_sound register staging x.book x.table x.counts kept) (on (is_form (feed_of kept).form) found UnknownForm) Unsound refl e in
-        let k = first_of (is_form (feed_of kept).form) found UnknownForm refl s.1 in
+        let s = first_of (end_sound register staging x.book x.table x.counts kept) (on (is_form (feed_of kept).form) found (Err UnknownForm)) (Err Unsound) refl e in
+        let k = first_of (is_form (feed_of kept).form) found (Err UnknownForm) refl s.1 in
         let r = read-on 0 (reading_kept (feed_of kept)) (post_answer register staging x.book x.table x.counts (feed_of kept)) k.1 in
-        let d = second-of (any_denied register sender sent) (Owner 0) (on (falls_short staging (feed_of kept)) StagingShort (room_for sent x.book x.table x.counts)) refl r.1 in
-        let f = second-of (falls_short staging (feed_of kept)) StagingShort (room_for sent x.book x.table x.counts) refl d.1 in
-        let b = first_of fits (on holds (Accepted (number_for sent x.counts.used x.book)) TableShort) BookShort refl f.1 in
-        let t = first_of holds (Accepted (number_for sent x.counts.used x.book)) TableShort refl b.1 in
+        let d = second-of (any_denied register sender sent) (Err (Owner 0)) (on (falls_short staging (feed_of kept)) (Err StagingShort) (room_for sent x.book x.table x.counts)) refl r.1 in
+        let f = second-of (falls_short staging (feed_of kept)) (Err StagingShort) (room_for sent x.book x.table x.counts) refl d.1 in
+        let b = first_of fits (on holds (Ok (number_for sent x.counts.used x.book)) (Err TableShort)) (Err BookShort) refl f.1 in
+        let t = first_of holds (Ok (number_for sent x.counts.used x.book)) (Err TableShort) refl b.1 in
         record { sound = s.0; known = k.0; rows = r.0; granted = d.0; all = f.0; in-book = b.0; in_table = t.0 }
 
     -- and it is accepted with its number
-    answer-is : end_answer register staging x.book x.table x.counts kept ≡ Accepted (number_for sent x.counts.used x.book)
+    answer-is : end_answer register staging x.book x.table x.counts kept ≡ Ok (number_for sent x.counts.used x.book)
     unfolding end_answer post_answer room_for
     answer-is = let w = went in rw (w.sound, w.known, w.rows.1, w.granted, w.all, w.in-book, w.in_table) refl
 

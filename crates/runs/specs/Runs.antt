@@ -6,9 +6,8 @@ use Rattle.lists.specs.Rows.{flat}
 use Rattle.feeds.specs.Kept.{feed_of}
 use Rattle.book.specs.Entries.{plan_entry, entries_of}
 use Rattle.book.specs.Rules.{marked_withdrawn, plan_rows}
-use Rattle.calls.specs.declared.Answer.{Answer}
 use Rattle.calls.specs.declared.Counts.{Counts}
-use Rattle.calls.specs.Answers.{numbers, is_accepted}
+use Rattle.calls.specs.Answers.{Answer, numbers, is_accepted}
 use Rattle.calls.specs.Leaves.{Day, day_of, Leaves}
 use Rattle.calls.specs.Message.{message_rows, message_answer, book_taking, table_taking, counts_taking, message_leaves}
 use Rattle.calls.specs.Withdraw.{rows_without, withdraw_answer, book_without, table_without, counts_without, withdraw_leaves}

@@ -1,5 +1,5 @@
 // What is printed. A write that fails is passed over.
-use calls::{Answer, Counts};
+use calls::{Counts, Refusal};
 use std::io::{Print, Stdout};
 
 pub fn heading(out: Stdout, title: &[u8]) {
@@ -8,7 +8,7 @@ pub fn heading(out: Stdout, title: &[u8]) {
 }
 
 // Document 01's number, its values, and which dossier.
-pub fn answer(out: Stdout, given: Answer) {
+pub fn answer(out: Stdout, given: Result<u32, Refusal>) {
     let f = calls::numbers(given);
     let _ = print!(out; " {} {} {} {}", f.number, f.value, f.second, f.dossier);
 }

@@ -7,6 +7,7 @@ use native.Mathlib.Nat.{not-suc-le-zero}
 use native.Mathlib.Omega.{arith}
 use lib.Dec.{eqb}
 use lib.ListN.{drop, get_or}
+use Rattle.std.specs.Prelude.{Err}
 use Rattle.lists.specs.Logic.{on}
 use Rattle.lists.specs.Part.{part}
 use Rattle.lists.specs.Rows.{rows_of}
@@ -14,11 +15,10 @@ use Rattle.table.specs.Rules.{table_sound}
 use Rattle.book.specs.Entries.{entry_wide, sender_offset, updates_in}
 use Rattle.book.specs.Rules.{book_sound, message_entries}
 use Rattle.book.proofs.PlaceLaws.{kind_at, sender-from}
-use Rattle.calls.specs.declared.Answer.{Answer}
-use Rattle.calls.specs.declared.Answer.TheVariants.{Unsound, NoMessage, AlreadyWithdrawn, OtherSender}
+use Rattle.calls.specs.declared.Refusal.TheVariants.{Unsound, NoMessage, AlreadyWithdrawn, OtherSender}
 use Rattle.calls.specs.declared.Counts.{Counts}
 use Rattle.calls.specs.declared.Outcome.{Outcome}
-use Rattle.calls.specs.Answers.{is_accepted}
+use Rattle.calls.specs.Answers.{Answer, is_accepted}
 use Rattle.calls.specs.Leaves.{outcome_of, leaves}
 use Rattle.calls.specs.Withdraw.{withdraw_sound, room_without, withdraw_answer, without_by, withdraw_leaves}
 use Rattle.calls.proofs.LeavesLaws.{leaves-refused}
@@ -47,12 +47,12 @@ module _ (n sender : ℕ) (book table : List ℕ) (c : Counts) where
 
   -- ---- which answer
 
-  pub not_sound : withdraw_sound book table c ≡ false → withdraw_answer n sender book table c ≡ Unsound
+  pub not_sound : withdraw_sound book table c ≡ false → withdraw_answer n sender book table c ≡ Err Unsound
   unfolding withdraw_answer
   not_sound e = rw e
 
   module _ (sound : withdraw_sound book table c ≡ true) where
-    pub not_there : message_entries n (updates_in c.used book) ≡ [] → withdraw_answer n sender book table c ≡ NoMessage
+    pub not_there : message_entries n (updates_in c.used book) ≡ [] → withdraw_answer n sender book table c ≡ Err NoMessage
     unfolding withdraw_answer
     not_there e = rw (sound, e)
 
@@ -63,15 +63,15 @@ module _ (n sender : ℕ) (book table : List ℕ) (c : Counts) where
       first-row w (suc k) t h = let e : suc k - 1 ≡ k = omega arith in rw e
 
       as_read : withdraw_answer n sender book table c
-          ≡ on (eqb sender 0 || eqb sender (get_or book (at + sender_offset) 0)) (on (eqb (get_or book at 0) 3) AlreadyWithdrawn (room_without n book table c)) OtherSender
+          ≡ on (eqb sender 0 || eqb sender (get_or book (at + sender_offset) 0)) (on (eqb (get_or book at 0) 3) (Err AlreadyWithdrawn) (room_without n book table c)) (Err OtherSender)
       unfolding withdraw_answer part
       as_read = rw (sound, st.entries, first-row entry_wide m (drop at book) st.some, kind_at at book, sender-from at book)
 
-      pub other-sender : (eqb sender 0 || eqb sender (get_or book (at + sender_offset) 0)) ≡ false → withdraw_answer n sender book table c ≡ OtherSender
+      pub other-sender : (eqb sender 0 || eqb sender (get_or book (at + sender_offset) 0)) ≡ false → withdraw_answer n sender book table c ≡ Err OtherSender
       other-sender e = as_read ∙ rw e
 
       module _ (e : (eqb sender 0 || eqb sender (get_or book (at + sender_offset) 0)) ≡ true) where
-        pub already : eqb (get_or book at 0) 3 ≡ true → withdraw_answer n sender book table c ≡ AlreadyWithdrawn
+        pub already : eqb (get_or book at 0) 3 ≡ true → withdraw_answer n sender book table c ≡ Err AlreadyWithdrawn
         already k = as_read ∙ rw (e, k)
 
         pub goes_on : eqb (get_or book at 0) 3 ≡ false → (r : Outcome) (b t : List ℕ) → leaves r b t ≡ room_leaves n book table c → All r b t

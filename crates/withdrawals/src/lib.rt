@@ -11,7 +11,7 @@ ghost use Rattle.calls.specs.Numbers.{withdraw_numbers};
 ghost use Rattle.withdrawals_replay.specs.inner.Slots.{slot_wide, slots_of};
 ghost use Rattle.withdrawals.specs.inner.Steps.{MessageAt, names_in, worked_out, room_leaves};
 
-use calls::{Answer, Counts, Outcome};
+use calls::{Counts, Outcome, Refusal};
 
 // The message has so many entries from `at` on: 12, then 11, then what follows.
 fn withdraw_found(
@@ -32,14 +32,14 @@ fn withdraw_found(
     let kind = book[at];
     if (sender == 0) | (sender == own) {
         if kind == 3 {
-            return calls::unchanged(Answer::AlreadyWithdrawn, counts);
+            return calls::unchanged(Err(Refusal::AlreadyWithdrawn), counts);
         }
         if count <= FEW {
             return rework_few(number, at, count, book, table, counts);
         }
         return rework_many(number, at, count, book, table, counts);
     }
-    calls::unchanged(Answer::OtherSender, counts)
+    calls::unchanged(Err(Refusal::OtherSender), counts)
 }
 
 // Book and table are sound: 10, then what follows.
@@ -57,7 +57,7 @@ fn withdraw_sound(
     let used = counts.used;
     let h = book_find::find_message(book, used, number);
     match h {
-        None => calls::unchanged(Answer::NoMessage, counts),
+        None => calls::unchanged(Err(Refusal::NoMessage), counts),
         Some((i, count)) => {
             let at = book::count_plans(book, used) * book::PLAN_WIDE + i * book::ENTRY_WIDE;
             withdraw_found(number, sender, at, count, book, table, counts)
@@ -92,7 +92,7 @@ pub fn withdraw(
     if is_sound(book, table, counts) {
         return withdraw_sound(number, sender, book, table, counts);
     }
-    calls::unchanged(Answer::Unsound, counts)
+    calls::unchanged(Err(Refusal::Unsound), counts)
 }
 
 // ---- A message's passages worked out again from the book without it, and taken into the table.
@@ -156,7 +156,7 @@ fn rework_in(
         book_write::mark_withdrawn(book, at, count);
         return calls::accepted(0, used, settled);
     }
-    calls::unchanged(Answer::TableShort, counts)
+    calls::unchanged(Err(Refusal::TableShort), counts)
 }
 
 // The same for few entries, with little room of its own to work in, so that little is cleared for a small message.

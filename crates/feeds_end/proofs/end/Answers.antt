@@ -1,7 +1,6 @@
 -- `end` meets its contract. Assumes nothing.
 use mathlib.Core.Path.{refl, sym, ap, ◌∙◌}
 use Rattle.calls.proofs.EndLaws.{end-told}
-use Rattle.calls.specs.declared.Answer.TheVariants.{Unsound}
 use Rattle.calls.specs.declared.Outcome.{Outcome}
 use Rattle.feeds_end.proofs.EndLaws.{read-taken, unread-taken, end-leaves, kept-cleared, kept-left, read-staged}
 use Rattle.feeds_end.proofs.end.Goals as goal
@@ -16,10 +15,10 @@ returns-in_default c =
     let t = end-told a.register.now a.staging.now a.book.now a.table.now a.counts a.kept.now c.unchanged.result _ _ _
     (end-leaves a.register.now a.staging.now a.book.now a.table.now a.counts a.kept.now c.unchanged.result _ _ l _ (rw c.unchanged.ensures)) in record { lent = t.0; numbers = t.1 }
 
-pub returns-then-is_accepted : goal.returns-then-is_accepted
-returns-then-is_accepted c =
+pub returns-then-is_ok : goal.returns-then-is_ok
+returns-then-is_ok c =
     let a = c.args in
-    let e = sym c.is_accepted.ensures ∙ c.if-is_accepted.true in
+    let e = sym c.is_ok.ensures.value ∙ c.if-is_ok.true in
     let l = read-taken a.register.now a.staging.now a.book.now a.table.now a.counts a.kept.now c.in-Some.feed (sym c.read.ensures ∙ c.in-Some.is) _ c.end_kept-outcome.ensures in
     let t = end-told a.register.now a.staging.now a.book.now a.table.now a.counts a.kept.now c.end_kept-outcome.result _ _ _
     (end-leaves a.register.now a.staging.now a.book.now a.table.now a.counts a.kept.now c.end_kept-outcome.result _ _ l _
@@ -28,7 +27,7 @@ returns-then-is_accepted c =
 pub returns : goal.returns
 returns c =
     let a = c.args in
-    let e = sym c.is_accepted.ensures ∙ c.if-is_accepted.false in
+    let e = sym c.is_ok.ensures.value ∙ c.if-is_ok.false in
     let l = read-taken a.register.now a.staging.now a.book.now a.table.now a.counts a.kept.now c.in-Some.feed (sym c.read.ensures ∙ c.in-Some.is) _ c.end_kept-outcome.ensures in
     let t = end-told a.register.now a.staging.now a.book.now a.table.now a.counts a.kept.now c.end_kept-outcome.result _ _ _
     (end-leaves a.register.now a.staging.now a.book.now a.table.now a.counts a.kept.now c.end_kept-outcome.result _ _ l _

@@ -5,10 +5,9 @@ use Rattle.columns.specs.Tables.{is_form}
 use Rattle.reader.specs.declared.Fault.TheVariants as Faults
 use Rattle.reader.specs.Rules.{Reading, is_line}
 use Rattle.feeds.specs.declared.Feed.{Feed}
-use Rattle.calls.specs.declared.Answer.{Answer}
-use Rattle.calls.specs.declared.Answer.TheVariants.{Unsound, UnknownForm}
+use Rattle.calls.specs.declared.Refusal.TheVariants.{Unsound, UnknownForm}
 use Rattle.calls.specs.declared.Counts.{Counts}
-use Rattle.calls.specs.Answers.{unless_refused}
+use Rattle.calls.specs.Answers.{Answer, unless_refused}
 use Rattle.calls.specs.Leaves.{Leaves}
 use Rattle.calls.specs.Message.{message_sound, taken_by}
 use Rattle.calls.specs.End.{most_rows, staged_rows, all_in_range, reading_kept, post_answer}
@@ -35,12 +34,12 @@ found_or register staging book table c f = unless_refused 0 (reading_kept f) (po
 
 -- 18 before that
 unfoldable pub known_or : List ℕ → List ℕ → List ℕ → List ℕ → Counts → Feed → Answer
-known_or register staging book table c f = on (is_form f.form) (found_or register staging book table c f) UnknownForm
+known_or register staging book table c f = on (is_form f.form) (found_or register staging book table c f) (Err UnknownForm)
 
 -- 1 before that
 unfoldable pub right_answer : List ℕ → List ℕ → List ℕ → List ℕ → Counts → Feed → Answer
 right_answer register staging book table c f =
-    on (message_sound register book table c && staged_right staging f) (known_or register staging book table c f) Unsound
+    on (message_sound register book table c && staged_right staging f) (known_or register staging book table c f) (Err Unsound)
 
 -- what an answer leaves: the staged rows taken, or the day as it was
 unfoldable pub taken_from : Answer → Feed → List ℕ → List ℕ → List ℕ → Counts → Leaves

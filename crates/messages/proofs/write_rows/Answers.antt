@@ -4,10 +4,10 @@ use mathlib.Core.Path.{◌≡◌, ap, ◌∙◌}
 use native.Mathlib.Omega.{arith}
 use lib.ListN.{length, take, drop, length-drop}
 use lib.Seq.{length-take-le}
+use Rattle.std.specs.Prelude.{Ok}
 use Rattle.book.specs.Entries.{entry_wide}
 use Rattle.book.proofs.SoundLaws.{room_within}
 use Rattle.calls.specs.Leaves.{counts_of, outcome_of}
-use Rattle.calls.specs.declared.Answer.TheVariants.{Accepted}
 use Rattle.messages.proofs.SoundLaws.{used-fits}
 use Rattle.messages.proofs.WriteLaws.{tail-back}
 use Rattle.messages.proofs.write_rows.Goals as goal
@@ -39,7 +39,7 @@ returns c =
     let a = c.args in
     record {
       outcome =
-          c.accepted.ensures ∙ ap (λ (n : ℕ). outcome_of (Accepted n) (counts_of (a.used + a.count * entry_wide) a.rows)) c.next_number-number.ensures;
+          c.accepted.ensures ∙ ap (λ (n : ℕ). outcome_of (Ok n) (counts_of (a.used + a.count * entry_wide) a.rows)) c.next_number-number.ensures;
       entries =
           tail-back a.staging.now a.count c.requires.count_le_most_updates.1 a.book.now a.used _ a.sender _ c.requires.entry_wide_bound c.next_number-number.ensures c.write_entries.ensures;
     }

@@ -3,11 +3,12 @@ use mathlib.Core.List.{List}
 use Prim.Native.Nat.{ℕ, ◌*◌, ◌/◌, ◌≤◌}
 use native.Mathlib.Omega.{arith}
 use lib.ListN.{length}
+use Rattle.std.specs.Prelude.{Err}
 use Rattle.passage.specs.Layout.{body_wide}
 use Rattle.book.specs.Entries.{plan_wide}
 use Rattle.book.specs.Rules.{book_room}
 use Rattle.book.proofs.SoundLaws.{room_within}
-use Rattle.calls.specs.declared.Answer.TheVariants.{BookShort}
+use Rattle.calls.specs.declared.Refusal.TheVariants.{BookShort}
 use Rattle.calls.specs.Open.{room_to_open}
 use Rattle.opening.specs.inner.Joining.{fewer, staged_pairs}
 use Rattle.opening_write.proofs.StageLaws.{Opened, refused-with, book-short}
@@ -34,7 +35,7 @@ returns-then-most-pairs c =
     let most-is : c.fewer-most.result ≡ fewer room (long / body_wide) = c.fewer-most.ensures ∙ ap (λ (n : ℕ). fewer (n / plan_wide) (long / body_wide)) c.book_room-room.ensures in
     let joins : List (List ℕ) = staged_pairs c.args.times c.args.passes.now c.args.days c.args.validities.now in
     let a = c.args in
-    refused-with joins a.book.now a.table.now a.counts BookShort _ refl
+    refused-with joins a.book.now a.table.now a.counts (Err BookShort) _ refl
     (book-short joins a.book.now a.table.now a.counts
     (pairs-short joins c.fewer-most.result c.join-pairs.result c.join-pairs.ensures.count a.book.now (a.times * a.days) long (pairs-few a.times a.passes.now a.days a.validities.now) c.requires.2 most-is
     c.if-most-pairs.true)) c.unchanged.result c.unchanged.ensures

@@ -4,9 +4,8 @@ use Rattle.columns.specs.declared.Table.TheVariants as Tables
 use Rattle.reader.specs.Rules.{reading_of, items_of, data_rows}
 use Rattle.reader.specs.Passes.{pass_wide, validity_wide}
 use Rattle.plan.specs.Rules.{joined}
-use Rattle.calls.specs.declared.Answer.{Answer}
 use Rattle.calls.specs.declared.Counts.{Counts}
-use Rattle.calls.specs.Answers.{unless_refused}
+use Rattle.calls.specs.Answers.{Answer, unless_refused}
 use Rattle.calls.specs.Leaves.{Leaves}
 use Rattle.calls.specs.Open.{room_to_open}
 use Rattle.opening_write.specs.inner.Steps.{joined_by}

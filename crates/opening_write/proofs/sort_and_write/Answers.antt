@@ -3,6 +3,7 @@ use mathlib.Core.List.{List, []}
 use Prim.Native.Nat.{ℕ, ◌*◌, ◌≤◌}
 use native.Mathlib.Omega.{arith}
 use lib.ListN.{length}
+use Rattle.std.specs.Prelude.{Err}
 use Rattle.lists.specs.Rows.{rows_of}
 use Rattle.lists.proofs.RowLaws.{length-rows_of}
 use Rattle.passage.specs.Layout.{body_wide}
@@ -11,7 +12,7 @@ use Rattle.table.proofs.SoundLaws.{room_fits}
 use Rattle.book.specs.Entries.{plan_wide}
 use Rattle.book.specs.Rules.{book_room}
 use Rattle.book.proofs.SoundLaws.{room_within}
-use Rattle.calls.specs.declared.Answer.TheVariants.{KeyTwice, TableShort}
+use Rattle.calls.specs.declared.Refusal.TheVariants.{KeyTwice, TableShort}
 use Rattle.opening_write.specs.inner.Steps.{most_plans}
 use Rattle.opening_write.proofs.SortLaws.{js, distinct-count, places-each, plan-read}
 use Rattle.opening_write.proofs.StageLaws.{refused-with, accepted-with, key_twice, table-short, accepted}
@@ -30,7 +31,7 @@ returns-then-distinct-count c =
     let distinct : c.sort_keys-distinct.result ≡ length (put_all bodies []) = c.sort_keys-distinct.ensures.value ∙ distinct-count c.args.bodies.now c.args.count in
     let a = c.args in
     let d : c.sort_keys-distinct.result ≡ a.count → ⊥ = c.if-distinct-count.true in
-    refused-with bodies a.book.now a.table.now a.counts KeyTwice _ refl
+    refused-with bodies a.book.now a.table.now a.counts (Err KeyTwice) _ refl
     (key_twice bodies a.book.now a.table.now a.counts fits (λ e. d (distinct ∙ e ∙ counted))) c.unchanged.result c.unchanged.ensures
 
 pub returns-then-room-count : goal.returns-then-room-count
@@ -42,7 +43,7 @@ returns-then-room-count c =
     let all : length (put_all bodies []) ≡ length bodies = sym distinct ∙ c.if-distinct-count.false ∙ sym counted in
     let a = c.args in
     let k = counted in
-    refused-with bodies a.book.now a.table.now a.counts TableShort _ refl
+    refused-with bodies a.book.now a.table.now a.counts (Err TableShort) _ refl
     (table-short bodies a.book.now a.table.now a.counts fits all (omega arith)) c.unchanged-then-room-count.result c.unchanged-then-room-count.ensures
 
 pub write_plan-requires : goal.write_plan-requires

@@ -5,7 +5,7 @@ use Rattle.passage.specs.Layout.{body_wide}
 use Rattle.keys.specs.Sorted.{put_all}
 use Rattle.book.specs.Entries.{plan_wide}
 use Rattle.book.specs.Rules.{most_bytes}
-use Rattle.calls.specs.declared.Answer.{Answer}
+use Rattle.calls.specs.Answers.{Answer}
 use Rattle.calls.specs.declared.Counts.{Counts}
 use Rattle.calls.specs.Leaves.{Leaves}
 use Rattle.calls.specs.Open.{room_to_open, opened_by}

@@ -1,6 +1,7 @@
 use mathlib.Core.Path.{refl, sym, ◌∙◌}
+use Rattle.std.specs.Prelude.{Err}
 use Rattle.calls.proofs.NumbersLaws.{withdraw-told}
-use Rattle.calls.specs.declared.Answer.TheVariants.{Unsound}
+use Rattle.calls.specs.declared.Refusal.TheVariants.{Unsound}
 use Rattle.withdrawals.proofs.AnswerLaws.{refused_all, not_sound}
 use Rattle.withdrawals.proofs.withdraw.Goals as goal
 
@@ -16,6 +17,6 @@ pub returns : goal.returns
 returns c =
     let a = c.args in
     let t = withdraw-told a.number a.sender a.book.now a.table.now a.counts _ _ _
-    (refused_all a.number a.sender a.book.now a.table.now a.counts Unsound _
+    (refused_all a.number a.sender a.book.now a.table.now a.counts (Err Unsound) _
     (not_sound a.number a.sender a.book.now a.table.now a.counts (sym c.is_sound.ensures ∙ c.if-is_sound.false))
     refl c.unchanged.ensures) in record { lent = t.0; numbers = t.1 }

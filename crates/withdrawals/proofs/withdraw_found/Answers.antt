@@ -1,8 +1,9 @@
 use mathlib.Core.Path.{refl}
 use native.Mathlib.Omega.{arith}
 use borrow.Author.Tests.{eq-eqb, ne_eqb}
+use Rattle.std.specs.Prelude.{Err}
 use Rattle.book.proofs.SoundLaws.{sound-facts, used-within}
-use Rattle.calls.specs.declared.Answer.TheVariants.{AlreadyWithdrawn, OtherSender}
+use Rattle.calls.specs.declared.Refusal.TheVariants.{AlreadyWithdrawn, OtherSender}
 use Rattle.withdrawals.proofs.RoomLaws.{sound-parts}
 use Rattle.withdrawals.proofs.AnswerLaws.{refused_all, other-sender, already, goes_on}
 use Rattle.withdrawals.proofs.withdraw_found.Goals as goal
@@ -26,7 +27,7 @@ bounds-book-at-2 c =
 pub returns-then-kind-eq3 : goal.returns-then-kind-eq3
 returns-then-kind-eq3 c =
     let a = c.args in
-    refused_all a.number a.sender a.book.now a.table.now a.counts AlreadyWithdrawn _
+    refused_all a.number a.sender a.book.now a.table.now a.counts (Err AlreadyWithdrawn) _
     (already a.number a.sender a.book.now a.table.now a.counts c.requires.counts_value a.at a.count c.requires.message_at c.if-sender-own.true (eq-eqb _ _ c.if-kind-eq3.true))
     refl c.unchanged.ensures
 
@@ -43,6 +44,6 @@ returns-then-sender-own c =
 pub returns : goal.returns
 returns c =
     let a = c.args in
-    refused_all a.number a.sender a.book.now a.table.now a.counts OtherSender _
+    refused_all a.number a.sender a.book.now a.table.now a.counts (Err OtherSender) _
     (other-sender a.number a.sender a.book.now a.table.now a.counts c.requires.counts_value a.at a.count c.requires.message_at c.if-sender-own.false)
     refl c.unchanged-2.ensures

@@ -2,10 +2,11 @@ use mathlib.Core.Path.{refl, sym, ◌∙◌}
 use Prim.Native.Nat.{◌+◌, ◌*◌, ◌≤◌}
 use native.Mathlib.Omega.{arith}
 use lib.ListN.{length}
+use Rattle.std.specs.Prelude.{Err}
 use Rattle.book.specs.Entries.{plan_wide, entry_wide}
 use Rattle.book.proofs.SoundLaws.{sound-facts, used-within}
 use Rattle.book_find.proofs.HeldLaws.{missing-message}
-use Rattle.calls.specs.declared.Answer.TheVariants.{NoMessage}
+use Rattle.calls.specs.declared.Refusal.TheVariants.{NoMessage}
 use Rattle.withdrawals.specs.inner.Steps.{MessageAt}
 use Rattle.withdrawals.proofs.RoomLaws.{sound-parts}
 use Rattle.withdrawals.proofs.AnswerLaws.{refused_all, not_there}
@@ -66,6 +67,6 @@ pub returns-in-None : goal.returns-in-None
 returns-in-None c =
     let a = c.args in
     let sound = sound-parts a.book.now a.table.now a.counts c.requires in
-    refused_all a.number a.sender a.book.now a.table.now a.counts NoMessage _
+    refused_all a.number a.sender a.book.now a.table.now a.counts (Err NoMessage) _
     (not_there a.number a.sender a.book.now a.table.now a.counts c.requires (missing-message a.counts.used a.book.now a.number sound.0 (sym c.find_message-h.ensures ∙ c.in-None.is)))
     refl c.unchanged.ensures
