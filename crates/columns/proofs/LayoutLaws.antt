@@ -3,7 +3,7 @@ use mathlib.Core.Path.{◌≡◌, refl, sym, ap, ◌∙◌}
 use mathlib.Core.Bool.{Bool, true, false, ◌&&◌}
 use mathlib.Core.List.{List, [], ◌∷◌, map}
 use Prim.Native.Nat.{ℕ, zero, suc, ◌+◌, ◌-◌, ◌<◌, ◌≤◌}
-use native.Mathlib.Nat.{add-zero, add_assoc, le_of_suc-le-suc, not-suc-le-zero}
+use native.Mathlib.Nat.{le_of_suc-le-suc, not-suc-le-zero}
 use native.Mathlib.Numerals.{add-one}
 use native.Mathlib.Omega.{arith}
 use borrow.Author.Tests.{eqb-true}
@@ -17,64 +17,21 @@ use Rattle.lists.proofs.LogicLaws.{and-pass}
 use Rattle.columns.specs.declared.Table.{Table}
 use Rattle.columns.specs.declared.Form.TheVariants.{Old, New}
 use Rattle.columns.specs.declared.Table.TheVariants.{Message, Planning, Calendar}
-use Rattle.columns.specs.declared.Kind.{Kind}
 use Rattle.columns.specs.declared.Kind.TheVariants as Kinds
 use Rattle.columns.specs.Cell.{width}
 use Rattle.columns.specs.Tables.{Column, must, message_columns, planning_columns, calendar_columns, columns_in, is_optional, width_of, row_width, names}
 use Rattle.columns.specs.Layout.{wanted, column_at, kind_at, optional_at, width_in, widths, total, offset}
-use Rattle.columns.specs.inner.Digit.{kind_named}
 use Rattle.columns.specs.Layout.{widest_row}
 use Rattle.columns.specs.inner.Blank.{blank_cell, blank_row}
 use Rattle.columns.proofs.PartLaws.{begins, begins-next, begins-within, begins-apart, parts-flat, Fit, length-flat, flat-part}
 
 -- ---- the rules as lists
 
--- the digit that names a kind
-abbrev pub digit_for : Kind → ℕ
-digit_for Kinds.Text = 0
-digit_for Kinds.Date = 1
-digit_for Kinds.Journey = 2
-digit_for Kinds.Fortify = 3
-digit_for Kinds.Order = 4
-digit_for Kinds.Stamp = 5
-digit_for Kinds.Status = 6
-digit_for Kinds.Arrival = 7
-digit_for Kinds.Departure = 8
-digit_for Kinds.StopType = 9
-digit_for Kinds.Bit = 10
-digit_for Kinds.Flexible = 11
-digit_for Kinds.Truth = 12
-digit_for Kinds.Shown = 13
-
-pub digit-names : (k : Kind) → kind_named (digit_for k) ≡ k
-unfolding kind_named
-digit-names Kinds.Text = refl
-digit-names Kinds.Date = refl
-digit-names Kinds.Journey = refl
-digit-names Kinds.Fortify = refl
-digit-names Kinds.Order = refl
-digit-names Kinds.Stamp = refl
-digit-names Kinds.Status = refl
-digit-names Kinds.Arrival = refl
-digit-names Kinds.Departure = refl
-digit-names Kinds.StopType = refl
-digit-names Kinds.Bit = refl
-digit-names Kinds.Flexible = refl
-digit-names Kinds.Truth = refl
-digit-names Kinds.Shown = refl
-
-abbrev pub digit_in : Column → ℕ
-digit_in c = digit_for c.kind
-
-pub kind-listed : (t : Table) (j : ℕ) → get_or (map digit_in (columns_in t)) j 0 ≡ digit_for (kind_at t j)
-unfolding kind_at column_at
-kind-listed t j = get_or-map digit_in (columns_in t) j (must "" Kinds.Text)
-
 -- 1 for a column that may be absent, else 0
 abbrev pub flag_of : Column → ℕ
 flag_of c = on (is_optional c) 1 0
 
-flagged : (b : Bool) → eqb (on b 1 0) 1 ≡ b
+pub flagged : (b : Bool) → eqb (on b 1 0) 1 ≡ b
 flagged true = refl
 flagged false = refl
 
@@ -83,24 +40,9 @@ unfolding optional_at column_at
 optional-listed t j =
     ap (λ (n : ℕ). eqb n 1) (get_or-map flag_of (columns_in t) j (must "" Kinds.Text)) ∙ flagged (is_optional (get_or (columns_in t) j (must "" Kinds.Text)))
 
--- where the cells of these widths begin, the first at n
-abbrev pub places : ℕ → List ℕ → List ℕ
-places n [] = []
-places n (w ∷ ws) = n ∷ places (n + w) ws
-
-place_is : (ws : List ℕ) (n j : ℕ) → j < length ws → get_or (places n ws) j 0 ≡ n + begins ws j
-unfolding total
-place_is [] n j h = absurd (not-suc-le-zero h)
-place_is (w ∷ ws) n zero h = sym (add-zero n)
-place_is (w ∷ ws) n (suc j) h = place_is ws (n + w) j (le_of_suc-le-suc h) ∙ add_assoc n w (begins ws j)
-
 pub length-widths : (t : Table) → length (widths t) ≡ wanted t
 unfolding widths
 length-widths t = length-map (columns_in t) width_in
-
-pub offset-listed : (t : Table) (j : ℕ) → j < wanted t → get_or (places 0 (widths t)) j 0 ≡ offset t j
-unfolding offset
-offset-listed t j h = let l = length-widths t in place_is (widths t) 0 j (omega arith) ∙ omega arith
 
 -- a place in a table that is told
 pub told_below : {t u : Table} (j : ℕ) → t ≡ u → j < wanted t → j < wanted u

@@ -1,8 +1,7 @@
 pub mod CellLaws
 pub mod PartLaws
-pub mod KindLaws
 pub mod LayoutLaws
-pub mod DigitLaws
+pub mod PlaceLaws
 pub mod RangeLaws
 pub mod SaidLaws
 pub mod FormLaws

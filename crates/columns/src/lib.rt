@@ -1,10 +1,11 @@
 // The wanted tables' columns as data: how many there are, each one's kind, and where its cell stands in a row. What a field gives is a rule here; `columns_cells` writes it.
 #![tactic(auto)]
 
-ghost use Rattle.std.specs.Prelude.{◌≡◌, ◌+◌, ◌*◌, ◌≤◌, ◌<◌};
-ghost use Rattle.columns.specs.Tables.{row_width, is_form, form_of};
+ghost use Rattle.std.specs.Prelude.{◌≡◌, ◌<◌};
+ghost use Rattle.columns.specs.declared.Form.TheVariants.{Old};
+ghost use Rattle.columns.specs.declared.Table.TheVariants.{Message, Planning, Calendar};
+ghost use Rattle.columns.specs.Tables.{row_width, is_form, form_of, cancelled_kind, yes_no_kind};
 ghost use Rattle.columns.specs.Layout.{wanted, kind_at, optional_at, offset};
-ghost use Rattle.columns.specs.inner.Digit.{digit_of, digit_at, kind_named, kinds_packed};
 
 // The form of a message: the old one, or that of turbo 8.5.
 #[derive(Clone, Copy)]
@@ -49,6 +50,7 @@ pub fn is_form(number: u32) -> bool
 }
 
 // The form that a number states; an unknown one is read as the old.
+// kept: no TryFrom in its place, since this cannot fail, and the call refuses a form that `is_form` does not know.
 pub fn form_of(number: u32) -> Form
     ensures { result ≡ form_of number }
 {
@@ -80,69 +82,81 @@ pub fn wanted(table: Table) -> usize
     }
 }
 
-// Hex digit j of a number, the last being digit 0.
-fn digit_of(packed: u64, j: usize) -> u8
-    requires { j < 16 }
-    ensures is { result ≡ digit_of packed j }
-    ensures few { result ≤ 15 }
-{
-    ((packed >> (4 * j)) % 16) as u8
-}
-
-// Hex digit j of two numbers, a word having room for sixteen: the second has the digits from there on.
-fn digit(first: u64, second: u64, j: usize) -> u8
-    requires { j < 32 }
-    ensures is { result ≡ digit_at first second j }
-    ensures few { result ≤ 15 }
-{
-    if j < 16 {
-        return digit_of(first, j);
-    }
-    digit_of(second, j - 16)
-}
-
-// The kind that a hex digit names.
-fn kind_named(digit: u8) -> Kind
-    ensures { result ≡ kind_named digit }
-{
-    match digit {
-        0 => Kind::Text,
-        1 => Kind::Date,
-        2 => Kind::Journey,
-        3 => Kind::Fortify,
-        4 => Kind::Order,
-        5 => Kind::Stamp,
-        6 => Kind::Status,
-        7 => Kind::Arrival,
-        8 => Kind::Departure,
-        9 => Kind::StopType,
-        10 => Kind::Bit,
-        11 => Kind::Flexible,
-        12 => Kind::Truth,
-        _ => Kind::Shown,
-    }
-}
-
-// The columns' kinds, a hex digit each, the first column's last: a constant table would be laid out anew wherever it is read.
-// Of a message, whose columns fill a word, `MORE` has those behind the sixteenth: none yet.
-const MESSAGE_KINDS: u64 = 0xaba9876504032010;
-
-// In the 8.5 form.
-const NEW_KINDS: u64 = 0xcbd9876504032010;
-
-const MORE_MESSAGE_KINDS: u64 = 0x0;
-
-const PLANNING_KINDS: u64 = 0xb98700403200;
-
-const CALENDAR_KINDS: u64 = 0x100;
-
-// A message's kinds by its form.
-fn message_kinds(form: Form) -> u64
-    ensures { result ≡ kinds_packed form }
+// How a message in this form has a cancelled journey shown.
+fn cancelled_kind(form: Form) -> Kind
+    ensures { result ≡ cancelled_kind form }
 {
     match form {
-        Form::Old => MESSAGE_KINDS,
-        Form::New => NEW_KINDS,
+        Form::Old => Kind::Bit,
+        Form::New => Kind::Shown,
+    }
+}
+
+// How a message in this form says yes or no.
+fn yes_no_kind(form: Form) -> Kind
+    ensures { result ≡ yes_no_kind form }
+{
+    match form {
+        Form::Old => Kind::Bit,
+        Form::New => Kind::Truth,
+    }
+}
+
+// The kind of column j of a message.
+fn message_kind(form: Form, index: usize) -> Kind
+    requires { index < 16 }
+    ensures { result ≡ kind_at (Message form) index }
+{
+    match index {
+        0 => Kind::Text,
+        1 => Kind::Date,
+        2 => Kind::Text,
+        3 => Kind::Journey,
+        4 => Kind::Fortify,
+        5 => Kind::Text,
+        6 => Kind::Order,
+        7 => Kind::Text,
+        8 => Kind::Stamp,
+        9 => Kind::Status,
+        10 => Kind::Arrival,
+        11 => Kind::Departure,
+        12 => Kind::StopType,
+        13 => cancelled_kind(form),
+        14 => Kind::Flexible,
+        _ => yes_no_kind(form),
+    }
+}
+
+// The kind of column j of the planning.
+fn planning_kind(index: usize) -> Kind
+    requires { index < 12 }
+    ensures { result ≡ kind_at Planning index }
+{
+    match index {
+        0 => Kind::Text,
+        1 => Kind::Text,
+        2 => Kind::Journey,
+        3 => Kind::Fortify,
+        4 => Kind::Text,
+        5 => Kind::Order,
+        6 => Kind::Text,
+        7 => Kind::Text,
+        8 => Kind::Arrival,
+        9 => Kind::Departure,
+        10 => Kind::StopType,
+        _ => Kind::Flexible,
+    }
+}
+
+// The kind of column j of the calendar.
+fn calendar_kind(index: usize) -> Kind
+    requires { index < 3 }
+    ensures { result ≡ kind_at Calendar index }
+{
+    match index {
+        0 => Kind::Text,
+        1 => Kind::Text,
+        _ => Kind::Date,
     }
 }
 
@@ -152,34 +166,68 @@ pub fn kind_of(table: Table, index: usize) -> Kind
     ensures { result ≡ kind_at table index }
 {
     match table {
-        Table::Message(form) => kind_named(digit(message_kinds(form), MORE_MESSAGE_KINDS, index)),
-        Table::Planning => kind_named(digit(PLANNING_KINDS, 0, index)),
-        Table::Calendar => kind_named(digit(CALENDAR_KINDS, 0, index)),
+        Table::Message(form) => message_kind(form, index),
+        Table::Planning => planning_kind(index),
+        Table::Calendar => calendar_kind(index),
     }
 }
 
-// Where the columns' cells begin in a row: two hex digits each, all the first ones and all the second ones.
-const MESSAGE_HIGH: u64 = 0x4433333322111000;
-
-const MORE_MESSAGE_HIGH: u64 = 0x0;
-
-const MESSAGE_LOW: u64 = 0x10feb87397dc8ea0;
-
-const MORE_MESSAGE_LOW: u64 = 0x0;
-
-const PLANNING_HIGH: u64 = 0x433322211100;
-
-const PLANNING_LOW: u64 = 0x0fc9f53984a0;
-
-const CALENDAR_HIGH: u64 = 0x100;
-
-const CALENDAR_LOW: u64 = 0x4a0;
-
-// The number of two hex digits.
-fn two_digits(high: u8, low: u8) -> usize
-    ensures { result ≡ high * 16 + low }
+// Where the cell of column j of a message begins in a row, in either form.
+fn message_offset(index: usize) -> usize
+    requires { index < 16 }
+    ensures { result ≡ offset (Message Old) index }
 {
-    high as usize * 16 + low as usize
+    match index {
+        0 => 0,
+        1 => 10,
+        2 => 14,
+        3 => 24,
+        4 => 28,
+        5 => 29,
+        6 => 39,
+        7 => 41,
+        8 => 51,
+        9 => 55,
+        10 => 56,
+        11 => 59,
+        12 => 62,
+        13 => 63,
+        14 => 64,
+        _ => 65,
+    }
+}
+
+// Where the cell of column j of the planning begins.
+fn planning_offset(index: usize) -> usize
+    requires { index < 12 }
+    ensures { result ≡ offset Planning index }
+{
+    match index {
+        0 => 0,
+        1 => 10,
+        2 => 20,
+        3 => 24,
+        4 => 25,
+        5 => 35,
+        6 => 37,
+        7 => 47,
+        8 => 57,
+        9 => 60,
+        10 => 63,
+        _ => 64,
+    }
+}
+
+// Where the cell of column j of the calendar begins.
+fn calendar_offset(index: usize) -> usize
+    requires { index < 3 }
+    ensures { result ≡ offset Calendar index }
+{
+    match index {
+        0 => 0,
+        1 => 10,
+        _ => 20,
+    }
 }
 
 // Where the cell of column j begins in a row.
@@ -188,29 +236,11 @@ pub fn offset_of(table: Table, index: usize) -> usize
     ensures { result ≡ offset table index }
 {
     match table {
-        Table::Message(_) => two_digits(
-            digit(MESSAGE_HIGH, MORE_MESSAGE_HIGH, index),
-            digit(MESSAGE_LOW, MORE_MESSAGE_LOW, index),
-        ),
-        Table::Planning => two_digits(
-            digit(PLANNING_HIGH, 0, index),
-            digit(PLANNING_LOW, 0, index),
-        ),
-        Table::Calendar => two_digits(
-            digit(CALENDAR_HIGH, 0, index),
-            digit(CALENDAR_LOW, 0, index),
-        ),
+        Table::Message(_) => message_offset(index),
+        Table::Planning => planning_offset(index),
+        Table::Calendar => calendar_offset(index),
     }
 }
-
-// Which columns may be absent: 1.
-const MESSAGE_OPTIONAL: u64 = 0x1110000000000000;
-
-const MORE_MESSAGE_OPTIONAL: u64 = 0x0;
-
-const PLANNING_OPTIONAL: u64 = 0x100000000000;
-
-const CALENDAR_OPTIONAL: u64 = 0x000;
 
 // Whether column j may be absent or hold `\0`.
 pub fn is_optional(table: Table, index: usize) -> bool
@@ -218,8 +248,8 @@ pub fn is_optional(table: Table, index: usize) -> bool
     ensures { result ≡ optional_at table index }
 {
     match table {
-        Table::Message(_) => digit(MESSAGE_OPTIONAL, MORE_MESSAGE_OPTIONAL, index) == 1,
-        Table::Planning => digit(PLANNING_OPTIONAL, 0, index) == 1,
-        Table::Calendar => digit(CALENDAR_OPTIONAL, 0, index) == 1,
+        Table::Message(_) => 13 <= index,
+        Table::Planning => index == 11,
+        Table::Calendar => false,
     }
 }
