@@ -1,7 +1,7 @@
 // Withdraw: a message's entries become kind 3, and each passage that they name is worked out again from the book.
 #![tactic(auto)]
 
-ghost use Rattle.std.specs.Prelude.{◌≡◌, true, map, ◌+◌, ◌*◌, ◌≤◌, length};
+ghost use Rattle.std.specs.Prelude.{◌≡◌, true, map, ◌+◌, ◌*◌, ◌≤◌, ◌<◌, length};
 ghost use Rattle.book.specs.Entries.{entry_wide};
 ghost use Rattle.book.specs.Rules.{book_sound};
 ghost use Rattle.calls.specs.Answers.{numbers};
@@ -71,10 +71,7 @@ fn is_sound(book: &[u8], table: &[u8], counts: Counts) -> bool
 {
     let used = counts.used;
     let rows = counts.rows;
-    if book::book_is_sound(book, used) {
-        return table::table_is_sound(table, rows);
-    }
-    false
+    book::book_is_sound(book, used) && table::table_is_sound(table, rows)
 }
 
 // A withdrawal: refusals 1, 10, 12, 11, 8 in document 01's order, or the new counts.
@@ -159,6 +156,28 @@ fn rework_in(
     calls::unchanged(Err(Refusal::TableShort), counts)
 }
 
+// The same with room of its own to work in: for so many places, and slots of so many bytes.
+fn rework_with<const PLACES: usize, const SLOTS: usize>(
+    number: u32,
+    at: usize,
+    count: usize,
+    book: &mut [u8],
+    table: &mut [u8],
+    counts: Counts,
+) -> Outcome
+    requires count_bound { (count ≤ PLACES) × (count * slot_wide ≤ SLOTS) }
+    requires areas { (PLACES < 4294967296) × (SLOTS < 4294967296) }
+    requires counts_value { withdraw_sound book.old table.old counts ≡ true }
+    requires message_at { MessageAt number counts.used book.old at count }
+    ensures { leaves result book.new table.new ≡ room_leaves number book.old table.old counts }
+{
+    let mut order = [0u32; PLACES];
+    let mut slots = [0u8; SLOTS];
+    rework_in(
+        number, at, count, book, table, counts, &mut order, &mut slots,
+    )
+}
+
 // The same for few entries, with little room of its own to work in, so that little is cleared for a small message.
 pub fn rework_few(
     number: u32,
@@ -173,29 +192,7 @@ pub fn rework_few(
     requires message_at { MessageAt number counts.used book.old at count }
     ensures { leaves result book.new table.new ≡ room_leaves number book.old table.old counts }
 {
-    let mut order = [0u32; FEW];
-    let mut slots = [0u8; FEW_SLOTS];
-    rework_in(
-        number, at, count, book, table, counts, &mut order, &mut slots,
-    )
-}
-
-// With room for all entries that a book can have. It comes as arrays of known size: so no proof has to count one through.
-fn rework_all(
-    number: u32,
-    at: usize,
-    count: usize,
-    book: &mut [u8],
-    table: &mut [u8],
-    counts: Counts,
-    order: &mut [u32; MOST],
-    slots: &mut [u8; MOST_SLOTS],
-) -> Outcome
-    requires counts_value { withdraw_sound book.old table.old counts ≡ true }
-    requires message_at { MessageAt number counts.used book.old at count }
-    ensures { leaves result book.new table.new ≡ room_leaves number book.old table.old counts }
-{
-    rework_in(number, at, count, book, table, counts, order, slots)
+    rework_with::<FEW, FEW_SLOTS>(number, at, count, book, table, counts)
 }
 
 // The same for any number of entries, with room for all that a book can have.
@@ -211,9 +208,5 @@ pub fn rework_many(
     requires message_at { MessageAt number counts.used book.old at count }
     ensures { leaves result book.new table.new ≡ room_leaves number book.old table.old counts }
 {
-    let mut order = [0u32; MOST];
-    let mut slots = [0u8; MOST_SLOTS];
-    rework_all(
-        number, at, count, book, table, counts, &mut order, &mut slots,
-    )
+    rework_with::<MOST, MOST_SLOTS>(number, at, count, book, table, counts)
 }

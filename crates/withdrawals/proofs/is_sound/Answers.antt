@@ -7,7 +7,7 @@ returns-then-book_is_sound c =
     let a = c.args in
     sound-book a.book.now a.table.now a.counts _ (sym c.book_is_sound.ensures ∙ c.if-book_is_sound.true) c.table_is_sound.ensures
 
-pub returns : goal.returns
-returns c =
+pub returns-else-book_is_sound : goal.returns-else-book_is_sound
+returns-else-book_is_sound c =
     let a = c.args in
-    unsound-book a.book.now a.table.now a.counts (sym c.book_is_sound.ensures ∙ c.if-book_is_sound.false)
+    c.if-book_is_sound.false ∙ unsound-book a.book.now a.table.now a.counts (sym c.book_is_sound.ensures ∙ c.if-book_is_sound.false)
