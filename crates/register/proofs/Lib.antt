@@ -1,3 +1,4 @@
+pub mod ChunkLaws
 pub mod RegisterLaws
 pub mod Claims
 pub mod Determined

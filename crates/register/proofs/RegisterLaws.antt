@@ -10,11 +10,12 @@ use native.Mathlib.Omega.{arith}
 use borrow.Author.Tests.{eq-eqb, ne_eqb, eqb-true, eqb-false, not-true, le-leb, leb-true}
 use lib.Dec.{eqb, leb}
 use lib.ListN.{length, take, drop, get_or, length-append}
-use lib.Seq.{take_all, take_at, drop_at}
+use lib.Seq.{take_all, take_at, drop_at, drop-cons}
+use Rattle.std.specs.Bool.{MatchBool}
 use Rattle.lists.specs.Text.{same}
 use Rattle.lists.specs.Part.{part}
 use Rattle.lists.specs.Rows.{rows_of, flat}
-use Rattle.lists.proofs.LogicLaws.{and-false, and-pass, or-pass, pass-or, or_assoc}
+use Rattle.lists.proofs.LogicLaws.{and-false, and-pass, or-pass, pass-or, or_assoc, not-then}
 use Rattle.lists.proofs.TextLaws.{same_refl, same-equal}
 use Rattle.lists.proofs.PartLaws.{part-cons}
 use Rattle.lists.proofs.RowLaws.{rows_of-step, rows_of-start, length-rows_of, rows_of-append, flat-rows_of, row-at}
@@ -23,57 +24,24 @@ use Rattle.passage.specs.Layout.{text_wide}
 use Rattle.register.specs.Register.{pair_wide, most_pairs, pairs, has_pair, grants, register_sound}
 
 -- a lent part of n bytes
-lent-part : (a e n : ℕ) (l : List ℕ) → e - a ≡ n → take (e - a) (drop a l) ≡ part a n l
+pub lent-part : (a e n : ℕ) (l : List ℕ) → e - a ≡ n → take (e - a) (drop a l) ≡ part a n l
 unfolding part
 lent-part a e n l h = rw h
 
 -- ---- one pair: its sender, then its owner
 
-module _ (register : List ℕ) (p sender : ℕ) (owner : List ℕ) (fits : p + pair_wide ≤ length register) where
-  pair-first : part p pair_wide register ≡ get_or register p 0 ∷ part (p + 1) text_wide register
-  pair-first = let h : p < length register = omega arith in part-cons p text_wide register h ∙ rw (add-one p)
-
-  pub pair-other : (get_or register p 0 ≡ sender → ⊥) → same (part p pair_wide register) (sender ∷ owner) ≡ false
+module _ (pair : List ℕ) (sender : ℕ) (owner : List ℕ) (long : 0 < length pair) where
+  pub pair-other : (get_or pair 0 0 ≡ sender → ⊥) → same pair (sender ∷ owner) ≡ false
   unfolding same
-  pair-other h = rw (pair-first, ne_eqb (get_or register p 0) sender h)
+  pair-other h = rw (drop-cons pair 0 0 long, ne_eqb (get_or pair 0 0) sender h)
 
-  pair_same : get_or register p 0 ≡ sender → same (part p pair_wide register) (sender ∷ owner) ≡ same (part (p + 1) text_wide register) owner
+  pub pair_same : get_or pair 0 0 ≡ sender → same pair (sender ∷ owner) ≡ same (drop 1 pair) owner
   unfolding same
-  pair_same e = rw (pair-first, eq-eqb (get_or register p 0) sender e)
+  pair_same e = rw (drop-cons pair 0 0 long, eq-eqb (get_or pair 0 0) sender e)
 
--- the owner's bytes of the pair and the ten bytes from `at` on of s, each lent
-pub pair-lent :
-    (register : List ℕ) (p sender : ℕ) (s : List ℕ) (at : ℕ) → p + pair_wide ≤ length register → get_or register p 0 ≡ sender
-    → same (part p pair_wide register) (sender ∷ part at text_wide s)
-    ≡ same (take (p + pair_wide - (p + 1)) (drop (p + 1) register)) (take (at + text_wide - at) (drop at s))
-pair-lent register p sender s at fits e =
-    rw (
-      lent-part (p + 1) (p + pair_wide) text_wide register (omega arith),
-      lent-part at (at + text_wide) text_wide s (omega arith),
-    )
-    (pair_same register p sender (part at text_wide s) fits e)
-
--- ---- all pairs: what is left of them from place i on
+-- ---- all pairs
 
 module _ (register : List ℕ) (sender : ℕ) (owner : List ℕ) where
-  abbrev pub left : ℕ → ℕ → Bool
-  left n i = has_pair (rows_of pair_wide (n - i) (drop (i * pair_wide) register)) sender owner
-
-  pub left-start : (n : ℕ) → left n 0 ≡ has_pair (rows_of pair_wide n register) sender owner
-  left-start n = rw (← rows_of-start pair_wide n register)
-
-  pub left-found : (n i : ℕ) → i < n → same (part (i * pair_wide) pair_wide register) (sender ∷ owner) ≡ true → left n i ≡ true
-  unfolding has_pair
-  left-found n i h e = rw (rows_of-step pair_wide n i register h, e)
-
-  pub left-next : (n i : ℕ) → i < n → same (part (i * pair_wide) pair_wide register) (sender ∷ owner) ≡ false → left n i ≡ left n (i + 1)
-  unfolding has_pair
-  left-next n i h e = rw (rows_of-step pair_wide n i register h, e)
-
-  pub left-none : (n i : ℕ) → n ≤ i → left n i ≡ false
-  unfolding has_pair rows_of
-  left-none n i h = let e : n - i ≡ 0 = omega arith in rw e
-
   pub grants-desk : sender ≡ 0 → grants register sender owner ≡ false
   unfolding grants
   grants-desk e = rw (eq-eqb sender 0 e)
@@ -131,6 +99,12 @@ module _ (register : List ℕ) (sender : ℕ) (owner : List ℕ) where
       let n = length register / pair_wide in
       grants-is register sender owner h
       ∙ among-has sender owner (pairs register) p.0 (rw (length-rows_of pair_wide n register) p.1) (row-at pair_wide n p.0 register p.1 ∙ p.2)
+
+  -- what a walk over the pairs tells: that one is of this sender and owner, or that none is
+  pub granted : (b : Bool) → (sender ≡ 0 → ⊥) → MatchBool b Has ((i : ℕ) → i < length register / pair_wide → same (part (i * pair_wide) pair_wide register) (sender ∷ owner) ≡ false)
+      → b ≡ grants register sender owner
+  granted true n h = sym (has-grants n h)
+  granted false n h = sym (not-then (grants register sender owner) false (λ e. let p = (grants-has e).1 in sym (h p.0 p.1) ∙ rw p.2 (same_refl (sender ∷ owner))) refl)
 
 -- ---- a pair of the desk changes nothing, wherever it stands
 

@@ -18,18 +18,12 @@ const MOST_PAIRS: usize = 64;
 
 pub const MOST_BYTES: usize = MOST_PAIRS * PAIR_WIDE;
 
-// Whether the pair from `pair` on is of this sender and of the owner from `at` on in a row.
-fn pair_is(register: &[u8], pair: usize, sender: u8, row: &[u8], at: usize) -> bool
-    requires { (pair + pair_wide ≤ length register.now) × (at + text_wide ≤ length row.now) }
-    ensures { result ≡ same (part pair pair_wide register.now) (sender ∷ part at text_wide row.now) }
+// Whether a pair is of this sender and this owner.
+fn pair_is(pair: &[u8], sender: u8, owner: &[u8]) -> bool
+    requires { length pair.now ≡ pair_wide }
+    ensures { result ≡ same pair.now (sender ∷ owner.now) }
 {
-    if register[pair] != sender {
-        return false;
-    }
-    lists::same_bytes(
-        &register[pair + 1..pair + PAIR_WIDE],
-        &row[at..at + TEXT_WIDE],
-    )
+    pair[0] == sender && lists::same_bytes(&pair[1..], owner)
 }
 
 // Whether the sender is registered for the owner whose bytes stand from `at` on in a row.
@@ -40,15 +34,10 @@ pub fn registered(register: &[u8], sender: u8, row: &[u8], at: usize) -> bool
     if sender == 0 {
         return false;
     }
-    let n = register.len() / PAIR_WIDE;
-    let mut i = 0;
-    while i < n {
-        if pair_is(register, i * PAIR_WIDE, sender, row, at) {
-            return true;
-        }
-        i += 1;
-    }
-    false
+    let owner = &row[at..at + TEXT_WIDE];
+    register
+        .chunks_exact(PAIR_WIDE)
+        .any(|pair| pair_is(pair, sender, owner))
 }
 
 // Whether the register has whole pairs, and not too many.

@@ -1,30 +1,40 @@
-use mathlib.Core.Path.{◌∙◌, sym}
-use Prim.Native.Nat.{◌-◌}
+use mathlib.Core.Path.{◌≡◌, ◌∙◌, sym, ap}
+use mathlib.Core.List.{List, ◌∷◌}
+use mathlib.Core.Bool.{true, false}
+use Prim.Native.Nat.{ℕ, ◌+◌, ◌*◌, ◌-◌, ◌≤◌, ◌/◌, ◌<◌}
+use native.Mathlib.Omega.{arith}
 use borrow.Author.Rules.{rules}
-use Rattle.register.proofs.RegisterLaws.{left-start, left-found, left-next, left-none, grants-desk, grants-is}
+use lib.ListN.{length, take, drop}
+use Rattle.std.specs.Iterator.Runs.{IsChunksExactRun}
+use Rattle.lists.specs.Part.{part}
+use Rattle.lists.specs.Text.{same}
+use Rattle.lists.proofs.TextLaws.{same-equal}
+use Rattle.passage.specs.Layout.{text_wide}
+use Rattle.register.specs.Register.{pair_wide}
+use Rattle.register.proofs.ChunkLaws.{match-map, chunk-found, chunk-each}
+use Rattle.register.proofs.RegisterLaws.{grants-desk, granted, lent-part}
 use Rattle.register.proofs.registered.Goals as goal
 
 pub returns-then-sender-eq0 : goal.returns-then-sender-eq0
 returns-then-sender-eq0 c = sym (grants-desk _ _ _ c.if-sender-eq0.true)
 
-pub loop-i-init : goal.loop-i-init
-loop-i-init c =
-    let a = c.args in
-    (search rules, left-start a.register.now a.sender _ _ ∙ sym (grants-is a.register.now a.sender _ c.if-sender-eq0.false))
-
-pub returns-then-pair_is : goal.returns-then-pair_is
-returns-then-pair_is c =
-    let a = c.args in
-    sym (left-found a.register.now a.sender _ _ c.loop-i.i (search rules) (rw (← c.pair_is.ensures) c.if-pair_is.true)) ∙ c.loop-i.invariant.1
-
-pub loop-i-preserved : goal.loop-i-preserved
-loop-i-preserved c =
-    let a = c.args in (
-      search rules,
-      sym (left-next a.register.now a.sender _ _ c.loop-i.i (search rules) (rw (← c.pair_is.ensures) c.if-pair_is.false)) ∙ c.loop-i.invariant.1,
-    )
-
 pub returns : goal.returns
 returns c =
     let a = c.args in
-    sym (left-none a.register.now a.sender _ _ c.loop-i.i (search rules)) ∙ c.loop-i.invariant.1
+    let lent : List ℕ = take (a.at + text_wide - a.at) (drop a.at a.row.now) in
+    let owner : lent ≡ part a.at text_wide a.row.now = lent-part a.at (a.at + text_wide) text_wide a.row.now (omega arith) in
+    let r = c.any.ensures.runs in
+    let run : IsChunksExactRun r.0 pair_wide a.register.now = rw (r.1, c.chunks_exact.ensures.size, c.chunks_exact.ensures.rest) at (c.chunks_exact.ensures.runs r.0 r.0.seen (rw (r.1, c.chunks_exact.ensures.size) (omega arith))) in
+    granted a.register.now a.sender _ c.any.result c.if-sender-eq0.false
+    (match-map c.any.result
+    (λ h.
+      let f = chunk-found r.0 pair_wide a.register.now run _ (h (λ x q k l. search rules)) in
+      let m = f.2.1 in
+      let e : true ≡ same f.2.0.now (a.sender ∷ lent) = search rules in
+      (f.0, omega (arith, f.1), sym f.2.2 ∙ same-equal _ _ (sym e) ∙ ap (λ (t : List ℕ). a.sender ∷ t) owner))
+    (λ h. λ i l.
+      let f = chunk-each r.0 pair_wide a.register.now run _ h.0 (h.1 (λ x q k m. search rules)) a.register i l in
+      let m = f.1 in
+      let e : false ≡ same f.0.now (a.sender ∷ lent) = search rules in
+      ap (λ (t : List ℕ). same t (a.sender ∷ part a.at text_wide a.row.now)) (sym f.2) ∙ ap (λ (t : List ℕ). same f.0.now (a.sender ∷ t)) (sym owner) ∙ sym e)
+    r.2)
