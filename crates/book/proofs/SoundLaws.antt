@@ -2,7 +2,7 @@
 use mathlib.Core.Path.{◌≡◌, refl}
 use mathlib.Core.Bool.{Bool, true, false, ◌&&◌}
 use mathlib.Core.List.{List, [], ◌∷◌}
-use Prim.Native.Nat.{ℕ, suc, ◌*◌, ◌-◌, ◌/◌, ◌%◌, ◌≤◌, ◌<◌}
+use Prim.Native.Nat.{ℕ, suc, min, ◌*◌, ◌-◌, ◌/◌, ◌%◌, ◌≤◌, ◌<◌}
 use native.Mathlib.Omega.{arith}
 use borrow.Author.Tests.{le-leb, lt-leb, leb-true, leb-false, eq-eqb, ne_eqb, eqb-true}
 use lib.Dec.{eqb, leb}
@@ -19,6 +19,14 @@ use Rattle.book.proofs.PlanLaws.{bodies}
 -- ---- the room
 
 module _ (b : List ℕ) where
+  pub room-min : min (length b) most_bytes ≡ book_room b
+  unfolding book_room
+  room-min = go (leb (length b) most_bytes) refl
+    where
+      go : (t : Bool) → leb (length b) most_bytes ≡ t → min (length b) most_bytes ≡ on t (length b) most_bytes
+      go true e = let h = leb-true (length b) most_bytes e in omega arith
+      go false e = let h = leb-false (length b) most_bytes e in omega arith
+
   pub room-all : length b ≤ most_bytes → book_room b ≡ length b
   unfolding book_room
   room-all h = rw (le-leb _ _ h)

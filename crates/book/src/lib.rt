@@ -1,13 +1,14 @@
 // The day book: how entries lie in its bytes, their split, order and ranges, and whether it is sound. `book_write` writes entries, `book_find` finds them.
 #![tactic(auto)]
 
-ghost use Rattle.std.specs.Prelude.{◌≡◌, true, ◌&&◌, map, ◌+◌, ◌*◌, ◌≤◌, length, drop};
+ghost use Rattle.std.specs.Prelude.{◌≡◌, true, ◌&&◌, map, ◌+◌, ◌*◌, ◌≤◌, length, drop, get_or};
 ghost use Rattle.lists.specs.Part.{part};
 ghost use Rattle.lists.specs.Rows.{rows_of};
+ghost use Rattle.lists.specs.BigEndian.{number};
 ghost use Rattle.passage.specs.Layout.{body_wide};
 ghost use Rattle.passage.specs.Ranges.{common_in_range};
 ghost use Rattle.keys.specs.Sorted.{sorted_rows};
-ghost use Rattle.book.specs.Entries.{plan_wide, body_at, entry_wide, plan_count, plan_body_of, entry_body};
+ghost use Rattle.book.specs.Entries.{number_offset, number_wide, sender_offset, plan_wide, body_at, entry_wide, plan_count, plan_body_of, entry_body};
 ghost use Rattle.book.specs.Rules.{all_plans, book_room, book_sound, chained, entry_in_range, no_entry};
 ghost use Rattle.book.specs.inner.Steps.{follows_as};
 ghost use Rattle.passage.specs.inner.Roles.{all_common};
@@ -38,13 +39,11 @@ pub fn count_plans(book: &[u8], used: usize) -> usize
     ensures { result ≡ plan_count used book.now }
 {
     let n = used / PLAN_WIDE;
-    let mut i = 0;
-    while i < n {
+    for i in 0..n {
         let kind = book[i * PLAN_WIDE];
         if kind != 1 {
             return i;
         }
-        i += 1;
     }
     n
 }
@@ -55,12 +54,8 @@ fn plans_in_range(book: &[u8], plans: usize) -> bool
     requires book_value { all_common (map plan_body_of (rows_of plan_wide plans book.now)) ≡ true }
     ensures { result ≡ all_plans (map plan_body_of (rows_of plan_wide plans book.now)) }
 {
-    let mut i = 0;
-    while i < plans {
-        let good = passage::plan_in_range(book, i * PLAN_WIDE + KIND_WIDE);
-        if good {
-            i += 1;
-        } else {
+    for i in 0..plans {
+        if !passage::plan_in_range(book, i * PLAN_WIDE + KIND_WIDE) {
             return false;
         }
     }
@@ -72,30 +67,45 @@ fn plans_are_sound(book: &[u8], plans: usize) -> bool
     requires { plans * plan_wide ≤ length book.now }
     ensures { result ≡ (all_plans (map plan_body_of (rows_of plan_wide plans book.now)) && sorted_rows (map plan_body_of (rows_of plan_wide plans book.now))) }
 {
-    let common = passage::all_common(book, 0, PLAN_WIDE, KIND_WIDE, plans);
-    if common {
-        let good = plans_in_range(book, plans);
-        if good {
-            keys::keys_rise(book, PLAN_WIDE, KIND_WIDE, plans)
-        } else {
-            false
-        }
-    } else {
-        false
+    passage::all_common(book, 0, PLAN_WIDE, KIND_WIDE, plans)
+        && plans_in_range(book, plans)
+        && keys::keys_rise(book, PLAN_WIDE, KIND_WIDE, plans)
+}
+
+// What decides where an update may stand among the others.
+#[derive(Clone, Copy)]
+struct Head {
+    number: u32,
+    sender: u8,
+    kind: u8,
+}
+
+// The head of the update from `at` on.
+fn head_at(book: &[u8], at: usize) -> Head
+    requires { at + entry_wide ≤ length book.now }
+    ensures number { result.number ≡ number (part (at + number_offset) number_wide book.now) }
+    ensures sender { result.sender ≡ get_or book.now (at + sender_offset) 0 }
+    ensures kind { result.kind ≡ get_or book.now at 0 }
+{
+    Head {
+        number: lists::get_number(book, at + NUMBER_AT, NUMBER_WIDE),
+        sender: book[at + SENDER_AT],
+        kind: book[at],
     }
 }
 
-// Whether the update from `at` on is in range, where what is common is, and may stand behind one with this number, sender and kind.
-fn entry_is_sound(book: &[u8], at: usize, number: u32, sender: u8, kind: u8) -> bool
+// Whether the update from `at` on is in range, where what is common is, and may stand behind one with this head.
+fn entry_is_sound(book: &[u8], at: usize, last: Head) -> bool
     requires entry_wide_in_bounds { at + entry_wide ≤ length book.now }
     requires book_value { common_in_range (part (at + body_at) body_wide book.now) ≡ true }
-    ensures { result ≡ (entry_in_range (part at entry_wide book.now) && follows_as number sender kind (part at entry_wide book.now)) }
+    ensures { result ≡ (entry_in_range (part at entry_wide book.now) && follows_as last.number last.sender last.kind (part at entry_wide book.now)) }
 {
-    let k = book[at];
-    let n = lists::get_number(book, at + NUMBER_AT, NUMBER_WIDE);
-    let s = book[at + SENDER_AT];
-    let follows = (n as u64 == number as u64 + 1) | ((n == number) & ((s == sender) & (k == kind)));
-    (((2 <= k) & (k <= 3)) & ((1 <= s) & passage::update_in_range(book, at + BODY_AT))) & follows
+    let head = head_at(book, at);
+    let follows = (head.number as u64 == last.number as u64 + 1)
+        | ((head.number == last.number) & ((head.sender == last.sender) & (head.kind == last.kind)));
+    (((2 <= head.kind) & (head.kind <= 3))
+        & ((1 <= head.sender) & passage::update_in_range(book, at + BODY_AT)))
+        & follows
 }
 
 // Whether the updates from `at` on are in range, where what is common is, each where it may follow the one before.
@@ -104,20 +114,17 @@ fn updates_follow(book: &[u8], at: usize, entries: usize) -> bool
     requires book_value { all_common (map entry_body (rows_of entry_wide entries (drop at book.now))) ≡ true }
     ensures { result ≡ chained no_entry (rows_of entry_wide entries (drop at book.now)) }
 {
-    let mut number: u32 = 0;
-    let mut sender: u8 = 0;
-    let mut kind: u8 = 0;
-    let mut i = 0;
-    while i < entries {
+    let mut last = Head {
+        number: 0,
+        sender: 0,
+        kind: 0,
+    };
+    for i in 0..entries {
         let p = at + i * ENTRY_WIDE;
-        if entry_is_sound(book, p, number, sender, kind) {
-            number = lists::get_number(book, p + NUMBER_AT, NUMBER_WIDE);
-            sender = book[p + SENDER_AT];
-            kind = book[p];
-            i += 1;
-        } else {
+        if !entry_is_sound(book, p, last) {
             return false;
         }
+        last = head_at(book, p);
     }
     true
 }
@@ -127,22 +134,15 @@ fn updates_are_sound(book: &[u8], at: usize, entries: usize) -> bool
     requires { at + entries * entry_wide ≤ length book.now }
     ensures { result ≡ chained no_entry (rows_of entry_wide entries (drop at book.now)) }
 {
-    let common = passage::all_common(book, at, ENTRY_WIDE, BODY_AT, entries);
-    if common {
-        updates_follow(book, at, entries)
-    } else {
-        false
-    }
+    passage::all_common(book, at, ENTRY_WIDE, BODY_AT, entries)
+        && updates_follow(book, at, entries)
 }
 
 // Of the lent book, what may be used.
 pub fn book_room(book: &[u8]) -> usize
     ensures { result ≡ book_room book.now }
 {
-    if book.len() <= MOST_BYTES {
-        return book.len();
-    }
-    MOST_BYTES
+    book.len().min(MOST_BYTES)
 }
 
 // Whether the used bytes split into entries that are in order and in range.
@@ -157,8 +157,5 @@ pub fn book_is_sound(book: &[u8], used: usize) -> bool
     if rest % ENTRY_WIDE != 0 {
         return false;
     }
-    if plans_are_sound(book, n) {
-        return updates_are_sound(book, n * PLAN_WIDE, rest / ENTRY_WIDE);
-    }
-    false
+    plans_are_sound(book, n) && updates_are_sound(book, n * PLAN_WIDE, rest / ENTRY_WIDE)
 }

@@ -61,9 +61,9 @@ returns-then-plans_are_sound c =
     let t = sym c.plans_are_sound.ensures ∙ c.if-plans_are_sound.true in
     c.updates_are_sound.ensures ∙ sym (sound-is a.used a.book.now c.count_plans-n.result c.count_plans-n.ensures f c.if-rest-ne0.false ∙ rw t)
 
-pub returns : goal.returns
-returns c =
+pub returns-else-plans_are_sound : goal.returns-else-plans_are_sound
+returns-else-plans_are_sound c =
     let a = c.args in
     let f : a.used ≤ book_room a.book.now = rw c.book_room.ensures at c.if-book_room-used.false in
     let t = sym c.plans_are_sound.ensures ∙ c.if-plans_are_sound.false in
-    sym (sound-is a.used a.book.now c.count_plans-n.result c.count_plans-n.ensures f c.if-rest-ne0.false ∙ rw t)
+    c.if-plans_are_sound.false ∙ sym (sound-is a.used a.book.now c.count_plans-n.result c.count_plans-n.ensures f c.if-rest-ne0.false ∙ rw t)

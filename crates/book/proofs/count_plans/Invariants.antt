@@ -5,7 +5,4 @@ use Rattle.book.proofs.PlanLaws.{plans_from}
 use Rattle.book.proofs.count_plans.Given as goal
 
 abbrev pub invariant-loop-i : goal.invariant-loop-i
-invariant-loop-i l = (l.i ≤ l.n) × (plan_count l.used l.book ≡ l.i + leading (plans_from l.book l.n l.i))
-
-abbrev pub decreases-loop-i : goal.decreases-loop-i
-decreases-loop-i l = l.n - l.i
+invariant-loop-i l = plan_count l.used l.book ≡ l.i + leading (plans_from l.book l.n l.i)

@@ -9,4 +9,5 @@ update_in_range-requires c = record { body_wide_in_bounds = search rules; bytes_
 pub returns : goal.returns
 returns c =
     let a = c.args in
-    rw (c.update_in_range.ensures, c.get_number-n.ensures) (sym (entry-from a.at a.book.now a.number a.sender a.kind))
+    let h = c.head_at-head.ensures in
+    rw (c.update_in_range.ensures, h.number, h.sender, h.kind) (sym (entry-from a.at a.book.now a.last.number a.last.sender a.last.kind))

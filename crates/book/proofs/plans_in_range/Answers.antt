@@ -18,34 +18,30 @@ use Rattle.book.proofs.plans_in_range.Goals as goal
 pub loop-i-init : goal.loop-i-init
 loop-i-init c =
     let a = c.args in
-    (search rules, plans-start a.book.now a.plans, sym (common-start plan_wide 1 a.plans 0 a.book.now) ∙ c.requires.book_value)
+    (plans-start a.book.now a.plans, sym (common-start plan_wide 1 a.plans 0 a.book.now) ∙ c.requires.book_value)
 
-pub plan_in_range-good-requires : goal.plan_in_range-good-requires
-plan_in_range-good-requires c =
-    let common : let a = c.args in let i = c.loop-i.i in (common_in_range (part (0 + i * plan_wide + 1) body_wide a.book.now) ≡ true) × (all_common (left plan_wide 1 a.plans 0 a.book.now (i + 1)) ≡ true) = let a = c.args in
-    common-now plan_wide 1 a.plans 0 a.book.now c.loop-i.i c.loop-i-test.true (omega arith) c.loop-i.invariant.2 in
+pub plan_in_range-requires : goal.plan_in_range-requires
+plan_in_range-requires c =
     let i = c.loop-i.i in
+    let common = common-now plan_wide 1 c.args.plans 0 c.args.book.now i c.loop-i-test.true (omega arith) c.loop-i.invariant.1 in
     let e : 0 + i * plan_wide + 1 ≡ i * plan_wide + 1 = omega arith in
     record { body_wide_in_bounds = search rules; bytes_value = rw e at common.0 }
 
 pub loop-i-preserved : goal.loop-i-preserved
 loop-i-preserved c =
-    let common : let a = c.args in let i = c.loop-i.i in (common_in_range (part (0 + i * plan_wide + 1) body_wide a.book.now) ≡ true) × (all_common (left plan_wide 1 a.plans 0 a.book.now (i + 1)) ≡ true) = let a = c.args in
-    common-now plan_wide 1 a.plans 0 a.book.now c.loop-i.i c.loop-i-test.true (omega arith) c.loop-i.invariant.2 in
-    let step : let a = c.args in all_plans (map plan_body_of (rows_of plan_wide a.plans a.book.now)) ≡ (c.plan_in_range-good.result && all_plans (bodies_from a.book.now a.plans (c.loop-i.i + 1))) = let a = c.args in
+    let a = c.args in
     let l = c.loop-i in
-    l.invariant.1 ∙ plans-step a.book.now a.plans l.i c.loop-i-test.true ∙ rw (← c.plan_in_range-good.ensures) in
-    (omega arith, step ∙ rw c.if-good.true, common.1)
+    let common = common-now plan_wide 1 a.plans 0 a.book.now l.i c.loop-i-test.true (omega arith) l.invariant.1 in
+    (l.invariant.0 ∙ plans-step a.book.now a.plans l.i c.loop-i-test.true ∙ rw (sym c.plan_in_range.ensures ∙ c.if-not-plan_in_range.false), common.1)
 
-pub returns-else-good : goal.returns-else-good
-returns-else-good c =
-    let step : let a = c.args in all_plans (map plan_body_of (rows_of plan_wide a.plans a.book.now)) ≡ (c.plan_in_range-good.result && all_plans (bodies_from a.book.now a.plans (c.loop-i.i + 1))) = let a = c.args in
+pub returns-then-not-plan_in_range : goal.returns-then-not-plan_in_range
+returns-then-not-plan_in_range c =
+    let a = c.args in
     let l = c.loop-i in
-    l.invariant.1 ∙ plans-step a.book.now a.plans l.i c.loop-i-test.true ∙ rw (← c.plan_in_range-good.ensures) in
-    sym (step ∙ rw c.if-good.false)
+    sym (l.invariant.0 ∙ plans-step a.book.now a.plans l.i c.loop-i-test.true ∙ rw (sym c.plan_in_range.ensures ∙ c.if-not-plan_in_range.true))
 
 pub returns : goal.returns
 returns c =
     let a = c.args in
     let l = c.loop-i in
-    sym (l.invariant.1 ∙ plans-end a.book.now a.plans l.i c.loop-i-test.false)
+    sym (l.invariant.0 ∙ plans-end a.book.now a.plans l.i c.loop-i-test.false)

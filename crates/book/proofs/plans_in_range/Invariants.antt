@@ -12,7 +12,4 @@ use Rattle.book.proofs.plans_in_range.Given as goal
 
 abbrev pub invariant-loop-i : goal.invariant-loop-i
 invariant-loop-i l =
-    (l.i ≤ l.plans) × (all_plans (map plan_body_of (rows_of plan_wide l.plans l.book)) ≡ all_plans (bodies_from l.book l.plans l.i)) × (all_common (left plan_wide 1 l.plans 0 l.book l.i) ≡ true)
-
-abbrev pub decreases-loop-i : goal.decreases-loop-i
-decreases-loop-i l = l.plans - l.i
+    (all_plans (map plan_body_of (rows_of plan_wide l.plans l.book)) ≡ all_plans (bodies_from l.book l.plans l.i)) × (all_common (left plan_wide 1 l.plans 0 l.book l.i) ≡ true)

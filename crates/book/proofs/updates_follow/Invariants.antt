@@ -13,9 +13,5 @@ use Rattle.book.proofs.updates_follow.Given as goal
 
 abbrev pub invariant-loop-i : goal.invariant-loop-i
 invariant-loop-i l =
-    (l.i ≤ l.entries)
-    × (chained_as l.number l.sender l.kind (rest l.book l.at l.entries l.i) ≡ chained no_entry (rows_of entry_wide l.entries (drop l.at l.book)))
+    (chained_as l.last.number l.last.sender l.last.kind (rest l.book l.at l.entries l.i) ≡ chained no_entry (rows_of entry_wide l.entries (drop l.at l.book)))
     × (all_common (left entry_wide body_at l.entries l.at l.book l.i) ≡ true)
-
-abbrev pub decreases-loop-i : goal.decreases-loop-i
-decreases-loop-i l = l.entries - l.i
