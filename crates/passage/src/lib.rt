@@ -67,6 +67,7 @@ pub const HEARD_AT: usize = BODY_WIDE;
 
 pub const ROW_WIDE: usize = HEARD_AT + 1;
 
+// kept: (a) these two, like statuses and flags, are numbers in bytes and no Option or enum: C lends table and book with them so, and include/ says them.
 // A time that is missing.
 pub const MISSING: u32 = 16777215;
 
