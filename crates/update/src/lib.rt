@@ -9,40 +9,38 @@ ghost use Rattle.update.specs.Rule.{apply_row, beginning};
 ghost use Rattle.update.specs.Moves.{may_move, status_after, keeps};
 
 // Table 17: from each status a line, to each status a letter, J where the status moves.
-const MOVES: [u8; 36] = *b"NJJJJJJJNJJJNJJJJJNJJJJJNJJNJJNNNNJJ";
+const MOVES: [[u8; 6]; 6] = [
+    *b"NJJJJJ",
+    *b"JJNJJJ",
+    *b"NJJJJJ",
+    *b"NJJJJJ",
+    *b"NJJNJJ",
+    *b"NNNNJJ",
+];
 
 // Whether the status moves.
 fn may_move(held: u8, said: u8) -> bool
     ensures { result ≡ may_move held said }
 {
-    if held > 5 {
-        return false;
+    if held <= 5 && said <= 5 {
+        MOVES[held as usize][said as usize] == b'J'
+    } else {
+        false
     }
-    if said > 5 {
-        return false;
-    }
-    let place = held as usize * 6 + said as usize;
-    MOVES[place] == 74
 }
 
 // The status after an update.
 pub fn status_after(held: u8, said: u8) -> u8
     ensures { result ≡ status_after held said }
 {
-    if may_move(held, said) {
-        return said;
-    }
-    held
+    if may_move(held, said) { said } else { held }
 }
 
 // An optional: 255 keeps what is held.
 pub fn kept_or(held: u8, said: u8) -> u8
     ensures { result ≡ keeps held said }
 {
-    if said == passage::KEPT {
-        return held;
-    }
-    said
+    if said == passage::KEPT { held } else { said }
 }
 
 // The row from `at` on becomes what the update makes of it whose body stands from `from` on.

@@ -1,12 +1,15 @@
-use mathlib.Core.Path.{sym}
-use Rattle.update.proofs.TableLaws.{move-letter, none-held, none_said}
+use mathlib.Core.Path.{refl, sym}
+use Rattle.update.specs.Moves.{table17, may_move}
+use Rattle.update.proofs.TableLaws.{none-held, none_said}
+use Rattle.update.proofs.may_move.Goals.{else-held-le5-via-then-held-le5+else-said-le5, else-held-le5-via-else-held-le5}
 use Rattle.update.proofs.may_move.Goals as goal
 
-pub returns-then-held-gt5 : goal.returns-then-held-gt5
-returns-then-held-gt5 c = sym (none-held _ _ c.if-held-gt5.true)
+pub returns-then-said-le5 : goal.returns-then-said-le5
+unfolding may_move table17
+returns-then-said-le5 c = refl
 
-pub returns-then-said-gt5 : goal.returns-then-said-gt5
-returns-then-said-gt5 c = sym (none_said _ _ c.if-held-gt5.false c.if-said-gt5.true)
-
-pub returns : goal.returns
-returns c = move-letter _ _ c.if-held-gt5.false c.if-said-gt5.false
+pub returns-else-held-le5 : goal.returns-else-held-le5
+returns-else-held-le5 c = elim c.else-held-le5.branch [
+  else-held-le5-via-then-held-le5+else-said-le5 w ↦ sym (none_said _ _ w.if-held-le5.true w.if-said-le5.false)
+  | else-held-le5-via-else-held-le5 w ↦ sym (none-held _ _ w.if-held-le5.false)
+]
