@@ -142,10 +142,8 @@ fn begins_with(shared: &[u8], validities: &[u8], validity: usize) -> bool
     ensures { result ≡ same shared.now (part validity shared_wide validities.now) }
 {
     let mut any = false;
-    let mut i = 0;
-    while i < SHARED_WIDE {
+    for i in 0..SHARED_WIDE {
         any = any | (shared[i] != validities[validity + i]);
-        i += 1;
     }
     !any
 }
@@ -155,12 +153,10 @@ fn next_with(shared: &[u8], validities: &[u8], days: usize, from: usize) -> usiz
     requires { (length shared.now ≡ shared_wide) × (days * validity_wide ≤ length validities.now) × (from ≤ days) }
     ensures { result ≡ from + first_with shared.now (rows_of validity_wide (days - from) (drop (from * validity_wide) validities.now)) }
 {
-    let mut i = from;
-    while i < days {
+    for i in from..days {
         if begins_with(shared, validities, i * VALIDITY_WIDE) {
             return i;
         }
-        i += 1;
     }
     days
 }
@@ -234,13 +230,11 @@ pub fn join(
     ensures bodies { out.new ≡ over 0 (flat (take most (joined (rows_of pass_wide times passes.now) (rows_of validity_wide days validities.now)))) out.old }
 {
     let mut k = 0;
-    let mut i = 0;
-    while i < times {
+    for i in 0..times {
         k = join_one(passes, i * PASS_WIDE, validities, days, out, k, most);
         if most < k {
             return k;
         }
-        i += 1;
     }
     k
 }

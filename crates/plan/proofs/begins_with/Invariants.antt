@@ -8,7 +8,4 @@ use Rattle.lists.specs.Part.{part}
 use Rattle.plan.proofs.begins_with.Given as goal
 
 abbrev pub invariant-loop-i : goal.invariant-loop-i
-invariant-loop-i l = (l.i ≤ shared_wide) × (l.any ≡ not (same (take l.i l.shared) (part l.validity l.i l.validities)))
-
-abbrev pub decreases-loop-i : goal.decreases-loop-i
-decreases-loop-i l = shared_wide - l.i
+invariant-loop-i l = l.any ≡ not (same (take l.i l.shared) (part l.validity l.i l.validities))

@@ -6,7 +6,4 @@ use Rattle.plan.specs.inner.Look.{first_with}
 use Rattle.plan.proofs.next_with.Given as goal
 
 abbrev pub invariant-loop-i : goal.invariant-loop-i
-invariant-loop-i l = (l.i ≤ l.days) × (l.i + first_with l.shared (window validity_wide l.i l.days l.validities) ≡ l.from + first_with l.shared (window validity_wide l.from l.days l.validities))
-
-abbrev pub decreases-loop-i : goal.decreases-loop-i
-decreases-loop-i l = l.days - l.i
+invariant-loop-i l = l.i + first_with l.shared (window validity_wide l.i l.days l.validities) ≡ l.from + first_with l.shared (window validity_wide l.from l.days l.validities)
