@@ -29,6 +29,7 @@ fn count_leading(book: &[u8], at: usize, entries: usize, number: u32, own: bool)
 }
 
 // Where the message of this number stands: the place of its first entry among the updates, and how many follow each other.
+// kept: (a) `book` is a lent area longer than what is used of it: the C calls lend it with its counts beside.
 pub fn find_message(book: &[u8], used: usize, number: u32) -> Option<(usize, usize)>
     requires { book_sound used book.now ≡ true }
     ensures { result ≡ held_as number (updates_in used book.now) }
@@ -44,6 +45,7 @@ pub fn find_message(book: &[u8], used: usize, number: u32) -> Option<(usize, usi
 }
 
 // Where the key from `from` on in `key` stands among the plan entries, or would stand.
+// kept: (a) `book` is a lent area longer than what is used of it: the C calls lend it with its counts beside.
 pub fn find_plan(book: &[u8], plans: usize, key: &[u8], from: usize) -> Result<usize, usize>
     requires plan_wide_in_bounds { (plans * plan_wide ≤ length book.now) × (from + key_wide ≤ length key.now) }
     requires book_value { sorted_rows (map plan_body_of (rows_of plan_wide plans book.now)) ≡ true }
@@ -53,6 +55,8 @@ pub fn find_plan(book: &[u8], plans: usize, key: &[u8], from: usize) -> Result<u
 }
 
 // The plan's row of that key is written into `out` from `at` on, if there is one.
+// kept: (a) `book` is a lent area longer than what is used of it: the C calls lend it with its counts beside.
+// kept: (a) no heap: the row goes into the lent `out`, as its contract says, and what is answered is whether there is one.
 pub fn plan_row(
     book: &[u8],
     plans: usize,

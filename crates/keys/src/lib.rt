@@ -85,6 +85,7 @@ pub fn search_by<F: Fn(usize) -> Ordering>(count: usize, compare: F) -> Result<u
 {
     let mut lo = 0;
     let mut hi = count;
+    // kept: (d) std searches a slice or a map, and here is neither: rows lie in bytes, or behind places.
     while lo < hi {
         let mid = lo + (hi - lo) / 2;
         match compare(mid) {

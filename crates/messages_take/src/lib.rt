@@ -13,6 +13,7 @@ ghost use Rattle.table.specs.Rules.{most_rows};
 ghost use Rattle.messages_take.specs.inner.Fitting.{most_updates, absent, fitting, fitting_in};
 
 // The row of a passage that is missing, as the update makes it whose body stands from `from` on, is put in at a place among `count` rows.
+// kept: (a) `table` is a lent area that may be longer than its rows: the C calls lend it with its count beside.
 fn insert_new(table: &mut [u8], count: usize, place: usize, bodies: &[u8], from: usize)
     requires { (place ≤ count) × ((count + 1) * row_wide ≤ length table.old) × (from + body_wide ≤ length bodies.now) }
     ensures { table.new ≡ store row_wide count (insert_at place (row_rule [] (part from body_wide bodies.now)) (rows_of row_wide count table.old)) table.old }
@@ -24,6 +25,7 @@ fn insert_new(table: &mut [u8], count: usize, place: usize, bodies: &[u8], from:
 }
 
 // The update whose body stands from `from` on is taken into the rows, its key found as `found` says; the new count.
+// kept: (a) `table` is a lent area that may be longer than its rows: the C calls lend it with its count beside.
 fn take_found(
     table: &mut [u8],
     count: usize,
@@ -50,6 +52,7 @@ fn take_found(
 }
 
 // Where the key from `from` on in `bodies` stands or, as `Err`, would be put, looked for at the place `hint` first, where there is one.
+// kept: (a) `table` is a lent area that may be longer than its rows: the C calls lend it with its count beside.
 fn find_from(
     table: &[u8],
     count: usize,
@@ -68,6 +71,7 @@ fn find_from(
 }
 
 // The update whose body stands from `from` on is taken into the rows, its key looked for at the place `hint` first, where there is one; the new count.
+// kept: (a) `table` is a lent area that may be longer than its rows: the C calls lend it with its count beside.
 fn take_near(
     table: &mut [u8],
     count: usize,
@@ -86,6 +90,7 @@ fn take_near(
 }
 
 // The update whose body stands from `from` on is taken into the rows; the new count.
+// kept: (a) `table` is a lent area that may be longer than its rows: the C calls lend it with its count beside.
 pub fn take_row(table: &mut [u8], count: usize, bodies: &[u8], from: usize) -> usize
     requires row_wide_in_bounds { (count * row_wide ≤ length table.old) × (from + body_wide ≤ length bodies.now) }
     requires table_value { sorted_rows (rows_of row_wide count table.old) ≡ true }
@@ -97,6 +102,7 @@ pub fn take_row(table: &mut [u8], count: usize, bodies: &[u8], from: usize) -> u
 }
 
 // The updates whose bodies stand in `bodies` are taken into the rows, one after another, the key of each looked for at its place first, where it has one; the new count.
+// kept: (a) `table` is a lent area that may be longer than its rows: the C calls lend it with its count beside.
 pub fn take_placed(
     table: &mut [u8],
     count: usize,
@@ -119,6 +125,7 @@ pub fn take_placed(
 }
 
 // The updates whose bodies stand in `bodies` are taken into the rows, one after another; the new count.
+// kept: (a) `table` is a lent area that may be longer than its rows: the C calls lend it with its count beside.
 pub fn take_all(table: &mut [u8], count: usize, bodies: &[u8], updates: usize) -> usize
     requires row_wide_in_bounds { (count * row_wide ≤ length table.old) × (updates * body_wide ≤ length bodies.now) }
     requires table_value { sorted_rows (rows_of row_wide count table.old) ≡ true }
@@ -138,6 +145,8 @@ pub const MOST_UPDATES: usize = 2427;
 const TRIAL: usize = (table::MOST_ROWS + 1) * passage::ROW_WIDE;
 
 // Whether a trial on a copy of the rows, made in the bytes `trial`, ends with at most `most` of them.
+// kept: (a) `table` is a lent area that may be longer than its rows: the C calls lend it with its count beside.
+// kept: (a) no heap: the copy is made in lent room, and only whether the rows fit is answered.
 fn trial_fits(
     trial: &mut [u8],
     table: &[u8],
@@ -162,6 +171,7 @@ fn trial_fits(
 }
 
 // Whether there are at most `most` rows once the updates are taken; tried only where there could be more.
+// kept: (a) `table` is a lent area that may be longer than its rows: the C calls lend it with its count beside.
 fn fits_after(table: &[u8], count: usize, bodies: &[u8], updates: usize, most: usize) -> bool
     requires row_wide_in_bounds { (count * row_wide ≤ length table.now) × (updates * body_wide ≤ length bodies.now) × (count ≤ most) × (most ≤ most_rows) × (updates ≤ most_updates) }
     requires table_value { sorted_rows (rows_of row_wide count table.now) ≡ true }
@@ -175,6 +185,7 @@ fn fits_after(table: &[u8], count: usize, bodies: &[u8], updates: usize, most: u
 }
 
 // How many of the updates have a key that the rows lack; `places` then begins with the places where the keys stand or would be put.
+// kept: (a) `table` is a lent area that may be longer than its rows: the C calls lend it with its count beside.
 fn locate_all(
     table: &[u8],
     count: usize,
@@ -200,6 +211,7 @@ fn locate_all(
 }
 
 // Whether there are at most `most` rows once the updates are taken, of which so many keys are missing.
+// kept: (a) `table` is a lent area that may be longer than its rows: the C calls lend it with its count beside.
 fn fits_with(
     table: &[u8],
     count: usize,
@@ -217,6 +229,7 @@ fn fits_with(
 }
 
 // `take_fitting` where there could be too many rows, with room for a place of each update.
+// kept: (a) `table` is a lent area that may be longer than its rows: the C calls lend it with its count beside.
 fn take_tight(
     table: &mut [u8],
     count: usize,
@@ -239,6 +252,7 @@ fn take_tight(
 }
 
 // The updates are taken into the rows, if there are then at most `most`, and the new count is answered; else nothing is, for there would be too many.
+// kept: (a) `table` is a lent area that may be longer than its rows: the C calls lend it with its count beside.
 pub fn take_fitting(
     table: &mut [u8],
     count: usize,

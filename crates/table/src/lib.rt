@@ -23,6 +23,7 @@ pub fn rows_room(table: &[u8]) -> usize
 }
 
 // Whether each of the first `count` rows is in its range, where what is common is.
+// kept: (a) `table` is a lent area that may be longer than its rows: the C calls lend it with its count beside.
 fn all_in_range(table: &[u8], count: usize) -> bool
     requires row_wide_in_bounds { count * row_wide ≤ length table.now }
     requires table_value { all_common (map body_of (rows count table.now)) ≡ true }
@@ -37,6 +38,7 @@ fn all_in_range(table: &[u8], count: usize) -> bool
 }
 
 // Whether so many rows have room, each is in its range, and their keys rise: of any bytes and any count.
+// kept: (a) `table` is a lent area that may be longer than its rows: the C calls lend it with its count beside.
 pub fn table_is_sound(table: &[u8], count: usize) -> bool
     ensures { result ≡ table_sound count table.now }
 {
@@ -51,6 +53,7 @@ pub fn table_is_sound(table: &[u8], count: usize) -> bool
 // ---- where a key stands
 
 // Where the key from `from` on in `key` stands among the first `count` rows, or, as `Err`, where its row would be put.
+// kept: (a) `table` is a lent area that may be longer than its rows: the C calls lend it with its count beside.
 pub fn find(table: &[u8], count: usize, key: &[u8], from: usize) -> Result<usize, usize>
     requires row_wide_in_bounds { (count * row_wide ≤ length table.now) × (from + key_wide ≤ length key.now) }
     requires table_value { sorted_rows (rows count table.now) ≡ true }
@@ -60,6 +63,7 @@ pub fn find(table: &[u8], count: usize, key: &[u8], from: usize) -> Result<usize
 }
 
 // The place to look at next: `wish`, if it is one of those from lo up to hi, or else their middle.
+// kept: (d) it only says where `find_near` looks next.
 fn probe(lo: usize, hi: usize, wish: usize) -> usize
     requires { lo < hi }
     ensures { (lo ≤ result) × (result < hi) }
@@ -109,6 +113,7 @@ pub fn find_near(
 // ---- a row put in, replaced or taken out
 
 // A row is put in at a place among `count` rows.
+// kept: (a) `table` is a lent area that may be longer than its rows: the C calls lend it with its count beside.
 pub fn insert_row(table: &mut [u8], count: usize, place: usize, row: &[u8])
     requires { (place ≤ count) × ((count + 1) * row_wide ≤ length table.old) × (length row.now ≡ row_wide) }
     ensures { table.new ≡ store row_wide count (insert_at place row.now (rows count table.old)) table.old }
@@ -119,6 +124,7 @@ pub fn insert_row(table: &mut [u8], count: usize, place: usize, row: &[u8])
 }
 
 // A row takes the place of another, of `count` rows.
+// kept: (a) `table` is a lent area that may be longer than its rows: the C calls lend it with its count beside.
 pub fn replace_row(table: &mut [u8], count: usize, place: usize, row: &[u8])
     requires { (place < count) × (count * row_wide ≤ length table.old) × (length row.now ≡ row_wide) }
     ensures { table.new ≡ store row_wide count (set (rows count table.old) place row.now) table.old }
@@ -127,6 +133,7 @@ pub fn replace_row(table: &mut [u8], count: usize, place: usize, row: &[u8])
 }
 
 // The row at a place among `count` rows leaves, and the bytes of the last become zero.
+// kept: (a) `table` is a lent area that may be longer than its rows: the C calls lend it with its count beside.
 fn remove_row(table: &mut [u8], count: usize, place: usize)
     requires { (place < count) × (count * row_wide ≤ length table.old) }
     ensures { table.new ≡ store row_wide count (remove_at place (rows count table.old)) table.old }
@@ -138,6 +145,7 @@ fn remove_row(table: &mut [u8], count: usize, place: usize)
 }
 
 // The row of the key from `from` on in `key` leaves, if there is one; the new count.
+// kept: (a) `table` is a lent area that may be longer than its rows: the C calls lend it with its count beside.
 pub fn remove_key(table: &mut [u8], count: usize, key: &[u8], from: usize) -> usize
     requires row_wide_in_bounds { (count * row_wide ≤ length table.old) × (from + key_wide ≤ length key.now) }
     requires table_value { sorted_rows (rows count table.old) ≡ true }

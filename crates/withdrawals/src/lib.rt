@@ -105,6 +105,7 @@ const MOST: usize = book::MOST_BYTES / book::ENTRY_WIDE;
 const MOST_SLOTS: usize = MOST * withdrawals_replay::SLOT_WIDE;
 
 // The passages that the entries from `at` on name, in slots, each as the book gives it once message `number` is withdrawn; their count.
+// kept: (a) `book` is a lent area longer than what is used of it: the C calls lend it with its counts beside.
 fn work_out(
     number: u32,
     at: usize,

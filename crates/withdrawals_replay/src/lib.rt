@@ -20,6 +20,7 @@ pub const SLOT_WIDE: usize = 1 + passage::ROW_WIDE;
 // ---- slots begun
 
 // The slot from `at` on becomes that of the key from `from` on in `message`, with the row of the book's plan entries, if they have one.
+// kept: (a) `book` is a lent area longer than what is used of it: the C calls lend it with its counts beside.
 fn begin_slot(book: &[u8], plans: usize, message: &[u8], from: usize, slots: &mut [u8], at: usize)
     requires plan_wide_in_bounds { (plans * plan_wide ≤ length book.now) × (from + key_wide ≤ length message.now) × (at + slot_wide ≤ length slots.old) }
     requires book_value { sorted_rows (map plan_body_of (rows_of plan_wide plans book.now)) ≡ true }
@@ -38,6 +39,7 @@ fn begin_slot(book: &[u8], plans: usize, message: &[u8], from: usize, slots: &mu
 }
 
 // A slot for each passage that the message's entries name, their places the first in `order`, as its plan says.
+// kept: (a) `book` is a lent area longer than what is used of it: the C calls lend it with its counts beside.
 pub fn begin_slots(
     book: &[u8],
     plans: usize,
@@ -146,6 +148,7 @@ fn replay_one(book: &[u8], at: usize, number: u32, names: Names, slots: &mut [u8
 }
 
 // So many updates from `at` on, one after another, in the order accepted.
+// kept: (a) fixed memory: places and slots stand in areas longer than they are, so their count goes beside them.
 pub fn replay(
     book: &[u8],
     at: usize,
@@ -179,6 +182,7 @@ pub fn replay(
 
 // What a slot adds to the count of rows: one for itself, one for its row, less one for the row that the table has. Its key is looked for from `near` on, which
 // then is where the next slot's key would be: slots rise by key.
+// kept: (a) `table` is a lent area that may be longer than its rows: the C calls lend it with its count beside.
 fn weigh(table: &[u8], count: usize, slots: &[u8], at: usize, near: &mut usize) -> usize
     requires row_wide_in_bounds { (count * row_wide ≤ length table.now) × (at + slot_wide ≤ length slots.now) }
     requires table_value { sorted_rows (rows count table.now) ≡ true }
@@ -199,6 +203,7 @@ fn weigh(table: &[u8], count: usize, slots: &[u8], at: usize, near: &mut usize) 
 }
 
 // How many rows there will be, and one more for each slot: so nothing is ever taken away from the sum.
+// kept: (a) `table` is a lent area that may be longer than its rows: the C calls lend it with its count beside.
 fn count_after(table: &[u8], count: usize, slots: &[u8], named: usize) -> usize
     requires row_wide_in_bounds { (count * row_wide ≤ length table.now) × (named * slot_wide ≤ length slots.now) × (count ≤ most_rows) × (named ≤ most_slots) }
     requires table_value { sorted_rows (rows count table.now) ≡ true }
@@ -213,6 +218,7 @@ fn count_after(table: &[u8], count: usize, slots: &[u8], named: usize) -> usize
 }
 
 // Whether the rows have room once the slots are taken in; weighed only where there could be too many.
+// kept: (a) `table` is a lent area that may be longer than its rows: the C calls lend it with its count beside.
 pub fn fits_after(table: &[u8], count: usize, slots: &[u8], named: usize) -> bool
     requires row_wide_in_bounds { (count * row_wide ≤ length table.now) × (named * slot_wide ≤ length slots.now) × (count ≤ most_rows) × (named ≤ most_slots) }
     requires table_value { sorted_rows (rows count table.now) ≡ true }
@@ -223,6 +229,7 @@ pub fn fits_after(table: &[u8], count: usize, slots: &[u8], named: usize) -> boo
 }
 
 // A slot without a row removes that of its key; the new count.
+// kept: (a) `table` is a lent area that may be longer than its rows: the C calls lend it with its count beside.
 fn remove_one(table: &mut [u8], count: usize, slots: &[u8], at: usize) -> usize
     requires row_wide_in_bounds { (count * row_wide ≤ length table.old) × (at + slot_wide ≤ length slots.now) }
     requires table_value { sorted_rows (rows count table.old) ≡ true }
@@ -236,6 +243,7 @@ fn remove_one(table: &mut [u8], count: usize, slots: &[u8], at: usize) -> usize
 }
 
 // The slots without a row, one after another; the new count.
+// kept: (a) `table` is a lent area that may be longer than its rows: the C calls lend it with its count beside.
 fn remove_all(table: &mut [u8], count: usize, slots: &[u8], named: usize) -> usize
     requires row_wide_in_bounds { (count * row_wide ≤ length table.old) × (named * slot_wide ≤ length slots.now) }
     requires table_value { sorted_rows (rows count table.old) ≡ true }
@@ -250,6 +258,7 @@ fn remove_all(table: &mut [u8], count: usize, slots: &[u8], named: usize) -> usi
 }
 
 // A row is put by its key, looked for from `near` on, which then is where the next row would be; the new count.
+// kept: (a) `table` is a lent area that may be longer than its rows: the C calls lend it with its count beside.
 fn put_near(table: &mut [u8], count: usize, row: &[u8], near: &mut usize) -> usize
     requires row_wide_in_bounds { (count * row_wide ≤ length table.old) × (length (put row.now (rows count table.old)) * row_wide ≤ length table.old) × (length row.now ≡ row_wide) }
     requires table_value { sorted_rows (rows count table.old) ≡ true }
@@ -272,6 +281,7 @@ fn put_near(table: &mut [u8], count: usize, row: &[u8], near: &mut usize) -> usi
 }
 
 // A slot with a row puts it; the new count.
+// kept: (a) `table` is a lent area that may be longer than its rows: the C calls lend it with its count beside.
 fn put_one(table: &mut [u8], count: usize, slots: &[u8], at: usize, near: &mut usize) -> usize
     requires row_wide_in_bounds { (count * row_wide ≤ length table.old) × (at + slot_wide ≤ length slots.now) × (length (put_one (part at slot_wide slots.now) (rows count table.old)) * row_wide ≤ length table.old) }
     requires table_value { sorted_rows (rows count table.old) ≡ true }
@@ -285,6 +295,7 @@ fn put_one(table: &mut [u8], count: usize, slots: &[u8], at: usize, near: &mut u
 }
 
 // The slots with a row, one after another; the new count.
+// kept: (a) `table` is a lent area that may be longer than its rows: the C calls lend it with its count beside.
 fn put_all(table: &mut [u8], count: usize, slots: &[u8], named: usize) -> usize
     requires row_wide_in_bounds { (count * row_wide ≤ length table.old) × (named * slot_wide ≤ length slots.now) × (length (puts (slots_of named slots.now) (rows count table.old)) * row_wide ≤ length table.old) }
     requires table_value { sorted_rows (rows count table.old) ≡ true }
@@ -300,6 +311,7 @@ fn put_all(table: &mut [u8], count: usize, slots: &[u8], named: usize) -> usize
 }
 
 // The slots are taken into the rows; the new count. Rows leave before rows come, so that no byte behind the final rows is touched.
+// kept: (a) `table` is a lent area that may be longer than its rows: the C calls lend it with its count beside.
 pub fn settle(table: &mut [u8], count: usize, slots: &[u8], named: usize) -> usize
     requires row_wide_in_bounds { (count * row_wide ≤ length table.old) × (named * slot_wide ≤ length slots.now) × (length (settled (slots_of named slots.now) (rows count table.old)) * row_wide ≤ length table.old) }
     requires table_value { sorted_rows (rows count table.old) ≡ true }
