@@ -80,13 +80,8 @@ fn place(out: Stdout, table: &[u8], p: u32) {
 
 // The rows of the first n places.
 fn rows(out: Stdout, table: &[u8], places: &[u32], n: usize) {
-    let mut i = 0;
-    while i < places.len() {
-        if n <= i {
-            return;
-        }
-        place(out, table, places[i]);
-        i += 1;
+    for p in places.iter().take(n) {
+        place(out, table, *p);
     }
 }
 
