@@ -10,12 +10,7 @@ ghost use Rattle.update.specs.Moves.{may_move, status_after, keeps};
 
 // Table 17: from each status a line, to each status a letter, J where the status moves.
 const MOVES: [[u8; 6]; 6] = [
-    *b"NJJJJJ",
-    *b"JJNJJJ",
-    *b"NJJJJJ",
-    *b"NJJJJJ",
-    *b"NJJNJJ",
-    *b"NNNNJJ",
+    *b"NJJJJJ", *b"JJNJJJ", *b"NJJJJJ", *b"NJJJJJ", *b"NJJNJJ", *b"NNNNJJ",
 ];
 
 // Whether the status moves.

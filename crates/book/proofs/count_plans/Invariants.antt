@@ -1,5 +1,5 @@
 use mathlib.Core.Path.{◌≡◌}
-use Prim.Native.Nat.{◌+◌, ◌-◌, ◌≤◌}
+use Prim.Native.Nat.{◌+◌}
 use Rattle.book.specs.Entries.{leading, plan_count}
 use Rattle.book.proofs.PlanLaws.{plans_from}
 use Rattle.book.proofs.count_plans.Given as goal

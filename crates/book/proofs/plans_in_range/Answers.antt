@@ -1,18 +1,10 @@
 use mathlib.Core.Path.{◌≡◌, sym, ◌∙◌}
-use mathlib.Core.Bool.{true, ◌&&◌}
-use mathlib.Core.List.{map}
 use Prim.Native.Nat.{◌+◌, ◌*◌}
 use native.Mathlib.Omega.{arith}
 use borrow.Author.Rules.{rules}
-use Rattle.lists.specs.Part.{part}
-use Rattle.lists.specs.Rows.{rows_of}
-use Rattle.passage.specs.Layout.{body_wide}
-use Rattle.passage.specs.Ranges.{common_in_range}
-use Rattle.passage.proofs.CommonLaws.{left, common-start, common-now}
-use Rattle.book.specs.Entries.{plan_wide, plan_body_of}
-use Rattle.book.specs.Rules.{all_plans}
-use Rattle.book.proofs.PlanLaws.{bodies_from, plans-start, plans-step, plans-end}
-use Rattle.passage.specs.inner.Roles.{all_common}
+use Rattle.passage.proofs.CommonLaws.{common-start, common-now}
+use Rattle.book.specs.Entries.{plan_wide}
+use Rattle.book.proofs.PlanLaws.{plans-start, plans-step, plans-end}
 use Rattle.book.proofs.plans_in_range.Goals as goal
 
 pub loop-i-init : goal.loop-i-init

@@ -1,7 +1,6 @@
 use mathlib.Core.Path.{◌≡◌}
 use mathlib.Core.Bool.{true}
 use mathlib.Core.List.{map}
-use Prim.Native.Nat.{◌-◌, ◌≤◌}
 use Rattle.lists.specs.Rows.{rows_of}
 use Rattle.passage.proofs.CommonLaws.{left}
 use Rattle.book.specs.Entries.{plan_wide, plan_body_of}

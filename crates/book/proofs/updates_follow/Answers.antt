@@ -1,15 +1,9 @@
-use mathlib.Core.Path.{◌≡◌, sym, ◌∙◌}
-use mathlib.Core.Bool.{true}
-use Prim.Native.Nat.{◌+◌, ◌*◌}
+use mathlib.Core.Path.{sym, ◌∙◌}
 use native.Mathlib.Omega.{arith}
-use Rattle.lists.specs.Part.{part}
-use Rattle.passage.specs.Layout.{body_wide}
-use Rattle.passage.specs.Ranges.{common_in_range}
-use Rattle.passage.proofs.CommonLaws.{left, common-start, common-now}
+use Rattle.passage.proofs.CommonLaws.{common-start, common-now}
 use Rattle.book.specs.Entries.{body_at, entry_wide}
 use Rattle.book.proofs.ChainLaws.{chain-start, chain-turn, chain-broken, chain-end}
 use borrow.Author.Rules.{rules}
-use Rattle.passage.specs.inner.Roles.{all_common}
 use Rattle.book.proofs.updates_follow.Goals as goal
 
 pub loop-i-init : goal.loop-i-init

@@ -10,6 +10,6 @@ returns-then-said-le5 c = refl
 
 pub returns-else-held-le5 : goal.returns-else-held-le5
 returns-else-held-le5 c = elim c.else-held-le5.branch [
-  else-held-le5-via-then-held-le5+else-said-le5 w ↦ sym (none_said _ _ w.if-held-le5.true w.if-said-le5.false)
+  | else-held-le5-via-then-held-le5+else-said-le5 w ↦ sym (none_said _ _ w.if-held-le5.true w.if-said-le5.false)
   | else-held-le5-via-else-held-le5 w ↦ sym (none-held _ _ w.if-held-le5.false)
 ]
