@@ -34,6 +34,7 @@ pub const ENTRY_WIDE: usize = BODY_AT + passage::BODY_WIDE;
 pub const MOST_BYTES: usize = 294912;
 
 // How many plan entries the used bytes begin with.
+// kept: (a) `book` is a lent area longer than what is used of it: the C calls lend it with its count beside.
 pub fn count_plans(book: &[u8], used: usize) -> usize
     requires { used ≤ length book.now }
     ensures { result ≡ plan_count used book.now }
@@ -146,6 +147,7 @@ pub fn book_room(book: &[u8]) -> usize
 }
 
 // Whether the used bytes split into entries that are in order and in range.
+// kept: (a) `book` is a lent area longer than what is used of it: the C calls lend it with its count beside.
 pub fn book_is_sound(book: &[u8], used: usize) -> bool
     ensures { result ≡ book_sound used book.now }
 {

@@ -179,6 +179,7 @@ fn join_all(
 {
     let mut m = held;
     let mut j = next_with(shared, validities, days, 0);
+    // kept: (d) the place goes to the next validity that matches, which `next_with` finds, and not one on: a `for` would test each here again.
     while j < days {
         if m == most {
             return m + 1;
@@ -217,6 +218,7 @@ fn join_one(
 }
 
 // The plan passages of all pass times, at most so many; one more is counted where there are more, and then the search ends.
+// kept: (a) no heap: pass times, validities and bodies lie in lent areas that may be longer, so their counts stand beside them.
 pub fn join(
     passes: &[u8],
     times: usize,
