@@ -7,6 +7,7 @@ use std::io::{Print, Stdout};
 
 const PAGE: usize = 4096;
 
+// kept: (d) a number goes to the page whole or not at all, as every piece does; `write!` to the page would leave a part of it.
 fn put_number(page: &mut [u8], at: usize, number: usize) -> usize {
     let mut digits = [0u8; 20];
     let mut first = 20;
@@ -53,6 +54,7 @@ fn number_at(numbers: &[usize], place: usize) -> usize {
 }
 
 // What a letter behind a mark stands for: a digit a word of the line, a capital a number, a small letter to `j` a number of two digits, x, y and z a text.
+// kept: (d) the letters are those of the marks in the words; a word of a script is bytes that need be no text, which no `{}` prints.
 fn put_named(
     page: &mut [u8],
     at: usize,
@@ -92,6 +94,7 @@ fn put_piece(
 }
 
 // Words with what their marks stand for, from a place of the page on; the place behind them.
+// kept: (d) a turn ends behind its mark's letter; over the parts between marks the first, which has no letter, would stand apart.
 fn put(
     page: &mut [u8],
     start: usize,

@@ -45,6 +45,7 @@ impl Day {
     }
 
     // b and t lend a book and a table of so many bytes, p and q change one of theirs, u and v set the counts.
+    // kept: (d) the letters are the input's own, one line for each.
     fn lend(&mut self, letter: u8, first: usize, second: usize) {
         let value = script_text::low_byte(second);
         match letter {
@@ -59,6 +60,7 @@ impl Day {
     }
 
     // r puts a pair as `r3 CXX` behind the register, z so many zero bytes; R begins it anew.
+    // kept: (d) the letters are the input's own, one line for each.
     fn enrol(&mut self, letter: u8, first: usize, owner: &[u8]) {
         let end = self.register;
         self.register = match letter {
@@ -70,6 +72,7 @@ impl Day {
     }
 
     // k keeps the dossier under a number from 0 to 3, / as the planning.
+    // kept: (d) the letters are the input's own, one line for each.
     fn keep(&mut self, letter: u8, number: usize) {
         let dossier = script_text::part(&self.desk, DOSSIER, self.dossier);
         match letter {
@@ -80,6 +83,7 @@ impl Day {
     }
 
     // + puts a line with its line end behind the dossier, - bytes without one, x so many letters; 0 begins it anew, g by the one that is kept under a number, and so does / once it is kept.
+    // kept: (d) the letters are the input's own, one line for each.
     fn write(&mut self, letter: u8, first: usize, text: &[u8]) {
         self.keep(letter, first);
         let end = self.dossier;
@@ -99,6 +103,7 @@ impl Day {
     }
 
     // O opens, M is a message from a sender, with its form behind it where that is not 0, W withdraws a message for a sender. What is answered is printed, and the counts are held.
+    // kept: (d) the letters are the input's own, one line for each.
     fn call(&mut self, out: Stdout, letter: u8, first: usize, second: usize) {
         let counts = self.counts;
         let dossier = script_text::part(&self.desk, DOSSIER, self.dossier);

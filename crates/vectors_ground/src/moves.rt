@@ -34,6 +34,7 @@ fn down(s: &mut [u8; 8], to: usize, count: usize, by: usize) {
     lists::shift_down(s, first, count.min(8 - first - step), step);
 }
 
+// kept: (d) the letters are the input's own, one line for each.
 pub fn moved(out: Stdout, letter: u8, vector: &[u8]) {
     let mut s = *b"abcdefgh";
     let tail = parts::tail(vector);

@@ -5,6 +5,7 @@ use reader::Fault;
 use std::io::{Print, Stdout};
 
 // What is held between two lines: the letter of the group's reader; sender and register, the dossier behind them from its place on, and where it ends.
+// kept: (d) the letter is the input's own, and says which reader is meant.
 #[derive(Drop)]
 pub struct Desk {
     letter: u8,

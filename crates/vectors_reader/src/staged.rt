@@ -4,6 +4,7 @@ ghost use Rattle.std.specs.Prelude.{◌<◌};
 use std::io::{Print, Stdout};
 
 // How wide the rows of a reader are.
+// kept: (d) the letters are the input's own, one line for each.
 fn width(letter: u8) -> usize
     ensures { 0 < result }
 {
@@ -15,6 +16,7 @@ fn width(letter: u8) -> usize
 }
 
 // Where in a row a field begins, but for the first.
+// kept: (d) the letters are the input's own, one line for each.
 fn starts(letter: u8) -> &'static [u8] {
     match letter {
         b'p' => &[10, 20, 24, 25, 35, 37, 47, 57, 60, 63, 64],
