@@ -43,6 +43,7 @@ pub fn is_owned(table: &[u8], at: usize, owner: &[u8]) -> bool
 }
 
 // What the show rule looks at in a row, but for its stop and stop type.
+// kept: (a) the fields are the bytes of a row of the lent table, which are laid out by number.
 #[derive(Clone, Copy)]
 struct Passing {
     moment: ClockSeconds,

@@ -49,6 +49,7 @@ fn is_loud(x: u8) -> bool
 }
 
 // The first loud byte from i on, or the length.
+// kept: (a) the promise names the place, which is the length where no byte is loud, and the loops go on from it.
 pub fn quiet_end(dossier: &[u8], i: usize) -> usize
     requires { i ≤ length dossier.now }
     ensures { result ≡ i + quiet_for (drop i dossier.now) }
@@ -86,6 +87,7 @@ fn null_end(dossier: &[u8], j: usize) -> Result<usize, usize>
 }
 
 // From the backslash at j in a field's text; `fresh`: it begins the field.
+// kept: (d) `fresh` is a fact about the place, which the loop carries on, and chooses no step by itself.
 fn escape_end(dossier: &[u8], j: usize, fresh: bool) -> Result<usize, usize>
     requires { (j < length dossier.now) × (get_or dossier.now j 0 ≡ 92) }
     ensures ahead { Ahead j (length dossier.now) result }
@@ -127,6 +129,7 @@ fn ret_end(dossier: &[u8], j: usize) -> Result<usize, usize>
 }
 
 // From the first field of a line at i, past its CR LF.
+// kept: (d) a turn is as long as the text and the escape that it finds, so that there is no range to go over.
 fn line_end(dossier: &[u8], i: usize) -> Result<usize, usize>
     requires { i ≤ length dossier.now }
     ensures ahead { Ahead i (length dossier.now) result }
@@ -204,6 +207,7 @@ fn whole_line(k: Kind, dossier: &[u8], i: usize) -> Result<(Kind, usize), usize>
 }
 
 // Whether the bytes are a well-formed dossier, or where they fault.
+// kept: (d) a turn is as long as its line, so that there is no range to go over.
 pub fn check_syntax(dossier: &[u8]) -> Result<(), usize>
     ensures { result ≡ fault dossier.now }
 {

@@ -10,6 +10,7 @@ ghost use Rattle.syntax_scan.specs.inner.Turn.{NullField, Passed, from_turn};
 use syntax::{Kind, State};
 
 // In a field's text; `fresh`: at its first byte.
+// kept: (d) the two states of text, told apart by where the text stands.
 fn text_state(fresh: bool, kind: Kind) -> State
     ensures { result ≡ in_text fresh kind }
 {
@@ -86,6 +87,7 @@ fn advance(state: State, bytes: &[u8], i: usize) -> Result<(State, usize), usize
 }
 
 // Where the bytes of a part lead from the state on, or the first that may not stand there.
+// kept: (d) a turn is as long as the run of bytes that it passes, so that there is no range to go over.
 pub fn scan(state: State, bytes: &[u8]) -> Result<State, usize>
     ensures { result ≡ scanned state bytes.now 0 }
 {
