@@ -218,6 +218,7 @@ fn smaller(left: usize, right: usize) -> usize
 }
 
 // The rest goes behind the bytes that are held, as far as it fits, and zeros behind it.
+// kept: (a) no heap: the lent area has a fixed size, and `size` says how much of it the unfinished line takes.
 fn hold_bytes(line: &mut [u8], size: usize, rest: &[u8])
     requires { length line.old ≡ 4096 }
     ensures { line.new ≡ over size rest.now (over 0 (take size line.old) no_bytes) }
@@ -234,6 +235,7 @@ fn hold_bytes(line: &mut [u8], size: usize, rest: &[u8])
 // ---- bytes
 
 // Bytes that the machine takes, up to where it stands: the lines that end in them, and the rest.
+// kept: (d) a turn takes the line that is found, so that there is no range to go over.
 fn feed_lines(
     feed: Feed,
     machine: State,
