@@ -61,6 +61,7 @@ pub fn form_of(number: u32) -> Form
 }
 
 // How wide a row of each is.
+// kept: a width and a count are no conversion of a table, and share nothing but the names of the tables.
 pub fn row_width(table: Table) -> usize
     ensures { result ≡ row_width table }
 {
@@ -103,6 +104,7 @@ fn yes_no_kind(form: Form) -> Kind
 }
 
 // The kind of column j of a message.
+// kept: the kind at a place is no conversion of the place: it is a row of the list of columns.
 fn message_kind(form: Form, index: usize) -> Kind
     requires { index < 16 }
     ensures { result ≡ kind_at (Message form) index }
@@ -173,6 +175,7 @@ pub fn kind_of(table: Table, index: usize) -> Kind
 }
 
 // Where the cell of column j of a message begins in a row, in either form.
+// kept: the offset at a place is no conversion of the place: it is a row of the list of columns.
 fn message_offset(index: usize) -> usize
     requires { index < 16 }
     ensures { result ≡ offset (Message Old) index }

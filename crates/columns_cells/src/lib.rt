@@ -19,6 +19,7 @@ pub fn is_null(field: &[u8]) -> bool
 }
 
 // A number in so many bytes.
+// kept: here and below the flag is the whole answer, with no value beside it: the bytes go straight into the row, and an Option<()> would say the same.
 pub fn write_number(number: Option<u32>, size: usize, row: &mut [u8], at: usize) -> bool
     requires { (0 < size) × (at + size ≤ length row.old) }
     ensures some { result ≡ some (number_cell size number) }

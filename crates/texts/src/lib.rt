@@ -7,6 +7,7 @@ ghost use Rattle.texts.specs.Texts.{padded, text};
 ghost use Rattle.texts.specs.inner.Steps.{kept_step, step_of, plain};
 
 // What one more byte of a text does: it begins an escape, or gives a byte.
+// kept: a step that gives no byte is not a missing one, and `step_at` answers None for a byte that is refused.
 #[derive(Clone, Copy)]
 enum Step {
     Mark,
@@ -27,6 +28,7 @@ fn kept_step(b: u8) -> Option<Step>
 }
 
 // The step of byte `b`, none where no text holds it; `after` says that it stands after a backslash.
+// kept: a flag of one place of a field, read byte by byte, chooses no step to be handed in.
 fn step_at(after: bool, b: u8) -> Option<Step>
     ensures { result ≡ step_of after b }
 {
