@@ -169,6 +169,7 @@ pub fn in_stamp_range(seconds: u32) -> bool
 }
 
 // ---- words
+// kept: what a word gives is a number and no enum, since it is the byte of a row, which C is lent.
 
 // B: 0 or 1.
 pub fn read_bit(field: &[u8]) -> Option<u32>
