@@ -58,8 +58,7 @@ pub fn write_entries(tail: &mut [u8], number: u32, sender: u8, bodies: &[u8], en
     requires { (entries * entry_wide ≤ length tail.old) × (entries * body_wide ≤ length bodies.now) }
     ensures { tail.new ≡ over 0 (flat (entries_of number sender (rows_of body_wide entries bodies.now))) tail.old }
 {
-    let mut i = 0;
-    while i < entries {
+    for i in 0..entries {
         write_entry(
             tail,
             i * book::ENTRY_WIDE,
@@ -68,7 +67,6 @@ pub fn write_entries(tail: &mut [u8], number: u32, sender: u8, bodies: &[u8], en
             bodies,
             i * passage::BODY_WIDE,
         );
-        i += 1;
     }
 }
 
@@ -77,9 +75,7 @@ pub fn mark_withdrawn(book: &mut [u8], at: usize, entries: usize)
     requires { at + entries * entry_wide ≤ length book.old }
     ensures { book.new ≡ over at (flat (map marked_withdrawn (rows_of entry_wide entries (drop at book.old)))) book.old }
 {
-    let mut i = 0;
-    while i < entries {
+    for i in 0..entries {
         book[at + i * book::ENTRY_WIDE] = 3;
-        i += 1;
     }
 }

@@ -8,15 +8,15 @@ use borrow.Author.Rules.{rules}
 use Rattle.book_write.proofs.mark_withdrawn.Goals as goal
 
 pub loop-i-init : goal.loop-i-init
-loop-i-init c = (search rules, refl, marks-start _ _)
+loop-i-init c = marks-start _ _
 
 pub loop-i-preserved : goal.loop-i-preserved
 loop-i-preserved c =
     let l = c.loop-i in
     let a = c.args in
-    (omega arith, simp length-set l.invariant.1, marks-turn a.at a.book.now l.i l.book (omega arith) l.invariant.2)
+    marks-turn a.at a.book.now l.i l.book (omega arith) l.invariant
 
 pub returns : goal.returns
 returns c =
     let a = c.args in
-    c.loop-i.invariant.2 ∙ ap (λ (i : ℕ). over a.at (marks a.at a.book.now i) a.book.now) (omega arith)
+    c.loop-i.invariant ∙ ap (λ (i : ℕ). over a.at (marks a.at a.book.now i) a.book.now) (omega arith)

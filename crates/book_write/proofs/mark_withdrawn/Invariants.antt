@@ -6,7 +6,4 @@ use Rattle.book_write.proofs.WriteLaws.{marks}
 use Rattle.book_write.proofs.mark_withdrawn.Given as goal
 
 abbrev pub invariant-loop-i : goal.invariant-loop-i
-invariant-loop-i l = (l.i ≤ l.entries) × (length l.book ≡ length l.initial.book) × (l.book ≡ over l.at (marks l.at l.initial.book l.i) l.initial.book)
-
-abbrev pub decreases-loop-i : goal.decreases-loop-i
-decreases-loop-i l = l.entries - l.i
+invariant-loop-i l = l.book ≡ over l.at (marks l.at l.initial.book l.i) l.initial.book

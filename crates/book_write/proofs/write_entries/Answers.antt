@@ -9,16 +9,15 @@ use borrow.Author.Rules.{rules}
 use Rattle.book_write.proofs.write_entries.Goals as goal
 
 pub loop-i-init : goal.loop-i-init
-loop-i-init c = (search rules, refl, written_start _ _ _ _)
+loop-i-init c = written_start _ _ _ _
 
 pub loop-i-preserved : goal.loop-i-preserved
 loop-i-preserved c =
     let l = c.loop-i in
     let a = c.args in
-    let t = written-turn a.number a.sender a.bodies.now l.i a.tail.now l.tail c.write_entry.new.tail (omega arith) c.write_entry.ensures l.invariant.2 in
-    (search rules, ap length t ∙ length_over _ _ _, t)
+    written-turn a.number a.sender a.bodies.now l.i a.tail.now l.tail c.write_entry.new.tail (omega arith) c.write_entry.ensures l.invariant
 
 pub returns : goal.returns
 returns c =
     let a = c.args in
-    c.loop-i.invariant.2 ∙ ap (λ (i : ℕ). over 0 (written a.number a.sender a.bodies.now i) a.tail.now) (omega arith)
+    c.loop-i.invariant ∙ ap (λ (i : ℕ). over 0 (written a.number a.sender a.bodies.now i) a.tail.now) (omega arith)

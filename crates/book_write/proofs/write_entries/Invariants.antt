@@ -6,7 +6,4 @@ use Rattle.book_write.proofs.WriteLaws.{written}
 use Rattle.book_write.proofs.write_entries.Given as goal
 
 abbrev pub invariant-loop-i : goal.invariant-loop-i
-invariant-loop-i l = (l.i ≤ l.entries) × (length l.tail ≡ length l.initial.tail) × (l.tail ≡ over 0 (written l.number l.sender l.bodies l.i) l.initial.tail)
-
-abbrev pub decreases-loop-i : goal.decreases-loop-i
-decreases-loop-i l = l.entries - l.i
+invariant-loop-i l = l.tail ≡ over 0 (written l.number l.sender l.bodies l.i) l.initial.tail
