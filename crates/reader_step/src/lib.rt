@@ -54,6 +54,7 @@ impl TryFrom<u64> for Place {
 
 // What is kept of the lines so far: the place behind them, and the shape of the last labels.
 // `line` is the number of the line to come; `form`, `wrong` with `column`, and `owner` are the first lines at fault, 0 for none.
+// kept: the C interface: these are the numbers that are lent between two parts, 0 for none, where a column may stand without a wrong line and is given back (`kept_of`, `feed_of`).
 #[derive(Clone, Copy)]
 pub struct State {
     pub place: Place,
@@ -71,10 +72,11 @@ fn moved_to(state: State, place: Place) -> State
     requires { state.line < 4294967296 }
     ensures { result ≡ moved state place }
 {
-    let mut n = state;
-    n.place = place;
-    n.line = state.line + 1;
-    n
+    State {
+        place,
+        line: state.line + 1,
+        ..state
+    }
 }
 
 // A fault of form in this line.
@@ -82,10 +84,11 @@ fn form_fault(state: State) -> State
     requires { state.line < 4294967296 }
     ensures { result ≡ misformed state }
 {
-    let mut n = state;
-    n.form = state.line;
-    n.line = state.line + 1;
-    n
+    State {
+        form: state.line,
+        line: state.line + 1,
+        ..state
+    }
 }
 
 // Under new labels.
@@ -93,11 +96,12 @@ fn under_labels(state: State, shape: Shape) -> State
     requires { state.line < 4294967296 }
     ensures { result ≡ labelled state shape }
 {
-    let mut n = state;
-    n.place = Place::Under;
-    n.line = state.line + 1;
-    n.shape = shape;
-    n
+    State {
+        place: Place::Under,
+        line: state.line + 1,
+        shape,
+        ..state
+    }
 }
 
 // A field outside its type, in a column of this line.
@@ -105,11 +109,12 @@ fn wrong_field(state: State, column: usize) -> State
     requires { state.line < 4294967296 }
     ensures { result ≡ mistyped state column }
 {
-    let mut n = state;
-    n.wrong = state.line;
-    n.column = column;
-    n.line = state.line + 1;
-    n
+    State {
+        wrong: state.line,
+        column,
+        line: state.line + 1,
+        ..state
+    }
 }
 
 // An owner for which the sender is not registered.
@@ -117,10 +122,11 @@ fn wrong_owner(state: State) -> State
     requires { state.line < 4294967296 }
     ensures { result ≡ disowned state }
 {
-    let mut n = state;
-    n.owner = state.line;
-    n.line = state.line + 1;
-    n
+    State {
+        owner: state.line,
+        line: state.line + 1,
+        ..state
+    }
 }
 
 // One row more.
@@ -128,10 +134,11 @@ fn one_more(state: State) -> State
     requires { (state.line < 4294967296) × (state.rows < 4294967296) }
     ensures { result ≡ one_row_more state }
 {
-    let mut n = state;
-    n.rows = state.rows + 1;
-    n.line = state.line + 1;
-    n
+    State {
+        rows: state.rows + 1,
+        line: state.line + 1,
+        ..state
+    }
 }
 
 fn label_step(state: State, shape: Shape) -> State
