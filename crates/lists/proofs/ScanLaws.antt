@@ -109,3 +109,14 @@ rest-first {may} {l} {rest} n {i} {a} {k} e q h c f =
     let z : length l / n * n ≡ n * a = mul_comm (length l / n) n ∙ ap (λ x. n * x) (sym q) in
     let w : n * a ≤ length l = omega (arith, mul-div-le (length l) n, ap (λ x. n * x) q) in
     first-behind may l (n * a) k w (λ j v. c j (omega (arith, mul-le-mul_left n h))) (subst (λ b. IsFirst may b k) (e ∙ ap (λ x. drop x l) z) f)
+
+-- where a test first holds is how many bytes f counts before it, where f counts by the test
+pub first-counted :
+    {may : ℕ → Bool → Type 0} (f : List ℕ → ℕ) → f [] ≡ 0 → ((b : ℕ) (l : List ℕ) → may b true → f (b ∷ l) ≡ 0) → ((b : ℕ) (l : List ℕ) → may b false → f (b ∷ l) ≡ suc (f l))
+    → (l : List ℕ) (n : ℕ) → IsFirst may l n → n ≡ f l
+first-counted f none hit miss [] n g = omega (arith, g.within, none)
+first-counted f none hit miss (b ∷ l) zero g = sym (hit b l (g.there (omega arith)))
+first-counted {may} f none hit miss (b ∷ l) (suc n) g =
+    let h : n ≤ length l = omega (arith, g.within) in
+    let r : IsFirst may l n = record { within = h; clear = λ k w. g.clear (suc k) (omega arith); there = λ w. g.there (omega arith) } in
+    ap suc (first-counted {may = may} f none hit miss l n r) ∙ sym (miss b l (g.clear 0 (omega arith)))

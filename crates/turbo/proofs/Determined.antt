@@ -17,6 +17,8 @@ use Rattle.turbo.proofs.read_field.Kinds as read-field
 use Rattle.turbo.proofs.read_field.Reads as read-field-reads
 use Rattle.turbo.proofs.cut.Kinds as cut
 use Rattle.turbo.proofs.cut.Reads as cut-reads
+use Rattle.turbo.proofs.split.Kinds as split
+use Rattle.turbo.proofs.split.Reads as split-reads
 use Rattle.turbo.proofs.field_of.Kinds as field_of
 use Rattle.turbo.proofs.field_of.Reads as field-of-reads
 use Rattle.turbo.proofs.count_fields.Kinds as count-fields
@@ -51,6 +53,12 @@ cut-before-determined κs a x y s t p q = p.0 ∙ sym q.0
 
 pub cut-behind-determined : Determined 1 cut.ps cut.r cut-reads.Post (λ κs x s. x.1.now)
 cut-behind-determined κs a x y s t p q = p.1 ∙ sym q.1
+
+pub split-before-determined : Determined 1 split.ps split.r split-reads.Post (λ κs x s. x.0.now)
+split-before-determined κs a x y s t p q = p.0 ∙ sym q.0
+
+pub split-behind-determined : Determined 1 split.ps split.r split-reads.Post (λ κs x s. x.1.now)
+split-behind-determined κs a x y s t p q = p.1 ∙ sym q.1
 
 pub field-of-determined : Determined 1 field_of.ps field_of.r field-of-reads.Post (λ κs x s. x.now)
 field-of-determined κs a x y s t p q = p ∙ sym q

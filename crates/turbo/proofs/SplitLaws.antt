@@ -1,8 +1,7 @@
 use Prim.Native.Nat.{ℕ, zero, suc, ◌+◌, ◌≤◌, ◌<◌, ◌-◌}
 use native.Mathlib.Numerals.{add-one}
 use native.Mathlib.Omega.{arith}
-use native.Mathlib.Decide.{dec_lt}
-use mathlib.Core.Path.{◌≡◌, refl, sym, ap, subst, ◌∙◌}
+use mathlib.Core.Path.{◌≡◌, refl, sym, ap, ◌∙◌}
 use mathlib.Core.Bool.{Bool, true, false}
 use mathlib.Core.List.{List, [], ◌∷◌}
 use borrow.Author.Tests.{ltb-true, ltb-false, eq-eqb, ne_eqb}
@@ -12,6 +11,7 @@ use lib.Dec.{eqb, ltb}
 use Rattle.lists.specs.Logic.{on}
 use Rattle.lists.specs.Scan.{IsFirst}
 use Rattle.lists.proofs.PartLaws.{tail_all}
+use Rattle.lists.proofs.ScanLaws.{first-counted}
 use Rattle.turbo.specs.Split.{until, past, into_first, fields, field_at, tail_at}
 
 -- Laws of fields: by the first of them, and what the walk over them cites. Assumes nothing.
@@ -64,19 +64,6 @@ fields-one (b ∷ l) h = go (eqb b 124) h (fields-one l)
     go true g f = absurd (omega arith)
     go false g f = rw (f (omega arith)) refl
 
--- what a loop over the bytes cites
-pub until-hit : (x : ℕ) (l : List ℕ) (i : ℕ) → i < length l → get_or l i 0 ≡ x → length (until x (drop i l)) ≡ 0
-unfolding until
-until-hit x l i h e = rw (drop-cons l i 0 h) (rw (eq-eqb _ _ e))
-
-pub until-miss : (x : ℕ) (l : List ℕ) (i : ℕ) → i < length l → (get_or l i 0 ≡ x → ⊥) → length (until x (drop i l)) ≡ suc (length (until x (drop (i + 1) l)))
-unfolding until
-until-miss x l i h e = rw (add-one, drop-cons l i 0 h) (rw (ne_eqb _ _ e))
-
-pub until_end : (x : ℕ) (l : List ℕ) (i : ℕ) → length l ≤ i → length (until x (drop i l)) ≡ 0
-unfolding until
-until_end x l i h = rw (drop_of_length-le l h)
-
 -- a line with no x
 pub until-all : (x : ℕ) (l : List ℕ) → length l ≤ length (until x l) → until x l ≡ l
 until-all x l h = sym (until-take x l) ∙ take_all _ l h
@@ -116,16 +103,6 @@ rest-is x n l e = tail_all (n + 1) l ∙ rw (e, add-one) (sym (past-drop x l))
 pub past_is : (x n : ℕ) (l : List ℕ) → n ≡ length (until x l) → drop (n + 1) l ≡ past x l
 past_is x n l e = rw (e, add-one) (sym (past-drop x l))
 
-pub rest-none : (x n : ℕ) (l : List ℕ) → n ≡ length (until x l) → length l ≤ n → take (length l - n) (drop n l) ≡ past x l
-rest-none x n l e h = tail_all n l ∙ drop_of_length-le l h ∙ sym (past-none x l (omega arith))
-
--- the fields by the first bar, at n where it was found
-pub fields-cons : (l : List ℕ) (n : ℕ) → n ≡ length (until 124 l) → n < length l → fields l ≡ take n l ∷ fields (take (length l - (n + 1)) (drop (n + 1) l))
-fields-cons l n e h = rw (rest-is 124 n l e, upto_is 124 n l e) (fields-more l (omega arith))
-
-pub fields-last : (l : List ℕ) (n : ℕ) → n ≡ length (until 124 l) → n ≡ length l → fields l ≡ take n l ∷ []
-fields-last l n e h = rw (take_all n l (omega arith)) (fields-one l (omega arith))
-
 -- the fields of a tail
 pub field-tail : (k : ℕ) (l : List ℕ) → until 124 (tail_at k l) ≡ field_at k l
 unfolding tail_at
@@ -159,25 +136,13 @@ fields-some (b ∷ l) = go (eqb b 124) (fields-some l)
     go true h = omega arith
     go false h = omega (arith, onto-length b (fields l) h)
 
--- a block without x
-pub until-free : (x : ℕ) (l : List ℕ) (i n : ℕ) → i + n ≤ length l → ((m : ℕ) → m < n → get_or l (i + m) 0 ≡ x → ⊥) → length (until x (drop i l)) ≡ n + length (until x (drop (i + n) l))
-until-free x l i zero h f = let e : i + 0 ≡ i = omega arith in rw e (omega arith)
-until-free x l i (suc n) h f =
-    let e : i + suc n ≡ i + n + 1 = omega arith in
-    let a = until-free x l i n (omega arith) (λ m w. f m (omega arith)) in
-    let b = until-miss x l (i + n) (omega arith) (f n (omega arith)) in
-    rw e (omega arith)
-
 -- where a test first holds that tells the byte x
 pub first-until : {may : ℕ → Bool → Type 0} {n : ℕ} (x : ℕ) (l : List ℕ) → IsFirst may l n → ((b : ℕ) → may b false → b ≡ x → ⊥) → ((b : ℕ) → may b true → b ≡ x) → n ≡ length (until x l)
-first-until {may} {n} x l f miss hit =
-    let z : 0 + n ≡ n = omega arith in
-    let u : length (until x l) ≡ n + length (until x (drop (0 + n) l)) = until-free x l 0 n (omega (arith, f.within)) (λ m w. miss (get_or l (0 + m) 0) (subst (λ i. may (get_or l i 0) false) (sym (zero_more m)) (f.clear m w))) in
-    omega (arith, u, ap (λ i. length (until x (drop i l))) z, go (dec_lt n (length l)))
+unfolding until
+first-until {may} {n} x l f miss hit = first-counted {may = may} (λ l. length (until x l)) refl there past l n f
   where
-    zero_more : (m : ℕ) → 0 + m ≡ m
-    zero_more m = omega arith
+    there : (b : ℕ) (l : List ℕ) → may b true → length (on (eqb b x) [] (b ∷ until x l)) ≡ 0
+    there b l p = rw (eq-eqb b x (hit b p)) refl
 
-    go : Dec (n < length l) → length (until x (drop n l)) ≡ 0
-    go (yes h) = until-hit x l n h (hit (get_or l n 0) (f.there h))
-    go (no h) = until_end x l n (omega (arith, h))
+    past : (b : ℕ) (l : List ℕ) → may b false → length (on (eqb b x) [] (b ∷ until x l)) ≡ suc (length (until x l))
+    past b l p = rw (ne_eqb b x (miss b p)) refl

@@ -39,7 +39,7 @@ pub fn find_far(bytes: &[u8], byte: u8) -> usize
     lists::scan::find_far(bytes, move |b| b == byte)
 }
 
-// ---- fields
+// ---- parts
 
 // What stands before place n, and what behind the so many bytes from there on; nothing where no more are left.
 pub fn cut<'a>(bytes: &'a [u8], n: usize, width: usize) -> (&'a [u8], &'a [u8])
@@ -51,12 +51,22 @@ pub fn cut<'a>(bytes: &'a [u8], n: usize, width: usize) -> (&'a [u8], &'a [u8])
     (before, rest.get(width..).unwrap_or(&[]))
 }
 
+// What stands before the first such byte, and what behind it; nothing where there is none.
+pub fn split<'a>(bytes: &'a [u8], byte: u8) -> (&'a [u8], &'a [u8])
+    ensures before { result.0.now ≡ until byte bytes.now }
+    ensures behind { result.1.now ≡ past byte bytes.now }
+{
+    cut(bytes, find(bytes, byte), 1)
+}
+
+// ---- fields
+
 // The first field of a tail, and the tail that starts after its bar; nothing where there is no bar.
 pub fn read_field<'a>(tail: &'a [u8]) -> (&'a [u8], &'a [u8])
     ensures field { result.0.now ≡ until 124 tail.now }
     ensures tail { result.1.now ≡ past 124 tail.now }
 {
-    cut(tail, find(tail, b'|'), 1)
+    split(tail, b'|')
 }
 
 // The first field of a tail.
