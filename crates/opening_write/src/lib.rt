@@ -40,6 +40,7 @@ fn write_plan(tail: &mut [u8], bodies: &[u8], order: &[u32], n: usize)
 }
 
 // The rows of the n bodies, in this order.
+// kept: (d) beside `write_plan`: a function for both would take the writing of one as a closure that is lent the whole area, and its contract would say what that writes, which is longer than the loop.
 fn write_rows(table: &mut [u8], bodies: &[u8], order: &[u32], n: usize)
     requires row_wide_in_bounds { (n * row_wide ≤ length table.old) × (n * body_wide ≤ length bodies.now) × (n ≤ length order.now) }
     requires each { Each (λ (j : ℕ). j < n) (take n order.now) }
