@@ -7,16 +7,16 @@ use Prim.Native.Nat.{ℕ, zero, suc, ◌+◌, ◌-◌, ◌*◌, ◌%◌, ◌≤�
 use native.Mathlib.Nat.{le_of_suc-le-suc, not-suc-le-zero}
 use native.Mathlib.Numerals.{add-one}
 use native.Mathlib.Omega.{arith}
-use borrow.Author.Tests.{leb-true, leb-false, lt-leb, le-leb}
+use borrow.Author.Tests.{leb-true, leb-false, lt-leb, le-leb, not-true}
 use lib.Dec.{leb}
-use lib.ListN.{length, take, drop, get_or, set, replicate, drop_of_length-le}
-use lib.Seq.{drop-cons}
-use Rattle.lists.specs.Logic.{within}
+use lib.ListN.{length, take, drop, get_or, set, replicate, drop_of_length-le, length-drop}
+use lib.Seq.{drop-cons, take_all}
+use Rattle.lists.specs.Logic.{on, within}
+use Rattle.lists.specs.Scan.{IsFirst}
 use Rattle.lists.specs.Part.{onto, over}
-use Rattle.lists.proofs.PartLaws.{tail_all, tail-length}
+use Rattle.lists.proofs.PartLaws.{tail_all}
+use Rattle.lists.proofs.ScanLaws.{first-counted}
 use Rattle.lists.proofs.OverLaws.{over-nil}
-use Rattle.turbo.specs.Split.{until, past}
-use Rattle.turbo.proofs.SplitLaws.{past-drop, upto_is}
 use Rattle.script_text.specs.Rules.{is_blank, is_kind, run_in, from_word, word_from, word_at, leading_from, place_behind, appended}
 
 -- ---- parts
@@ -25,9 +25,18 @@ use Rattle.script_text.specs.Rules.{is_blank, is_kind, run_in, from_word, word_f
 pub front-is : (n : ℕ) (l : List ℕ) → take (n - 0) l ≡ take n l
 front-is n l = let e : n - 0 ≡ n = omega arith in ap (λ (k : ℕ). take k l) e
 
--- up to the first x, at n where it was found
-pub before-is : (x n : ℕ) (l : List ℕ) → n ≡ length (until x l) → take (n - 0) l ≡ until x l
-before-is x n l e = front-is n l ∙ upto_is x n l e
+-- a front, at m where it ends
+pub take_min : (n m : ℕ) (l : List ℕ) → m ≡ min n (length l) → take m l ≡ take n l
+take_min n m l e = go (leb n (length l)) refl
+  where
+    go : (t : Bool) → leb n (length l) ≡ t → take m l ≡ take n l
+    go true q =
+        let h = leb-true n (length l) q in
+        let z : m ≡ n = omega (arith, h) in
+        ap (λ (k : ℕ). take k l) z
+    go false q =
+        let h = leb-false n (length l) q in
+        take_all m l (omega (arith, h)) ∙ sym (take_all n l (omega (arith, h)))
 
 pub drop_min : (a : ℕ) (l : List ℕ) → drop (min a (length l)) l ≡ drop a l
 drop_min a l = go (leb a (length l)) refl
@@ -46,29 +55,48 @@ drop_min a l = go (leb a (length l)) refl
 pub part-is : (a n : ℕ) (f l : List ℕ) → n ≡ min a (length f) → f ≡ l → take (length f - n) (drop n f) ≡ drop a l
 part-is a n f l e g = tail_all n f ∙ ap (λ (k : ℕ). drop k f) e ∙ drop_min a f ∙ ap (drop a) g
 
-pub after_none : (n : ℕ) (l : List ℕ) → length l ≤ n → [] ≡ drop (n + 1) l
-after_none n l h = sym (drop_of_length-le l {i = n + 1} (omega arith))
+-- behind a place, at m where it is, or at the end
+pub after-min : (n m : ℕ) (l : List ℕ) → m ≡ min n (length l) → drop (m + 1) l ≡ drop (n + 1) l
+after-min n m l e = go (leb n (length l)) refl
+  where
+    go : (t : Bool) → leb n (length l) ≡ t → drop (m + 1) l ≡ drop (n + 1) l
+    go true q =
+        let h = leb-true n (length l) q in
+        let z : m ≡ n = omega (arith, h) in
+        ap (λ (k : ℕ). drop (k + 1) l) z
+    go false q =
+        let h = leb-false n (length l) q in
+        drop_of_length-le l {i = m + 1} (omega (arith, h)) ∙ sym (drop_of_length-le l {i = n + 1} (omega (arith, h)))
 
-pub after-shorter : (n : ℕ) (l : List ℕ) → length (take (length l - (n + 1)) (drop (n + 1) l)) ≤ length l - 1
-after-shorter n l = rw (tail-length (n + 1) l) (omega arith)
-
--- what stands behind the first x, at n where it was found
-pub behind-is : (x n : ℕ) (l : List ℕ) → n ≡ length (until x l) → drop (n + 1) l ≡ past x l
-behind-is x n l e = rw (e, add-one) (sym (past-drop x l))
+-- it is shorter, unless nothing is there
+pub after-shorter : (n : ℕ) (l r : List ℕ) → r ≡ drop (n + 1) l → length r ≤ length l - 1
+after-shorter n l r e = omega (arith, ap length e, length-drop (n + 1) l)
 
 -- ---- words
 
-pub run-stop : (t : Bool) (l : List ℕ) (i : ℕ) → i < length l → is_kind t (get_or l i 0) ≡ false → run_in t (drop i l) ≡ 0
-unfolding run_in
-run-stop t l i h e = rw (drop-cons l i 0 h) (rw e)
+-- a byte of the other kind
+kind-off : (t : Bool) (b : ℕ) → is_kind (not t) b ≡ true → is_kind t b ≡ false
+kind-off true b e = not-true (is_blank b) e
+kind-off false b e = ap not e
 
-pub run_on : (t : Bool) (l : List ℕ) (i : ℕ) → i < length l → is_kind t (get_or l i 0) ≡ true → run_in t (drop i l) ≡ suc (run_in t (drop (i + 1) l))
-unfolding run_in
-run_on t l i h e = rw (add-one, drop-cons l i 0 h) (rw e)
+kind-on : (t : Bool) (b : ℕ) → is_kind (not t) b ≡ false → is_kind t b ≡ true
+kind-on true b e = go (is_blank b) e
+  where
+    go : (r : Bool) → not r ≡ false → r ≡ true
+    go true q = refl
+    go false q = absurd (true≢false q)
+kind-on false b e = ap not e
 
-pub run_end : (t : Bool) (l : List ℕ) (i : ℕ) → length l ≤ i → run_in t (drop i l) ≡ 0
+-- where a test first holds that tells bytes of the other kind
+pub run-first : {may : ℕ → Bool → Type 0} {n : ℕ} (t : Bool) (l : List ℕ) → IsFirst may l n → ((b : ℕ) → may b true → is_kind (not t) b ≡ true) → ((b : ℕ) → may b false → is_kind (not t) b ≡ false) → n ≡ run_in t l
 unfolding run_in
-run_end t l i h = rw (drop_of_length-le l h)
+run-first {may} {n} t l f off on_ = first-counted {may = may} (run_in t) refl there past_ l n f
+  where
+    there : (b : ℕ) (l : List ℕ) → may b true → on (is_kind t b) (suc (run_in t l)) 0 ≡ 0
+    there b l p = rw (kind-off t b (off b p)) refl
+
+    past_ : (b : ℕ) (l : List ℕ) → may b false → on (is_kind t b) (suc (run_in t l)) 0 ≡ suc (run_in t l)
+    past_ b l p = rw (kind-on t b (on_ b p)) refl
 
 pub from-word : (l : List ℕ) (n : ℕ) → n ≡ run_in true l → take (length l - n) (drop n l) ≡ from_word l
 unfolding from_word
@@ -116,17 +144,6 @@ leading-on n m l i h e f = rw (add-one, drop-cons l i 0 h) (rw (e, f))
 pub leading_end : (n : ℕ) (l : List ℕ) (i : ℕ) → length l ≤ i → leading_from n (drop i l) ≡ n
 unfolding leading_from
 leading_end n l i h = rw (drop_of_length-le l h)
-
-pub low_byte : (b : ℕ) → b < 48 → within 48 57 b ≡ false
-low_byte b h = rw (lt-leb 48 b h)
-
-pub high_byte : (b : ℕ) → 57 < b → within 48 57 b ≡ false
-high_byte b h =
-    let e = le-leb 48 b (omega arith) in
-    rw (e, lt-leb b 57 h)
-
-pub digit-byte : (b : ℕ) → 48 ≤ b → b ≤ 57 → within 48 57 b ≡ true
-digit-byte b h k = rw (le-leb 48 b h, le-leb b 57 k)
 
 -- ---- writes
 

@@ -15,10 +15,7 @@ pub fn at_most(number: usize, most: usize) -> usize
     ensures is { result ≡ min number most }
     ensures within { result ≤ most }
 {
-    if most < number {
-        return most;
-    }
-    number
+    number.min(most)
 }
 
 // The last byte of a number.
@@ -47,20 +44,15 @@ fn with_digit(n: usize, b: u8) -> usize
 pub fn leading_number(text: &[u8]) -> usize
     ensures { result ≡ leading_from 0 text.now }
 {
-    let mut n: usize = 0;
-    let mut i = 0;
-    while i < text.len() {
-        let b = text[i];
-        if b < 48 {
-            return n;
+    let mut number = 0;
+    for b in text {
+        if (b'0'..=b'9').contains(b) {
+            number = with_digit(number, *b);
+        } else {
+            return number;
         }
-        if 57 < b {
-            return n;
-        }
-        n = with_digit(n, b);
-        i += 1;
     }
-    n
+    number
 }
 
 // What a hexadecimal digit stands for.
@@ -94,10 +86,7 @@ pub fn at(text: &[u8], place: usize) -> u8
 pub fn front<'a>(text: &'a [u8], count: usize) -> &'a [u8]
     ensures { result.now ≡ take count text.now }
 {
-    if count < text.len() {
-        return &text[0..count];
-    }
-    text
+    &text[..at_most(count, text.len())]
 }
 
 // What stands behind a place. It is shorter than the text, unless that is empty: so loops end.
@@ -105,11 +94,7 @@ pub fn after<'a>(text: &'a [u8], place: usize) -> &'a [u8]
     ensures is { result.now ≡ drop (place + 1) text.now }
     ensures shorter { length result.now ≤ length text.now - 1 }
 {
-    if place < text.len() {
-        let a = place + 1;
-        return &text[a..];
-    }
-    &text[0..0]
+    turbo::cut(text, at_most(place, text.len()), 1).1
 }
 
 // From one byte on, up to another.
@@ -117,16 +102,14 @@ pub fn part<'a>(text: &'a [u8], from: usize, end: usize) -> &'a [u8]
     ensures { result.now ≡ drop from (take end text.now) }
 {
     let f = front(text, end);
-    let n = at_most(from, f.len());
-    &f[n..]
+    &f[at_most(from, f.len())..]
 }
 
 // What stands before the first such byte, or all.
 pub fn before<'a>(text: &'a [u8], byte: u8) -> &'a [u8]
     ensures { result.now ≡ until byte text.now }
 {
-    let n = turbo::find(text, byte);
-    &text[0..n]
+    turbo::split(text, byte).0
 }
 
 // What stands behind the first such byte; nothing where there is none.
@@ -134,8 +117,7 @@ pub fn behind<'a>(text: &'a [u8], byte: u8) -> &'a [u8]
     ensures is { result.now ≡ past byte text.now }
     ensures shorter { length result.now ≤ length text.now - 1 }
 {
-    let n = turbo::find(text, byte);
-    after(text, n)
+    after(text, turbo::find(text, byte))
 }
 
 // The first line, without its LF.
@@ -159,12 +141,7 @@ pub fn rest_after_line<'a>(text: &'a [u8]) -> &'a [u8]
 fn is_blank(b: u8) -> bool
     ensures { result ≡ is_blank b }
 {
-    match b {
-        9 => true,
-        13 => true,
-        32 => true,
-        _ => false,
-    }
+    (b == b'\t') | ((b == b'\r') | (b == b' '))
 }
 
 // Whether b is a blank, or whether it is none.
@@ -182,31 +159,21 @@ fn run_of(s: &[u8], blank: bool) -> usize
     ensures is { result ≡ run_in blank s.now }
     ensures within { result ≤ length s.now }
 {
-    let mut i = 0;
-    while i < s.len() {
-        if is_kind(s[i], blank) {
-            i += 1;
-        } else {
-            return i;
-        }
-    }
-    i
+    lists::scan::find_near(s, move |b| is_kind(b, !blank))
 }
 
 // s from its first word on.
 fn from_word<'a>(s: &'a [u8]) -> &'a [u8]
     ensures { result.now ≡ from_word s.now }
 {
-    let n = run_of(s, true);
-    &s[n..]
+    &s[run_of(s, true)..]
 }
 
 // What t, which begins with a word, has from its second word on.
 fn next_word<'a>(t: &'a [u8]) -> &'a [u8]
     ensures { result.now ≡ from_word (drop (run_in false t.now) t.now) }
 {
-    let n = run_of(t, false);
-    from_word(&t[n..])
+    from_word(&t[run_of(t, false)..])
 }
 
 // The word at a place of a line, from 0; nothing where it has fewer.
@@ -214,14 +181,10 @@ pub fn word<'a>(line: &'a [u8], place: usize) -> &'a [u8]
     ensures { result.now ≡ word_at place line.now }
 {
     let mut t = from_word(line);
-    let mut left = place;
-    while 0 < left {
-        let u = next_word(t);
-        t = u;
-        left -= 1;
+    for passed in 0..place {
+        t = next_word(t);
     }
-    let n = run_of(t, false);
-    &t[0..n]
+    &t[..run_of(t, false)]
 }
 
 // ---- Reads.

@@ -1,12 +1,13 @@
 -- `after` meets its contract. Assumes nothing.
-use native.Mathlib.Omega.{arith}
-use Rattle.lists.proofs.PartLaws.{tail_all}
-use Rattle.script_text.proofs.TextLaws.{after_none, after-shorter}
-use Prim.Native.Nat.{◌+◌}
+use mathlib.Core.Path.{◌∙◌}
+use Rattle.script_text.proofs.TextLaws.{after-min, after-shorter}
 use Rattle.script_text.proofs.after.Goals as goal
 
-pub returns-then-place-text : goal.returns-then-place-text
-returns-then-place-text c = let a = c.args in record { is = tail_all (a.place + 1) a.text.now; shorter = after-shorter a.place a.text.now }
+pub cut-requires : goal.cut-requires
+cut-requires c = c.at_most.ensures.within
 
-pub returns : goal.returns
-returns c = let a = c.args in record { is = after_none a.place a.text.now c.if-place-text.false; shorter = omega arith }
+pub returns-clause-is : goal.returns-clause-is
+returns-clause-is c = c.cut.ensures.behind ∙ after-min _ _ _ c.at_most.ensures.is
+
+pub returns-clause-shorter : goal.returns-clause-shorter
+returns-clause-shorter c = after-shorter c.args.place c.args.text.now _ (c.cut.ensures.behind ∙ after-min _ _ _ c.at_most.ensures.is)

@@ -1,29 +1,31 @@
 -- `leading_number` meets its contract. Assumes nothing.
+use Prim.Native.Nat.{ℕ, ◌+◌, ◌<◌, ◌≤◌}
 use native.Mathlib.Omega.{arith}
-use mathlib.Core.Path.{refl, sym, ◌∙◌}
-use Rattle.script_text.proofs.TextLaws.{leading-stop, leading-on, leading_end, low_byte, high_byte, digit-byte}
+use mathlib.Core.Path.{◌≡◌, refl, sym, ◌∙◌}
+use mathlib.Core.Bool.{true, false}
+use lib.ListN.{length, get_or}
+use Rattle.lists.specs.Logic.{within}
+use Rattle.lists.proofs.LogicLaws.{within-true}
+use Rattle.lists.proofs.RangeLaws.{range-within}
+use Rattle.script_text.proofs.TextLaws.{leading-stop, leading-on, leading_end}
 use Rattle.script_text.proofs.leading_number.Goals as goal
 
-pub loop-i-init : goal.loop-i-init
-loop-i-init c = (omega arith, refl)
+pub with_digit-number-requires : goal.with_digit-number-requires
+with_digit-number-requires c =
+    let w = c.contains.ensures.value ∙ range-within c.new.result 48 57 _ c.new.ensures.start c.new.ensures.end c.new.ensures.exhausted in
+    within-true 48 57 _ (sym w ∙ c.if-contains.true)
 
-pub returns-then-b-lt48 : goal.returns-then-b-lt48
-returns-then-b-lt48 c = sym (leading-stop _ _ _ c.loop-i-test.true (low_byte _ c.if-b-lt48.true)) ∙ c.loop-i.invariant.1
+pub loop-b-preserved : goal.loop-b-preserved
+loop-b-preserved c =
+    let l = c.loop-b in
+    let w = c.contains.ensures.value ∙ range-within c.new.result 48 57 _ c.new.ensures.start c.new.ensures.end c.new.ensures.exhausted in
+    sym (leading-on l.number _ c.args.text.now l.b-index (omega arith) (sym w ∙ c.if-contains.true) c.with_digit-number.ensures) ∙ l.invariant
 
-pub returns-then-b-gt57 : goal.returns-then-b-gt57
-returns-then-b-gt57 c = sym (leading-stop _ _ _ c.loop-i-test.true (high_byte _ c.if-b-gt57.true)) ∙ c.loop-i.invariant.1
-
-pub with_digit-n-requires : goal.with_digit-n-requires
-with_digit-n-requires c = omega arith
-
-pub overflow_add-i : goal.overflow_add-i
-overflow_add-i c = omega arith
-
-pub loop-i-smaller : goal.loop-i-smaller
-loop-i-smaller c = omega arith
-
-pub loop-i-preserved : goal.loop-i-preserved
-loop-i-preserved c = (omega arith, sym (leading-on _ _ _ _ c.loop-i-test.true (digit-byte _ c.if-b-lt48.false c.if-b-gt57.false) c.with_digit-n.ensures) ∙ c.loop-i.invariant.1)
+pub returns-else-contains : goal.returns-else-contains
+returns-else-contains c =
+    let l = c.loop-b in
+    let w = c.contains.ensures.value ∙ range-within c.new.result 48 57 _ c.new.ensures.start c.new.ensures.end c.new.ensures.exhausted in
+    sym (leading-stop l.number c.args.text.now l.b-index (omega arith) (sym w ∙ c.if-contains.false)) ∙ l.invariant
 
 pub returns : goal.returns
-returns c = sym (leading_end _ _ _ c.loop-i-test.false) ∙ c.loop-i.invariant.1
+returns c = let l = c.loop-b in sym (leading_end l.number c.args.text.now l.b-index (omega arith)) ∙ l.invariant

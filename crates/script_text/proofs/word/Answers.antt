@@ -1,32 +1,26 @@
 -- `word` meets its contract. Assumes nothing.
+use Prim.Native.Nat.{ℕ, ◌-◌, ◌+◌, ◌<◌}
 use native.Mathlib.Omega.{arith}
-use mathlib.Core.Path.{◌≡◌, ◌∙◌}
-use Rattle.script_text.proofs.TextLaws.{word-start, word_next, word_end}
+use mathlib.Core.Path.{◌≡◌, sym, ap, ◌∙◌}
+use Rattle.script_text.specs.Rules.{word_from}
+use Rattle.script_text.proofs.TextLaws.{front-is, word-start, word_next, word_end}
 use Rattle.script_text.proofs.word.Goals as goal
 
-pub from_word-t-requires : goal.from_word-t-requires
-from_word-t-requires c = tt
+pub loop-passed-init : goal.loop-passed-init
+loop-passed-init c =
+    let e : c.args.place - 0 ≡ c.args.place = omega arith in
+    ap (λ (k : ℕ). word_from k c.from_word-t.result.now) e ∙ word-start _ _ _ c.from_word-t.ensures
 
-pub loop-left-init : goal.loop-left-init
-loop-left-init c = word-start _ _ _ c.from_word-t.ensures
-
-pub next_word-u-requires : goal.next_word-u-requires
-next_word-u-requires c = tt
-
-pub overflow_sub-left : goal.overflow_sub-left
-overflow_sub-left c = omega arith
-
-pub loop-left-smaller : goal.loop-left-smaller
-loop-left-smaller c = omega arith
-
-pub loop-left-preserved : goal.loop-left-preserved
-loop-left-preserved c = let l = c.loop-left in word_next l.left l.t.now c.next_word-u.result.now c.loop-left-test.true c.next_word-u.ensures ∙ l.invariant
-
-pub run_of-n-requires : goal.run_of-n-requires
-run_of-n-requires c = tt
-
-pub slice_bounds-result-count : goal.slice_bounds-result-count
-slice_bounds-result-count c = omega arith
+pub loop-passed-preserved : goal.loop-passed-preserved
+loop-passed-preserved c =
+    let l = c.loop-passed in
+    let k = c.args.place - l.passed in
+    let e : c.args.place - (l.passed + 1) ≡ c.args.place - l.passed - 1 = omega arith in
+    let h : 0 < c.args.place - l.passed = omega arith in
+    ap (λ (k : ℕ). word_from k c.next_word-t.result.now) e ∙ word_next (c.args.place - l.passed) l.t.now c.next_word-t.result.now h c.next_word-t.ensures ∙ l.invariant
 
 pub returns : goal.returns
-returns c = let l = c.loop-left in let z : l.left ≡ 0 = omega arith in word_end l.left c.run_of-n.result l.t.now z c.run_of-n.ensures.is ∙ l.invariant
+returns c =
+    let l = c.loop-passed in
+    let z : c.args.place - l.passed ≡ 0 = omega arith in
+    sym (front-is c.run_of.result l.t.now) ∙ word_end (c.args.place - l.passed) c.run_of.result l.t.now z c.run_of.ensures.is ∙ l.invariant
