@@ -103,7 +103,8 @@ fn entry_is_sound(book: &[u8], at: usize, last: Head) -> bool
 {
     let head = head_at(book, at);
     let follows = (head.number as u64 == last.number as u64 + 1)
-        | ((head.number == last.number) & ((head.sender == last.sender) & (head.kind == last.kind)));
+        | ((head.number == last.number)
+            & ((head.sender == last.sender) & (head.kind == last.kind)));
     (((2 <= head.kind) & (head.kind <= 3))
         & ((1 <= head.sender) & passage::update_in_range(book, at + BODY_AT)))
         & follows
@@ -135,8 +136,7 @@ fn updates_are_sound(book: &[u8], at: usize, entries: usize) -> bool
     requires { at + entries * entry_wide ≤ length book.now }
     ensures { result ≡ chained no_entry (rows_of entry_wide entries (drop at book.now)) }
 {
-    passage::all_common(book, at, ENTRY_WIDE, BODY_AT, entries)
-        && updates_follow(book, at, entries)
+    passage::all_common(book, at, ENTRY_WIDE, BODY_AT, entries) && updates_follow(book, at, entries)
 }
 
 // Of the lent book, what may be used.

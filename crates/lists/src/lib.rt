@@ -9,6 +9,7 @@ ghost use Rattle.lists.specs.Part.{part, over};
 ghost use Rattle.lists.specs.BigEndian.{number, spelled};
 
 // Whether the two slices hold the same bytes.
+// kept: (a) this and the four below are std's methods, and promise in the words of specs/ (`same`, `over`, `part`) what theorems and the rooms above cite.
 pub fn same_bytes(left: &[u8], right: &[u8]) -> bool
     ensures { result ≡ same left.now right.now }
 {

@@ -28,13 +28,13 @@ returns c =
     granted a.register.now a.sender _ c.any.result c.if-sender-eq0.false
     (match-map c.any.result
     (λ h.
-      let f = chunk-found r.0 pair_wide a.register.now run _ (h (λ x q k l. search rules)) in
-      let m = f.2.1 in
-      let e : true ≡ same f.2.0.now (a.sender ∷ lent) = search rules in
-      (f.0, omega (arith, f.1), sym f.2.2 ∙ same-equal _ _ (sym e) ∙ ap (λ (t : List ℕ). a.sender ∷ t) owner))
+    let f = chunk-found r.0 pair_wide a.register.now run _ (h (λ x q k l. search rules)) in
+    let m = f.2.1 in
+    let e : true ≡ same f.2.0.now (a.sender ∷ lent) = search rules in
+    (f.0, omega (arith, f.1), sym f.2.2 ∙ same-equal _ _ (sym e) ∙ ap (λ (t : List ℕ). a.sender ∷ t) owner))
     (λ h. λ i l.
-      let f = chunk-each r.0 pair_wide a.register.now run _ h.0 (h.1 (λ x q k m. search rules)) a.register i l in
-      let m = f.1 in
-      let e : false ≡ same f.0.now (a.sender ∷ lent) = search rules in
-      ap (λ (t : List ℕ). same t (a.sender ∷ part a.at text_wide a.row.now)) (sym f.2) ∙ ap (λ (t : List ℕ). same f.0.now (a.sender ∷ t)) (sym owner) ∙ sym e)
+    let f = chunk-each r.0 pair_wide a.register.now run _ h.0 (h.1 (λ x q k m. search rules)) a.register i l in
+    let m = f.1 in
+    let e : false ≡ same f.0.now (a.sender ∷ lent) = search rules in
+    ap (λ (t : List ℕ). same t (a.sender ∷ part a.at text_wide a.row.now)) (sym f.2) ∙ ap (λ (t : List ℕ). same f.0.now (a.sender ∷ t)) (sym owner) ∙ sym e)
     r.2)
