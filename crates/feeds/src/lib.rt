@@ -15,6 +15,7 @@ use syntax::{Kind, State};
 
 // What is kept of the bytes so far. `form` is any number; that it is unknown is answered at the end. `at`: how many they are, one more than the largest dossier standing for any more. `fault`: the first byte at fault, counted from 1;
 // `long`: the first line that is too long; 0 for none. `size`: the bytes of the unfinished line, its CR too. `staged`: how many rows lie in the staging area.
+// kept: the C interface: 0 for none is what is lent between two parts (`kept_of`, `feed_of`).
 #[derive(Clone, Copy)]
 pub struct Feed {
     pub sender: u8,
@@ -29,6 +30,7 @@ pub struct Feed {
 }
 
 // ---- the machine as a number
+// kept: the C interface: the numbers are those that it lends, and an impl of From would stand with the types in `syntax`, which knows none of them.
 
 fn kind_number(kind: Kind) -> u64
     ensures is { result ≡ kind_number kind }
@@ -121,10 +123,8 @@ fn keep_places(kept: &mut [u64; 48], places: [usize; 20])
     ensures kept { kept.new ≡ over 18 places kept.old }
     ensures room { length places ≡ 20 }
 {
-    let mut i: usize = 0;
-    while i < 20 {
+    for i in 0..20 {
         kept[18 + i] = places[i] as u64;
-        i += 1;
     }
 }
 
@@ -196,11 +196,9 @@ pub fn keep(kept: &mut [u64; 48], feed: Feed)
 fn places_in(kept: [u64; 48]) -> [usize; 20]
     ensures { result ≡ part 18 20 kept }
 {
-    let mut places = [0usize; 20];
-    let mut i: usize = 0;
-    while i < 20 {
+    let mut places = [0; 20];
+    for i in 0..20 {
         places[i] = kept[18 + i] as usize;
-        i += 1;
     }
     places
 }
@@ -252,12 +250,10 @@ fn feed_in(kept: [u64; 48]) -> Option<Feed>
 fn clear_behind(kept: [u64; 48]) -> bool
     ensures { result ≡ zeros (drop 38 kept) }
 {
-    let mut i: usize = 38;
-    while i < 48 {
+    for i in 38..48 {
         if kept[i] != 0 {
             return false;
         }
-        i += 1;
     }
     true
 }

@@ -1,4 +1,4 @@
-use Prim.Native.Nat.{◌-◌, ◌≤◌}
+use Prim.Native.Nat.{◌≤◌}
 use mathlib.Core.Path.{◌≡◌}
 use lib.ListN.{length, drop}
 use Rattle.feeds.specs.Kept.{zeros}
@@ -6,6 +6,3 @@ use Rattle.feeds.proofs.clear_behind.Given as goal
 
 abbrev pub invariant-loop-i : goal.invariant-loop-i
 invariant-loop-i l = (l.i ≤ 48) × (length l.kept ≡ 48) × (zeros (drop l.i l.kept) ≡ zeros (drop 38 l.kept))
-
-abbrev pub decreases-loop-i : goal.decreases-loop-i
-decreases-loop-i l = 48 - l.i
