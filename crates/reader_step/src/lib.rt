@@ -55,6 +55,7 @@ impl TryFrom<u64> for Place {
 // What is kept of the lines so far: the place behind them, and the shape of the last labels.
 // `line` is the number of the line to come; `form`, `wrong` with `column`, and `owner` are the first lines at fault, 0 for none.
 // kept: the C interface: these are the numbers that are lent between two parts, 0 for none, where a column may stand without a wrong line and is given back (`kept_of`, `feed_of`).
+// kept: the C interface: the shape stands beside the place and not in `Place::Under`, since its numbers are given back at every place.
 #[derive(Clone, Copy)]
 pub struct State {
     pub place: Place,
