@@ -24,18 +24,10 @@ fn lengthen(feed: Feed, more: usize) -> Feed
     requires { (feed.at + more ≤ 4294967296) × (feed.size + more ≤ 4294967296) }
     ensures { result ≡ longer more feed }
 {
-    let machine = feed.machine;
-    let lines = feed.lines;
     Feed {
-        sender: feed.sender,
-        form: feed.form,
         at: feed.at + more,
-        machine,
-        fault: feed.fault,
         size: feed.size + more,
-        long: feed.long,
-        staged: feed.staged,
-        lines,
+        ..feed
     }
 }
 
@@ -43,18 +35,7 @@ fn lengthen(feed: Feed, more: usize) -> Feed
 fn stand(feed: Feed, machine: State) -> Feed
     ensures { result ≡ stands_at machine feed }
 {
-    let lines = feed.lines;
-    Feed {
-        sender: feed.sender,
-        form: feed.form,
-        at: feed.at,
-        machine,
-        fault: feed.fault,
-        size: feed.size,
-        long: feed.long,
-        staged: feed.staged,
-        lines,
-    }
+    Feed { machine, ..feed }
 }
 
 // So many bytes that are only counted.
@@ -64,26 +45,11 @@ fn count(feed: Feed, more: usize) -> Feed
 {
     let at = feed.at;
     if 65537 - at < more {
-        return move_to(feed, 65537);
+        return Feed { at: 65537, ..feed };
     }
-    move_to(feed, at + more)
-}
-
-fn move_to(feed: Feed, at: usize) -> Feed
-    ensures { result ≡ moved_to at feed }
-{
-    let machine = feed.machine;
-    let lines = feed.lines;
     Feed {
-        sender: feed.sender,
-        form: feed.form,
-        at,
-        machine,
-        fault: feed.fault,
-        size: feed.size,
-        long: feed.long,
-        staged: feed.staged,
-        lines,
+        at: at + more,
+        ..feed
     }
 }
 
@@ -92,18 +58,10 @@ fn at_fault(feed: Feed) -> Feed
     requires { feed.at < 65536 }
     ensures { result ≡ faulted feed }
 {
-    let machine = feed.machine;
-    let lines = feed.lines;
     Feed {
-        sender: feed.sender,
-        form: feed.form,
         at: feed.at + 1,
-        machine,
         fault: feed.at + 1,
-        size: feed.size,
-        long: feed.long,
-        staged: feed.staged,
-        lines,
+        ..feed
     }
 }
 
@@ -112,17 +70,13 @@ fn end_line(feed: Feed, long: usize, staged: usize, lines: reader_step::State) -
     requires { feed.at < 65536 }
     ensures { result ≡ line_ended feed.machine long staged lines feed }
 {
-    let machine = feed.machine;
     Feed {
-        sender: feed.sender,
-        form: feed.form,
         at: feed.at + 1,
-        machine,
-        fault: feed.fault,
         size: 0,
         long,
         staged,
         lines,
+        ..feed
     }
 }
 
@@ -133,10 +87,9 @@ fn skip(feed: Feed, long: usize) -> Feed
     requires { (feed.at < 65536) × (feed.lines.line < 4294967296) }
     ensures { result ≡ line_ended feed.machine long feed.staged (moved feed.lines feed.lines.place) feed }
 {
-    let staged = feed.staged;
     let mut lines = feed.lines;
-    lines.line = lines.line + 1;
-    end_line(feed, long, staged, lines)
+    lines.line += 1;
+    end_line(feed, long, feed.staged, lines)
 }
 
 // How many rows lie in the staging area: one more where a row came, all before it lie there, and it does too.
@@ -151,23 +104,13 @@ fn staged_after(table: Table, before: usize, after: usize, staged: usize, room: 
     staged
 }
 
-// How many bytes a line has without its CR.
-fn without_return(size: usize) -> usize
-    ensures { result ≡ size - 1 }
-{
-    if size == 0 {
-        return 0;
-    }
-    size - 1
-}
-
 // A line that is read: its bytes with the CR.
 fn read_line(feed: Feed, bytes: &[u8], register: &[u8], staging: &mut [u8]) -> Feed
     requires { (feed.at < 65536) × FeedFits feed }
     ensures feed { result ≡ line_on register.now (take (length bytes.now - 1) bytes.now) feed staging.old }
     ensures area { staging.new ≡ line_staged (message_of feed) register.now feed.sender feed.lines (take (length bytes.now - 1) bytes.now) staging.old }
 {
-    let end = without_return(bytes.len());
+    let end = bytes.len().saturating_sub(1);
     let before = feed.lines;
     let table = feeds::message_of(feed.form);
     let after = reader_step::line_step(

@@ -13,7 +13,7 @@ use Rattle.feeds_part.proofs.LineLaws.{fits-line-as, after-rows, line-on}
 use Rattle.feeds_part.proofs.read_line.Goals as goal
 
 pub slice_bounds-line_step-end : goal.slice_bounds-line_step-end
-slice_bounds-line_step-end c = sym (length-take-le _ c.args.bytes.now (omega (arith, c.without_return-end.ensures)))
+slice_bounds-line_step-end c = sym (length-take-le _ c.args.bytes.now (omega (arith, c.saturating_sub-end.ensures)))
 
 pub line_step-after-requires : goal.line_step-after-requires
 line_step-after-requires c =
@@ -24,7 +24,7 @@ pub staged_after-more-requires : goal.staged_after-more-requires
 staged_after-more-requires c =
     let n = c.line_step-after in
     let m = c.message_of-table in
-    let e = c.without_return-end in
+    let e = c.saturating_sub-end in
     after-rows c.args.register.now (take e.result c.args.bytes.now) c.args.feed n.result c.requires.1
     (n.ensures.state ∙ ap (λ (t : Table). line_step t c.args.register.now c.args.feed.sender c.args.feed.lines (take e.result c.args.bytes.now)) m.ensures)
 
@@ -36,7 +36,7 @@ returns c =
     let a = c.args in
     let n = c.line_step-after in
     let m = c.message_of-table in
-    let e = c.without_return-end in
+    let e = c.saturating_sub-end in
     let l = take e.result a.bytes.now in
     let area = n.new.staging in
     let q : take e.result a.bytes.now ≡ take (length a.bytes.now - 1) a.bytes.now = ap (λ (k : ℕ). take k a.bytes.now) e.ensures in
