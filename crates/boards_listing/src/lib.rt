@@ -5,8 +5,9 @@
 use std::io::Stdout;
 
 // What stands behind the plan entries: the updates.
-fn behind_plans<'a>(used: &'a [u8]) -> &'a [u8] {
+fn behind_plans(used: &[u8]) -> &[u8] {
     let mut rest = used;
+    // kept: what is left is the answer, which no chain of iterators over the entries gives
     while book::PLAN_WIDE <= rest.len() {
         if rest[0] != 1 {
             return rest;
@@ -49,6 +50,7 @@ fn updates(out: Stdout, entries: &[u8]) -> u32 {
     let mut last = 0;
     let mut rows = 0;
     let mut rest = entries;
+    // kept: each turn looks at the entry behind its own, and a chain that pairs the two is no plainer
     while book::ENTRY_WIDE <= rest.len() {
         rows += 1;
         let next = &rest[book::ENTRY_WIDE..];
@@ -72,29 +74,19 @@ pub fn messages(out: Stdout, line: &[u8], used: &[u8]) {
 
 // ---- The registered pairs.
 
-// The first of these pairs.
-fn pair(out: Stdout, pairs: &[u8]) {
-    let sender = script_text::at(pairs, 0) as usize;
-    let owner = script_text::before(script_text::part(pairs, 1, register::PAIR_WIDE), 0);
+// A pair: sender and owner.
+fn pair(out: Stdout, bytes: &[u8]) {
+    let sender = script_text::at(bytes, 0) as usize;
+    let owner = script_text::before(script_text::part(bytes, 1, register::PAIR_WIDE), 0);
     boards_words::tell(out, b"%A %x\n", b"", owner, b"", b"", &[sender]);
 }
 
-// Each pair, and how many there are.
-fn list_pairs(out: Stdout, pairs: &[u8]) -> usize {
-    let mut n = 0;
-    let mut rest = pairs;
-    while register::PAIR_WIDE <= rest.len() {
-        pair(out, rest);
-        let next = &rest[register::PAIR_WIDE..];
-        rest = next;
-        n += 1;
-    }
-    n
-}
-
-// The pairs of the register's used bytes, in the order in which they were registered: sender and owner.
+// The pairs of the register's used bytes, in the order in which they were registered.
 pub fn pairs(out: Stdout, line: &[u8], used: &[u8]) {
     boards_words::tell(out, b"%0\n", line, b"", b"", b"", &[0]);
-    let n = list_pairs(out, used);
-    boards_words::tell(out, b"END %A\n", line, b"", b"", b"", &[n]);
+    for bytes in used.chunks_exact(register::PAIR_WIDE) {
+        pair(out, bytes);
+    }
+    let count = used.len() / register::PAIR_WIDE;
+    boards_words::tell(out, b"END %A\n", line, b"", b"", b"", &[count]);
 }
