@@ -9,7 +9,7 @@ ghost use Rattle.lists.specs.Part.{part, over};
 ghost use Rattle.lists.specs.BigEndian.{number, spelled};
 
 // Whether the two slices hold the same bytes.
-// kept: (a) this and the four below are std's methods, and promise in the words of specs/ (`same`, `over`, `part`) what theorems and the rooms above cite.
+// kept: (a) this, `clear` and the shifts are std's methods, and promise in the words of specs/ (`same`, `over`, `part`) what theorems and the rooms above cite.
 pub fn same_bytes(left: &[u8], right: &[u8]) -> bool
     ensures { result ≡ same left.now right.now }
 {
@@ -17,11 +17,14 @@ pub fn same_bytes(left: &[u8], right: &[u8]) -> bool
 }
 
 // All of `source` is written from `at` on.
+// kept: (a) std's copy_from_slice would have the archive for C ask its caller for memmove, which no call of it needs.
 pub fn copy_to<T: Copy>(elements: &mut [T], at: usize, source: &[T])
     requires { at + length source.now ≤ length elements.old }
     ensures { elements.new ≡ over at source.now elements.old }
 {
-    elements[at..at + source.len()].copy_from_slice(source);
+    for i in 0..source.len() {
+        elements[at + i] = source[i];
+    }
 }
 
 // `count` zero bytes from `at` on.
