@@ -5,18 +5,18 @@ use native.Mathlib.Decide.{dec_lt}
 use mathlib.Core.Path.{◌≡◌, refl, sym, ap, ◌∙◌}
 use mathlib.Core.Bool.{Bool, true, false}
 use mathlib.Core.List.{List, [], ◌∷◌}
-use borrow.Author.Tests.{leb-true, leb-false, le-leb, lt-leb}
-use lib.ListN.{length, get_or, drop, set, replicate, drop_of_length-le}
+use borrow.Author.Tests.{leb-true, leb-false, ltb-true, ltb-false, le-leb, lt-leb}
+use lib.ListN.{length, get_or, drop, set, replicate, length-drop, drop_of_length-le}
 use lib.Seq.{drop-cons, get_or-set_same, get_or-set_other}
-use lib.Dec.{leb}
+use lib.Dec.{leb, ltb}
 use Rattle.std.specs.Prelude.{Option, Some, None, Result, Ok, Err, IsErr}
 use Rattle.std.specs.Option.{unwrap_or}
 use Rattle.lists.specs.Logic.{on}
 use Rattle.lists.specs.Text.{same}
 use Rattle.turbo_labels.specs.declared.Repeated.{Repeated}
-use Rattle.turbo.specs.Split.{until, fields, field_at, tail_at}
+use Rattle.turbo.specs.Split.{until, past, fields, field_at, tail_at}
 use Rattle.turbo_labels.specs.Columns.{count, column_of, repeated, place_of, any_twice, places_from, columns_of, most}
-use Rattle.turbo.proofs.SplitLaws.{field-tail}
+use Rattle.turbo.proofs.SplitLaws.{past-drop, field-tail, fields-more, fields-one, until-all}
 use Rattle.turbo_labels.specs.inner.Search.{seen_after, seen_by, sought}
 
 -- Laws of the search for column names. Assumes nothing.
@@ -28,6 +28,10 @@ fields-at l k h = rw (add-one, field-tail k l) (drop-cons (fields l) k [] h)
 
 pub fields-end : (l : List ℕ) (k : ℕ) → length (fields l) ≤ k → drop k (fields l) ≡ []
 fields-end l k h = drop_of_length-le (fields l) h
+
+-- behind its first bar a line is shorter
+pub past-less : (l : List ℕ) → length (until 124 l) < length l → length (past 124 l) < length l
+past-less l h = omega (arith, ap (λ (m : List ℕ). length m) (past-drop 124 l), length-drop (suc (length (until 124 l))) l)
 
 -- the place of a name, column by column
 module _ (w : List ℕ) where
@@ -42,6 +46,20 @@ module _ (w : List ℕ) where
   pub place-none : column_of w [] ≡ 0
   unfolding column_of
   place-none = refl
+
+  -- and by the first label of what is left of a line
+  pub place-first : (l : List ℕ) → same (until 124 l) w ≡ true → column_of w (fields l) ≡ 0
+  place-first l y = go (ltb (length (until 124 l)) (length l)) refl
+    where
+      go : (t : Bool) → ltb (length (until 124 l)) (length l) ≡ t → column_of w (fields l) ≡ 0
+      go true k = ap (column_of w) (fields-more l (ltb-true _ _ k)) ∙ place-hit (until 124 l) (fields (past 124 l)) y
+      go false k = ap (column_of w) (fields-one l (ltb-false _ _ k)) ∙ place-hit l [] (ap (λ f. same f w) (sym (until-all 124 l (ltb-false _ _ k))) ∙ y)
+
+  pub place-last : (l : List ℕ) → length (until 124 l) ≡ length l → same (until 124 l) w ≡ false → column_of w (fields l) ≡ 1
+  place-last l h y = ap (column_of w) (fields-one l (omega arith)) ∙ place-on l [] (ap (λ f. same f w) (sym (until-all 124 l (omega arith))) ∙ y) ∙ ap suc place-none
+
+  pub place-more : (l : List ℕ) → length (until 124 l) < length l → same (until 124 l) w ≡ false → column_of w (fields l) ≡ suc (column_of w (fields (past 124 l)))
+  place-more l h y = ap (column_of w) (fields-more l h) ∙ place-on (until 124 l) (fields (past 124 l)) y
 
 -- the search for one name, column by column, is by its count and its place
 less_one : (n : ℕ) → leb 1 n ≡ leb 2 (suc n)

@@ -10,16 +10,20 @@ ghost use Rattle.turbo_labels.specs.inner.Search.{seen_after, Measured};
 pub fn column_of(labels: &[u8], name: &[u8]) -> usize
     ensures { result ≡ column_of name.now (fields labels.now) }
 {
-    let columns = turbo::count_fields(labels);
     let mut rest = labels;
-    for column in 0..columns {
+    // a line has at most one label more than bytes, and ends at the first that no bar follows
+    for column in 0..labels.len() + 1 {
         let (label, behind) = turbo::read_field(rest);
         if lists::same_bytes(label, name) {
             return column;
         }
+        let is_last = label.len() == rest.len();
+        if is_last {
+            return column + 1;
+        }
         rest = behind;
     }
-    columns
+    labels.len() + 1
 }
 
 // The named column's field, a part of the lent line. The column is as `column_of` gives it, among so many columns; a name that is missing has no field, and gets no bytes.
