@@ -4,7 +4,7 @@ use native.Mathlib.Omega.{arith}
 use mathlib.Core.Path.{◌≡◌, refl, sym, ap, ◌∙◌}
 use mathlib.Core.Bool.{Bool, true, false, ◌&&◌}
 use mathlib.Core.List.{List, [], ◌∷◌}
-use borrow.Author.Tests.{lt-ltb, le-leb, ltb-true, leb-true, eqb-true}
+use borrow.Author.Tests.{lt-ltb, ltb-true, leb-true, eqb-true}
 use lib.Dec.{eqb, leb, ltb}
 use lib.ListN.{length, take, drop, get_or, replicate, length-replicate}
 use lib.Seq.{take_at, drop_at}
@@ -28,8 +28,8 @@ use Rattle.rows.specs.Shape.{shape_at}
 use Rattle.rows.proofs.RestoredLaws.{restored-none}
 use Rattle.reader_step.specs.declared.State as Lines
 use Rattle.reader_step.specs.declared.Place.{Place}
-use Rattle.reader_step.specs.declared.Place.TheVariants.{Outside, Awaiting, Under}
-use Rattle.reader_step.specs.Place.{place_number, place_at}
+use Rattle.reader_step.specs.declared.Place.TheVariants.{Outside, Awaiting, Under, Other}
+use Rattle.reader_step.specs.Place.{is_known, place_number, place_at}
 use Rattle.reader_step.specs.Step.{moved, line_step}
 use Rattle.feeds.specs.declared.Feed.{Feed}
 use Rattle.feeds.specs.Feed.{Fed, no_bytes, message_of, counted, line_ended, runs_over, row_stays, skipped, line_read, ended, held_on, taken, is_open, fed_byte, fed}
@@ -91,15 +91,11 @@ machine-few (InsideEsc k) = let n = kind-few k in omega arith
 machine-few (Null k) = let n = kind-few k in omega arith
 machine-few (Ret k) = let n = kind-few k in omega arith
 
-place-back : (p : Place) → place_at (place_number p) ≡ p
-place-back Outside = refl
-place-back Awaiting = refl
-place-back Under = refl
-
-place-few : (p : Place) → place_number p ≤ 2
-place-few Outside = omega arith
-place-few Awaiting = omega arith
-place-few Under = omega arith
+place-back : (p : Place) → is_known p ≡ true → place_at (place_number p) ≡ p
+place-back Outside h = refl
+place-back Awaiting h = refl
+place-back Under h = refl
+place-back (Other n) h = absurd (let z : ◌≡◌ {A = ℕ} 0 1 = cc in omega arith)
 
 -- ---- written and read back
 
@@ -140,19 +136,19 @@ feed-back : (f : Feed) → FeedFits f → feed_of (kept_of f) ≡ f
 feed-back f fits =
     let h = f.lines.shape in
     feed-is f
-    ∙ ap (λ (p : Place). with-shape f p (machine_at (machine_number f.machine)) (shape_at (message_of f) h.count h.stop (part 18 20 (kept_of f)))) (place-back f.lines.place)
+    ∙ ap (λ (p : Place). with-shape f p (machine_at (machine_number f.machine)) (shape_at (message_of f) h.count h.stop (part 18 20 (kept_of f)))) (place-back f.lines.place (may-facts f fits.may).known)
     ∙ ap (λ (m : Machine.State). with-shape f f.lines.place m (shape_at (message_of f) h.count h.stop (part 18 20 (kept_of f)))) (machine-back f.machine)
     ∙ ap (λ (ps : List ℕ). with-shape f f.lines.place f.machine (shape_at (message_of f) h.count h.stop ps)) (places-back f fits.shape.0)
     ∙ ap (with-shape f f.lines.place f.machine) (sym fits.shape.1)
 
-begun-is : (f : Feed) → is_begun (kept_of f) ≡ (ltb (machine_number f.machine) 32 && leb (place_number f.lines.place) 2 && zeros (drop 38 (kept_of f)) && feed_may (feed_of (kept_of f)))
+begun-is : (f : Feed) → is_begun (kept_of f) ≡ (ltb (machine_number f.machine) 32 && zeros (drop 38 (kept_of f)) && feed_may (feed_of (kept_of f)))
 unfolding is_begun kept_of
 begun-is f = refl
 
 pub kept_read : KeptIsRead
 kept_read f fits =
     let back = feed-back f fits in (
-      begun-is f ∙ rw (lt-ltb (machine_number f.machine) 32 (machine-few f.machine), le-leb (place_number f.lines.place) 2 (place-few f.lines.place), zeros-back f fits.shape.0) (ap feed_may back ∙ fits.may),
+      begun-is f ∙ rw (lt-ltb (machine_number f.machine) 32 (machine-few f.machine), zeros-back f fits.shape.0) (ap feed_may back ∙ fits.may),
       back,
     )
 
@@ -167,8 +163,8 @@ shape_of k room = shape-kept (Tables.Message (form_of (get_or k 2 0))) (get_or k
 pub begun-fits : BegunFits
 unfolding is_begun
 begun-fits k room h =
-    let t = all_pass (eqb (get_or k 0 0) 1) (ltb (get_or k 4 0) 32 ∷ leb (get_or k 9 0) 2 ∷ zeros (drop 38 k) ∷ feed_may (feed_of k) ∷ []) h in
-    record { may = t 4; shape = shape_of k room }
+    let t = all_pass (eqb (get_or k 0 0) 1) (ltb (get_or k 4 0) 32 ∷ zeros (drop 38 k) ∷ feed_may (feed_of k) ∷ []) h in
+    record { may = t 3; shape = shape_of k room }
 
 -- ---- a feed that begins
 
@@ -191,6 +187,7 @@ new-fits sender form h g =
             form = omega arith;
             wrong = omega arith;
             owner = omega arith;
+            known = refl;
             labels = λ e. absurd (let n = ap place_number e in omega arith);
           });
       shape = (length-replicate {A = ℕ} 20 0, sym (restored-none (message_of (new_feed sender form))));
@@ -201,7 +198,7 @@ new-fits sender form h g =
 lined-of : (f : Feed) → FeedFits f → Lined (message_of f) f.lines
 lined-of f fits =
     let m = may-facts f fits.may in
-    record { first = m.first; rows = m.rows; form = m.form; wrong = m.wrong; owner = m.owner; labels = m.labels; shape = fits.shape }
+    record { first = m.first; rows = m.rows; form = m.form; wrong = m.wrong; owner = m.owner; known = m.known; labels = m.labels; shape = fits.shape }
 
 -- more bytes, of no line's end
 pub bytes_fit : (f : Feed) (n : ℕ) (machine : Machine.State) (fault size : ℕ) → FeedFits f → f.at ≤ n → n ≤ 65537 → fault ≤ n → size ≤ n
@@ -226,6 +223,7 @@ bytes_fit f n machine fault size fits h k a b =
             form = m.form;
             wrong = m.wrong;
             owner = m.owner;
+            known = m.known;
             labels = m.labels;
           });
       shape = fits.shape;
@@ -256,6 +254,7 @@ line-fits f machine long staged n fits h t a b =
             form = l.form;
             wrong = l.wrong;
             owner = l.owner;
+            known = l.known;
             labels = l.labels;
           });
       shape = l.shape;

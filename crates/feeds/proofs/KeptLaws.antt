@@ -5,7 +5,7 @@ use native.Mathlib.Numerals.{add-one}
 use mathlib.Core.Path.{◌≡◌, refl, sym, ap, subst, ◌∙◌}
 use mathlib.Core.Bool.{Bool, true, false, not, ◌&&◌, ◌||◌}
 use mathlib.Core.List.{List, [], ◌∷◌, ◌++◌}
-use borrow.Author.Tests.{ne_eqb, lt-ltb, le-leb, ltb-true, leb-true, eqb-true}
+use borrow.Author.Tests.{ne_eqb, lt-ltb, le-leb, lt-leb, ltb-true, leb-true, eqb-true, eqb-false}
 use lib.Dec.{eqb, leb, ltb}
 use lib.ListN.{length, drop, get_or, set, replicate}
 use lib.Seq.{drop-cons, drop-length}
@@ -14,7 +14,7 @@ use Rattle.lists.specs.Part.{part, onto, over}
 use Rattle.lists.proofs.OverLaws.{over-nil, onto-fits}
 use Rattle.lists.proofs.PartLaws.{part-zero, part-snoc, length_part}
 use Rattle.lists.proofs.TurnLaws.{put_up}
-use Rattle.lists.proofs.LogicLaws.{and-true, and-pass, all_pass, not-then}
+use Rattle.lists.proofs.LogicLaws.{and-pass, all_pass, not-then}
 use Rattle.syntax.specs.declared.State as Machine
 use Rattle.syntax.specs.declared.Kind.TheVariants.{Nothing}
 use Rattle.syntax.specs.declared.State.TheVariants.{Open}
@@ -23,8 +23,8 @@ use Rattle.std.specs.Prelude.{Option, Some, None, Result, Ok, Err}
 use Rattle.std.specs.Result.{result_ok}
 use Rattle.reader_step.specs.declared.State as Lines
 use Rattle.reader_step.specs.declared.Place.{Place}
-use Rattle.reader_step.specs.declared.Place.TheVariants.{Outside, Awaiting, Under}
-use Rattle.reader_step.specs.Place.{is_under, place_number, place_at, place_read}
+use Rattle.reader_step.specs.declared.Place.TheVariants.{Outside, Awaiting, Under, Other}
+use Rattle.reader_step.specs.Place.{is_under, is_known, place_number, place_at, place_read}
 use Rattle.feeds.specs.declared.Feed.{Feed}
 use Rattle.feeds.specs.Kept.{machine_number, zeros, kept_of, lines_of, feed_of, lines_may, feed_may, is_begun, new_feed, read_of}
 use Rattle.feeds.specs.inner.Numbers.{numbers_may, lines_read, feed_read, read_fitting}
@@ -100,6 +100,7 @@ pub record May (f : Feed) : Type 0 where
   pub form : f.lines.form < f.lines.line
   pub wrong : f.lines.wrong < f.lines.line
   pub owner : f.lines.owner < f.lines.line
+  pub known : is_known f.lines.place ≡ true
   pub labels : f.lines.place ≡ Under → f.lines.shape.fault ≡ false
 
 labels-pass : (p : Place) (b : Bool) → not (is_under p) || not b ≡ true → p ≡ Under → b ≡ false
@@ -110,6 +111,7 @@ pass-labels : (p : Place) (b : Bool) → (p ≡ Under → b ≡ false) → not (
 pass-labels Outside b h = refl
 pass-labels Awaiting b h = refl
 pass-labels Under b h = rw (h refl)
+pass-labels (Other n) b h = refl
 
 pub may-facts : (f : Feed) → feed_may f ≡ true → May f
 unfolding feed_may lines_may
@@ -117,7 +119,7 @@ may-facts f h =
     let s = f.lines in
     let a = and-pass (ltb f.sender 256 && ltb f.form 4294967296 && leb f.at 65537 && leb f.fault f.at && leb f.size f.at && ltb f.long s.line && leb f.staged s.rows) (lines_may f.at s) h in
     let t = all_pass (ltb f.sender 256) (ltb f.form 4294967296 ∷ leb f.at 65537 ∷ leb f.fault f.at ∷ leb f.size f.at ∷ ltb f.long s.line ∷ leb f.staged s.rows ∷ []) a.0 in
-    let l = all_pass (ltb 0 s.line) (leb s.line (f.at + 1) ∷ ltb s.rows s.line ∷ ltb s.form s.line ∷ ltb s.wrong s.line ∷ ltb s.owner s.line ∷ (not (is_under s.place) || not s.shape.fault) ∷ []) a.1 in
+    let l = all_pass (ltb 0 s.line) (leb s.line (f.at + 1) ∷ ltb s.rows s.line ∷ ltb s.form s.line ∷ ltb s.wrong s.line ∷ ltb s.owner s.line ∷ is_known s.place ∷ (not (is_under s.place) || not s.shape.fault) ∷ []) a.1 in
     record {
       sender = ltb-true _ _ (t 0);
       stated = ltb-true _ _ (t 1);
@@ -132,7 +134,8 @@ may-facts f h =
       form = ltb-true _ _ (l 3);
       wrong = ltb-true _ _ (l 4);
       owner = ltb-true _ _ (l 5);
-      labels = labels-pass s.place s.shape.fault (l 6);
+      known = l 6;
+      labels = labels-pass s.place s.shape.fault (l 7);
     }
 
 pub facts-may : (f : Feed) → May f → feed_may f ≡ true
@@ -153,6 +156,7 @@ facts-may f m =
       lt-ltb _ _ m.form,
       lt-ltb _ _ m.wrong,
       lt-ltb _ _ m.owner,
+      m.known,
       pass-labels s.place s.shape.fault m.labels,
     )
 
@@ -257,16 +261,35 @@ pub fitting-none : (k : List ℕ) → feed_read k ≡ None → None ≡ read_fit
 unfolding read_fitting
 fitting-none k e = rw (feed-not k e)
 
+-- a place that is one of the three has one of their numbers
+known-few : (n : ℕ) → is_known (place_at n) ≡ leb n 2
+known-few n = go (eqb n 0) refl (eqb n 1) refl (eqb n 2) refl
+  where
+    go : (a : Bool) → eqb n 0 ≡ a → (b : Bool) → eqb n 1 ≡ b → (c : Bool) → eqb n 2 ≡ c → is_known (on a Outside (on b Awaiting (on c Under (Other n)))) ≡ leb n 2
+    go true p b q c r = let e = eqb-true n 0 p in sym (le-leb n 2 (omega arith))
+    go false p true q c r = let e = eqb-true n 1 q in sym (le-leb n 2 (omega arith))
+    go false p false q true r = let e = eqb-true n 2 r in sym (le-leb n 2 (omega arith))
+    go false p false q false r = let x = eqb-false n 0 p in let y = eqb-false n 1 q in let z = eqb-false n 2 r in sym (lt-leb n 2 (omega arith))
+
+placed-may : (k : List ℕ) → (leb (get_or k 9 0) 2 && feed_may (feed_of k)) ≡ feed_may (feed_of k)
+unfolding feed_of lines_of
+placed-may k = go (leb (get_or k 9 0) 2) (feed_may (feed_of k)) (λ h. sym (known-few (get_or k 9 0)) ∙ (may-facts (feed_of k) h).known)
+  where
+    go : (a b : Bool) → (b ≡ true → a ≡ true) → (a && b) ≡ b
+    go true b h = refl
+    go false true h = h refl
+    go false false h = refl
+
 pub read-numbers : (k : List ℕ) → numbers_may k ≡ true → read_fitting k ≡ read_of k
 unfolding read_fitting read_of is_begun
-read-numbers k h = let t = known k h in rw (t.0, t.1, t.2, and-true (leb (get_or k 9 0) 2))
+read-numbers k h = let t = known k h in rw (t.0, t.1, t.2, placed-may k)
 
 begun-numbers : (k : List ℕ) → is_begun k ≡ true → numbers_may k ≡ true
 unfolding is_begun feed_of lines_of numbers_may
 begun-numbers k h =
-    let t = all_pass (eqb (get_or k 0 0) 1) (ltb (get_or k 4 0) 32 ∷ leb (get_or k 9 0) 2 ∷ zeros (drop 38 k) ∷ feed_may (feed_of k) ∷ []) h in
-    let m = may-facts (feed_of k) (t 4) in
-    rw (t 0, lt-ltb (get_or k 2 0) 4294967296 m.stated, t 1, lt-ltb (get_or k 1 0) 256 m.sender, t 3)
+    let t = all_pass (eqb (get_or k 0 0) 1) (ltb (get_or k 4 0) 32 ∷ zeros (drop 38 k) ∷ feed_may (feed_of k) ∷ []) h in
+    let m = may-facts (feed_of k) (t 3) in
+    rw (t 0, lt-ltb (get_or k 2 0) 4294967296 m.stated, t 1, lt-ltb (get_or k 1 0) 256 m.sender, t 2)
 
 pub read_none : (k : List ℕ) → numbers_may k ≡ false → None ≡ read_of k
 unfolding read_of

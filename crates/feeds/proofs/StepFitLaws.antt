@@ -25,7 +25,7 @@ use Rattle.rows.proofs.RestoredLaws.{restored-shape}
 use Rattle.reader_step.specs.declared.Place.{Place}
 use Rattle.reader_step.specs.declared.Place.TheVariants.{Outside, Awaiting, Under}
 use Rattle.reader_step.specs.declared.State.{State}
-use Rattle.reader_step.specs.Place.{is_awaiting, is_under, place_number}
+use Rattle.reader_step.specs.Place.{is_awaiting, is_under, is_known, place_number}
 use Rattle.reader_step.specs.Step.{moved, misformed, labelled, mistyped, disowned, one_row_more, row_step, data_step, label_step, place_named, step_at, step_by, line_step}
 use Rattle.reader_step.specs.Step.{staged, row_staged, data_staged, staged_at, stage_by, line_staged}
 use Rattle.feeds.specs.Claims.{IsKept}
@@ -37,6 +37,7 @@ pub record Lined (t : Table) (s : State) : Type 0 where
   pub form : s.form < s.line
   pub wrong : s.wrong < s.line
   pub owner : s.owner < s.line
+  pub known : is_known s.place ≡ true
   pub labels : s.place ≡ Under → s.shape.fault ≡ false
   pub shape : IsKept t s.shape
 
@@ -55,6 +56,10 @@ named-few : (b : Bool) → place_number (on b Awaiting Outside) < 2
 named-few true = omega arith
 named-few false = omega arith
 
+named-known : (b : Bool) → is_known (on b Awaiting Outside) ≡ true
+named-known true = refl
+named-known false = refl
+
 label-faulty : (s : State) (h : Shape) → h.fault ≡ true → label_step s h ≡ misformed s
 unfolding label_step
 label-faulty s h e = rw e
@@ -68,23 +73,23 @@ unfolding shape_of
 shape-none t labels e = rw e
 
 module _ (t : Table) (s : State) (now : Lined t s) where
-  pub moved-steps : (p : Place) → (p ≡ Under → s.shape.fault ≡ false) → Steps t s (moved s p)
-  moved-steps p k =
+  pub moved-steps : (p : Place) → is_known p ≡ true → (p ≡ Under → s.shape.fault ≡ false) → Steps t s (moved s p)
+  moved-steps p q k =
       let r = now.rows in
       let f = now.form in
       let w = now.wrong in
       let o = now.owner in
       record {
-        lined = record { first = omega arith; rows = omega arith; form = omega arith; wrong = omega arith; owner = omega arith; labels = k; shape = now.shape };
+        lined = record { first = omega arith; rows = omega arith; form = omega arith; wrong = omega arith; owner = omega arith; known = q; labels = k; shape = now.shape };
         line = refl;
         rows = omega arith;
       }
 
   pub stays-steps : Steps t s (moved s s.place)
-  stays-steps = moved-steps s.place now.labels
+  stays-steps = moved-steps s.place now.known now.labels
 
-  outside-steps : (p : Place) → place_number p < 2 → Steps t s (moved s p)
-  outside-steps p h = moved-steps p (λ e. absurd (let n = ap place_number e in omega arith))
+  outside-steps : (p : Place) → is_known p ≡ true → place_number p < 2 → Steps t s (moved s p)
+  outside-steps p q h = moved-steps p q (λ e. absurd (let n = ap place_number e in omega arith))
 
   misformed-steps : Steps t s (misformed s)
   misformed-steps =
@@ -92,7 +97,7 @@ module _ (t : Table) (s : State) (now : Lined t s) where
       let w = now.wrong in
       let o = now.owner in
       record {
-        lined = record { first = omega arith; rows = omega arith; form = omega arith; wrong = omega arith; owner = omega arith; labels = now.labels; shape = now.shape };
+        lined = record { first = omega arith; rows = omega arith; form = omega arith; wrong = omega arith; owner = omega arith; known = now.known; labels = now.labels; shape = now.shape };
         line = refl;
         rows = omega arith;
       }
@@ -103,7 +108,7 @@ module _ (t : Table) (s : State) (now : Lined t s) where
       let f = now.form in
       let o = now.owner in
       record {
-        lined = record { first = omega arith; rows = omega arith; form = omega arith; wrong = omega arith; owner = omega arith; labels = now.labels; shape = now.shape };
+        lined = record { first = omega arith; rows = omega arith; form = omega arith; wrong = omega arith; owner = omega arith; known = now.known; labels = now.labels; shape = now.shape };
         line = refl;
         rows = omega arith;
       }
@@ -114,7 +119,7 @@ module _ (t : Table) (s : State) (now : Lined t s) where
       let f = now.form in
       let w = now.wrong in
       record {
-        lined = record { first = omega arith; rows = omega arith; form = omega arith; wrong = omega arith; owner = omega arith; labels = now.labels; shape = now.shape };
+        lined = record { first = omega arith; rows = omega arith; form = omega arith; wrong = omega arith; owner = omega arith; known = now.known; labels = now.labels; shape = now.shape };
         line = refl;
         rows = omega arith;
       }
@@ -126,7 +131,7 @@ module _ (t : Table) (s : State) (now : Lined t s) where
       let w = now.wrong in
       let o = now.owner in
       record {
-        lined = record { first = omega arith; rows = omega arith; form = omega arith; wrong = omega arith; owner = omega arith; labels = now.labels; shape = now.shape };
+        lined = record { first = omega arith; rows = omega arith; form = omega arith; wrong = omega arith; owner = omega arith; known = now.known; labels = now.labels; shape = now.shape };
         line = refl;
         rows = omega arith;
       }
@@ -138,7 +143,7 @@ module _ (t : Table) (s : State) (now : Lined t s) where
       let w = now.wrong in
       let o = now.owner in
       record {
-        lined = record { first = omega arith; rows = omega arith; form = omega arith; wrong = omega arith; owner = omega arith; labels = λ _. e; shape = k };
+        lined = record { first = omega arith; rows = omega arith; form = omega arith; wrong = omega arith; owner = omega arith; known = refl; labels = λ _. e; shape = k };
         line = refl;
         rows = omega arith;
       }
@@ -174,9 +179,9 @@ module _ (t : Table) (s : State) (now : Lined t s) where
           (let g = right-sound t labels e in (g.room, sym (restored-shape t (right_shape t labels) g refl))))
 
   mark-steps : (register : List ℕ) (sender : ℕ) (l : List ℕ) (m : Mark) → Steps t s (step_at t register sender s l m)
-  mark-steps register sender l Marks.Group = outside-steps Outside (omega arith)
-  mark-steps register sender l Marks.Table = outside-steps (place_named t (until 124 (after_mark l))) (named-few (same (until 124 (after_mark l)) (table_name t)))
-  mark-steps register sender l Marks.Labels = on-steps t (is_awaiting s.place) s _ _ (label-steps (fields (after_mark l))) (outside-steps Outside (omega arith))
+  mark-steps register sender l Marks.Group = outside-steps Outside refl (omega arith)
+  mark-steps register sender l Marks.Table = outside-steps (place_named t (until 124 (after_mark l))) (named-known (same (until 124 (after_mark l)) (table_name t))) (named-few (same (until 124 (after_mark l)) (table_name t)))
+  mark-steps register sender l Marks.Labels = on-steps t (is_awaiting s.place) s _ _ (label-steps (fields (after_mark l))) (outside-steps Outside refl (omega arith))
   mark-steps register sender l Marks.Data = on-steps t (is_under s.place) s _ _ (data-steps register sender l) stays-steps
 
   by-steps : (register : List ℕ) (sender : ℕ) (l : List ℕ) → Steps t s (step_by t register sender s l)

@@ -12,7 +12,7 @@ use Rattle.turbo_labels.specs.Columns.{most}
 use Rattle.rows.specs.Shape.{no_shape, shape_at}
 use Rattle.reader_step.specs.declared.State as Lines
 use Rattle.reader_step.specs.declared.Place.TheVariants.{Outside}
-use Rattle.reader_step.specs.Place.{is_under, place_number, place_at}
+use Rattle.reader_step.specs.Place.{is_under, is_known, place_number, place_at}
 use Rattle.reader.specs.Rules.{largest}
 use Rattle.feeds.specs.declared.Feed.{Feed}
 
@@ -92,7 +92,7 @@ unfoldable pub lines_may : ℕ → Lines.State → Bool
 lines_may at s =
     ltb 0 s.line && leb s.line (at + 1) && ltb s.rows s.line
     && ltb s.form s.line && ltb s.wrong s.line && ltb s.owner s.line
-    && (not (is_under s.place) || not s.shape.fault)
+    && is_known s.place && (not (is_under s.place) || not s.shape.fault)
 
 unfoldable pub feed_may : Feed → Bool
 feed_may f =
@@ -105,7 +105,7 @@ zeros [] = true
 zeros (n ∷ ns) = eqb n 0 && zeros ns
 
 unfoldable pub is_begun : List ℕ → Bool
-is_begun k = eqb (get_or k 0 0) 1 && ltb (get_or k 4 0) 32 && leb (get_or k 9 0) 2 && zeros (drop 38 k) && feed_may (feed_of k)
+is_begun k = eqb (get_or k 0 0) 1 && ltb (get_or k 4 0) 32 && zeros (drop 38 k) && feed_may (feed_of k)
 
 -- ---- the beginning
 

@@ -5,7 +5,7 @@ ghost use Rattle.std.specs.Prelude.{◌≡◌, true, ◌<◌, ◌≤◌, length,
 ghost use Rattle.lists.specs.Part.{part, over};
 ghost use Rattle.columns.specs.declared.Table.TheVariants.{Message};
 ghost use Rattle.columns.specs.Tables.{form_of};
-ghost use Rattle.reader_step.specs.Place.{is_under};
+ghost use Rattle.reader_step.specs.Place.{is_known, is_under};
 ghost use Rattle.feeds.specs.Kept.{kind_number, machine_number, kind_at, state_at, machine_at, kept_of, lines_of, feed_of, lines_may, feed_may, zeros, new_feed, begun_by, read_of};
 ghost use Rattle.feeds.specs.inner.Numbers.{numbers_may, lines_read, feed_read, read_fitting};
 
@@ -265,6 +265,12 @@ fn numbers_may(kept: [u64; 48]) -> bool
     known & (kept[1] < 256) & clear_behind(kept)
 }
 
+fn is_known(place: Place) -> bool
+    ensures { result ≡ is_known place }
+{
+    !matches!(place, Place::Other(_))
+}
+
 fn is_under(place: Place) -> bool
     ensures { result ≡ is_under place }
 {
@@ -283,6 +289,7 @@ fn lines_may(at: usize, lines: reader_step::State) -> bool
         & (lines.form < next)
         & (lines.wrong < next)
         & (lines.owner < next)
+        & is_known(lines.place)
         & (!is_under(lines.place) | !shape.fault)
 }
 

@@ -214,7 +214,7 @@ kept-left a kept e = rw e
 begun-staged : (kept : List ℕ) → is_begun kept ≡ true → (feed_of kept).staged ≤ (feed_of kept).lines.rows
 unfolding is_begun
 begun-staged kept e =
-    let first = eqb (get_or kept 0 0) 1 && ltb (get_or kept 4 0) 32 && leb (get_or kept 9 0) 2 && zeros (drop 38 kept) in
+    let first = eqb (get_or kept 0 0) 1 && ltb (get_or kept 4 0) 32 && zeros (drop 38 kept) in
     (may-facts (feed_of kept) (and-pass first (feed_may (feed_of kept)) e).1).staged
 
 -- a begun feed has no more rows staged than read

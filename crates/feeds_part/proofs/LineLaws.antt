@@ -71,7 +71,7 @@ fits-line-as f fits t is = let l = fits_line f fits in (l.0, l.1, λ e. subst (�
 lined : (f : Feed) → FeedFits f → Lined (message_of f) f.lines
 lined f fits =
     let m = may-facts f fits.may in
-    record { first = m.first; rows = m.rows; form = m.form; wrong = m.wrong; owner = m.owner; labels = m.labels; shape = fits.shape }
+    record { first = m.first; rows = m.rows; form = m.form; wrong = m.wrong; owner = m.owner; known = m.known; labels = m.labels; shape = fits.shape }
 
 pub after-rows : (register l : List ℕ) (f : Feed) (n : Lines.State) → FeedFits f → n ≡ line_step (message_of f) register f.sender f.lines l → (n.rows < 4294967296) × (f.staged < 4294967296)
 after-rows register l f n fits e =

@@ -1,8 +1,8 @@
 use Prim.Native.Nat.{ℕ}
 use mathlib.Core.Path.{◌≡◌, refl, ap, ◌∙◌}
-use mathlib.Core.Bool.{false}
+use native.Mathlib.Omega.{arith}
+use mathlib.Core.Bool.{true, false}
 use mathlib.Core.List.{List}
-use mathlib.Core.Logic.{◌⊎◌, ⊎_elim}
 use borrow.Author.Tests.{eq-eqb, ne_eqb}
 use lib.ListN.{length}
 use Rattle.turbo_lines.specs.declared.Mark.TheVariants.{Group, Table, Labels, Data}
@@ -13,18 +13,18 @@ use Rattle.rows.specs.declared.Shape.{Shape}
 use Rattle.rows.specs.Shape.{no_shape, shape_of}
 use Rattle.rows.specs.Reading.{read_by}
 use Rattle.reader_step.specs.declared.Place.{Place}
-use Rattle.reader_step.specs.declared.Place.TheVariants.{Outside, Awaiting, Under}
+use Rattle.reader_step.specs.declared.Place.TheVariants.{Outside, Awaiting, Under, Other}
 use Rattle.reader_step.specs.declared.State.{State}
 use Rattle.reader_step.specs.Place.{is_awaiting, is_under}
 use Rattle.reader_step.specs.Step.{moved, misformed, row_step, data_step, label_step, place_named, step_by, line_step, row_staged, data_staged, stage_by, line_staged, Fresh}
 
 -- Which case of a line's step holds. Assumes nothing.
 
-pub not-awaiting : (p : Place) → (p ≡ Outside) ⊎ (p ≡ Under) → is_awaiting p ≡ false
-not-awaiting p h = ⊎_elim (λ e. ap is_awaiting e) (λ e. ap is_awaiting e) h
-
-pub not-under : (p : Place) → (p ≡ Outside) ⊎ (p ≡ Awaiting) → is_under p ≡ false
-not-under p h = ⊎_elim (λ e. ap is_under e) (λ e. ap is_under e) h
+pub under-is : (p : Place) → is_under p ≡ true → p ≡ Under
+under-is Outside h = absurd (let z : ◌≡◌ {A = ℕ} 0 1 = cc in omega arith)
+under-is Awaiting h = absurd (let z : ◌≡◌ {A = ℕ} 0 1 = cc in omega arith)
+under-is Under h = refl
+under-is (Other byte) h = absurd (let z : ◌≡◌ {A = ℕ} 0 1 = cc in omega arith)
 
 module _ (t : Tables.Table) (register : List ℕ) (sender : ℕ) (s : State) (l st : List ℕ) where
   -- ---- a data line
@@ -50,17 +50,17 @@ module _ (t : Tables.Table) (register : List ℕ) (sender : ℕ) (s : State) (l 
   unfolding step_by stage_by
   line-table m = rw m (refl, refl)
 
-  pub line-labels : mark_of l ≡ Labels → s.place ≡ Awaiting → (label_step s (shape_of t (fields (after_mark l))) ≡ step_by t register sender s l) × (st ≡ stage_by t register sender s l st)
+  pub line-labels : mark_of l ≡ Labels → is_awaiting s.place ≡ true → (label_step s (shape_of t (fields (after_mark l))) ≡ step_by t register sender s l) × (st ≡ stage_by t register sender s l st)
   unfolding step_by stage_by
-  line-labels m h = rw (m, ap is_awaiting h) (refl, refl)
+  line-labels m h = rw (m, h) (refl, refl)
 
   pub line-labels-skipped : mark_of l ≡ Labels → is_awaiting s.place ≡ false → (moved s Outside ≡ step_by t register sender s l) × (st ≡ stage_by t register sender s l st)
   unfolding step_by stage_by
   line-labels-skipped m h = rw (m, h) (refl, refl)
 
-  pub line-data : mark_of l ≡ Data → s.place ≡ Under → (data_step t register sender s l ≡ step_by t register sender s l) × (data_staged t register sender s l st ≡ stage_by t register sender s l st)
+  pub line-data : mark_of l ≡ Data → is_under s.place ≡ true → (data_step t register sender s l ≡ step_by t register sender s l) × (data_staged t register sender s l st ≡ stage_by t register sender s l st)
   unfolding step_by stage_by
-  line-data m h = rw (m, ap is_under h) (refl, refl)
+  line-data m h = rw (m, h) (refl, refl)
 
   pub line-data-skipped : mark_of l ≡ Data → is_under s.place ≡ false → (moved s s.place ≡ step_by t register sender s l) × (st ≡ stage_by t register sender s l st)
   unfolding step_by stage_by

