@@ -54,7 +54,8 @@ pub fn quiet_end(dossier: &[u8], i: usize) -> usize
     requires { i ≤ length dossier.now }
     ensures { result ≡ i + quiet_for (drop i dossier.now) }
 {
-    i + lists::scan::find_far(&dossier[i..], is_loud)
+    let quiet = lists::scan::find_far(&dossier[i..], is_loud);
+    i + quiet
 }
 
 // Whether a field begins at j, where the bytes from i to j are quiet.

@@ -36,7 +36,8 @@ pub fn find_far(bytes: &[u8], byte: u8) -> usize
     ensures is { result ≡ length (until byte bytes.now) }
     ensures within { result ≤ length bytes.now }
 {
-    lists::scan::find_far(bytes, move |b| b == byte)
+    let hit = lists::scan::find_far(bytes, move |b| b == byte);
+    hit
 }
 
 // ---- parts
