@@ -1,8 +1,9 @@
 -- What is certain of the walk over a dossier. `proofs/Claims.antt` proves it. Assumes nothing.
 use Rattle.std.specs.Prelude.{ℕ, ◌+◌, ◌≤◌, ◌<◌, ◌≡◌, List, [], ◌∷◌, ◌++◌, map, ◌↔◌, length}
+use Rattle.std.specs.Option.{unwrap_or}
 use Rattle.lists.specs.Each.{Each}
 use Rattle.grammar.specs.Grammar.{WellFormed}
-use Rattle.turbo_lines.specs.Lines.{lines, first_long, short_front, mark_of, after_mark}
+use Rattle.turbo_lines.specs.Lines.{lines, long_line, first_long, short_front, mark_of, after_mark}
 use Rattle.turbo_lines.specs.Told.{MarkedLine, dossier_in}
 use Rattle.turbo_lines.specs.Ended.{ended_lines, held_bytes}
 
@@ -38,6 +39,10 @@ LongFound = (ls : List (List ℕ)) (n : ℕ) → 1 ≤ n → (first_long 1 ls �
 abbrev pub NoneLong : Type 0
 NoneLong = (ls : List (List ℕ)) → (first_long 1 ls ≡ 0) ↔ Each Short ls
 
+-- what the search gives, `long_line`, is this number, with none for 0: so the two claims above are claims of the search
+abbrev pub LongIsNumbered : Type 0
+LongIsNumbered = (n : ℕ) (ls : List (List ℕ)) → first_long n ls ≡ unwrap_or (long_line n ls) 0
+
 -- the front of short lines is what stands before that line, and where there is none it is all lines
 abbrev pub FrontIsBefore : Type 0
 FrontIsBefore = (ls : List (List ℕ)) → ((n : ℕ) (x : LongAt ls n) → short_front ls ≡ x.before) × (Each Short ls → short_front ls ≡ ls)
@@ -55,4 +60,4 @@ EndedAreTheLines = (d : List ℕ) → WellFormed d → (ended_lines [] d ≡ lin
 
 -- all of these
 abbrev pub All : Type 0
-All = LinesAreTheGrammars × LongFound × NoneLong × FrontIsBefore × LinesPartByPart × EndedAreTheLines
+All = LinesAreTheGrammars × LongFound × NoneLong × LongIsNumbered × FrontIsBefore × LinesPartByPart × EndedAreTheLines
