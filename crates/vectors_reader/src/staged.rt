@@ -1,5 +1,5 @@
 // How much of the staging area is written, and the staged rows.
-ghost use Rattle.std.specs.Prelude.{◌<◌};
+ghost use Rattle.std.specs.Prelude.{◌≤◌, ◌<◌, length};
 
 use std::io::{Print, Stdout};
 
@@ -40,7 +40,9 @@ fn row(out: Stdout, letter: u8, bytes: &[u8]) {
 }
 
 // How many bytes there are up to the last that is not 238.
-fn written(area: &[u8]) -> usize {
+fn written(area: &[u8]) -> usize
+    ensures { result ≤ length area.now }
+{
     area.iter()
         .rposition(|byte| *byte != 238)
         .map_or(0, |last| last + 1)
