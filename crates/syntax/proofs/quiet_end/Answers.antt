@@ -1,8 +1,7 @@
-use Prim.Native.Nat.{◌+◌}
-use mathlib.Core.Path.{ap, sym}
+use native.Mathlib.Omega.{arith}
 use borrow.Author.Rules.{rules}
 use Rattle.syntax.proofs.QuietLaws.{first-quiet}
 use Rattle.syntax.proofs.quiet_end.Goals as goal
 
 pub returns : goal.returns
-returns c = ap (λ n. c.args.i + n) (first-quiet c.args.dossier.now c.args.i c.find_far-quiet.ensures (λ b p. search rules) (λ b p. search rules))
+returns c = omega (arith, first-quiet c.args.dossier.now c.args.i c.find_far-quiet.ensures (λ b p. search rules) (λ b p. search rules))
