@@ -66,7 +66,7 @@ fn read_lines(
         if 4094 < line.len() {
             return Err(Fault::Long(state.line));
         }
-        state = reader_step::line_step(table, state, line, register, sender, staging);
+        reader_step::advance(table, &mut state, line, register, sender, staging);
         if state.form != 0 {
             return form_unless_long(state.form, next, state.line);
         }

@@ -1,7 +1,7 @@
 use Prim.Native.Nat.{ℕ}
 use mathlib.Core.Path.{◌≡◌, refl, ap, ◌∙◌}
-use native.Mathlib.Omega.{arith}
 use mathlib.Core.Bool.{true, false}
+use mathlib.Core.Logic.{◌⊎◌, ⊎_elim}
 use mathlib.Core.List.{List}
 use borrow.Author.Tests.{eq-eqb, ne_eqb}
 use lib.ListN.{length}
@@ -20,11 +20,14 @@ use Rattle.reader_step.specs.Step.{moved, misformed, row_step, data_step, label_
 
 -- Which case of a line's step holds. Assumes nothing.
 
-pub under-is : (p : Place) → is_under p ≡ true → p ≡ Under
-under-is Outside h = absurd (let z : ◌≡◌ {A = ℕ} 0 1 = cc in omega arith)
-under-is Awaiting h = absurd (let z : ◌≡◌ {A = ℕ} 0 1 = cc in omega arith)
-under-is Under h = refl
-under-is (Other byte) h = absurd (let z : ◌≡◌ {A = ℕ} 0 1 = cc in omega arith)
+pub not-awaiting : (p : Place) → (p ≡ Outside) ⊎ ((p ≡ Under) ⊎ ((byte : ℕ) × (p ≡ Other byte))) → is_awaiting p ≡ false
+not-awaiting p h = ⊎_elim (λ e. ap is_awaiting e) (⊎_elim (λ e. ap is_awaiting e) (λ e. ap is_awaiting e.1)) h
+
+pub not-under : (p : Place) → (p ≡ Under → ⊥) → is_under p ≡ false
+not-under Outside h = refl
+not-under Awaiting h = refl
+not-under Under h = absurd (h refl)
+not-under (Other byte) h = refl
 
 module _ (t : Tables.Table) (register : List ℕ) (sender : ℕ) (s : State) (l st : List ℕ) where
   -- ---- a data line

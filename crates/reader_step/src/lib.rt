@@ -68,18 +68,6 @@ impl TryFrom<u64> for Place {
     }
 }
 
-fn is_awaiting(place: Place) -> bool
-    ensures { result ≡ is_awaiting place }
-{
-    matches!(place, Place::Awaiting)
-}
-
-fn is_under(place: Place) -> bool
-    ensures { result ≡ is_under place }
-{
-    matches!(place, Place::Under)
-}
-
 // What is kept of the lines so far: the place behind them, and the shape of the last labels.
 // `line` is the number of the line to come; `form`, `wrong` with `column`, and `owner` are the first lines at fault, 0 for none.
 // kept: the C interface: these are the numbers that are lent between two parts, 0 for none, where a column may stand without a wrong line and is given back (`kept_of`, `feed_of`).
@@ -97,76 +85,79 @@ pub struct State {
 }
 
 // A line that changes only the place.
-// kept: (b) this and the five below were struct updates, which clear and fill a state more: an unwanted line took up to 1.85 times as long.
-fn moved_to(mut state: State, place: Place) -> State
-    requires { state.line < 4294967296 }
-    ensures { result ≡ moved state place }
+// It and the steps below change the state where it lies: that is some 400 bytes, and by value they were copied several times a line.
+fn moved_to(state: &mut State, place: Place)
+    requires { state.old.line < 4294967296 }
+    ensures { state.new ≡ moved state.old place }
 {
     state.place = place;
     state.line += 1;
-    state
+}
+
+// A line that is only counted.
+fn count_line(state: &mut State)
+    requires { state.old.line < 4294967296 }
+    ensures { state.new ≡ moved state.old state.old.place }
+{
+    state.line += 1;
 }
 
 // A fault of form in this line.
-fn form_fault(mut state: State) -> State
-    requires { state.line < 4294967296 }
-    ensures { result ≡ misformed state }
+fn form_fault(state: &mut State)
+    requires { state.old.line < 4294967296 }
+    ensures { state.new ≡ misformed state.old }
 {
     state.form = state.line;
     state.line += 1;
-    state
 }
 
 // Under new labels.
-fn under_labels(mut state: State, shape: Shape) -> State
-    requires { state.line < 4294967296 }
-    ensures { result ≡ labelled state shape }
+fn under_labels(state: &mut State, shape: Shape)
+    requires { state.old.line < 4294967296 }
+    ensures { state.new ≡ labelled state.old shape }
 {
     state.place = Place::Under;
     state.line += 1;
     state.shape = shape;
-    state
 }
 
 // A field outside its type, in a column of this line.
-fn wrong_field(mut state: State, column: usize) -> State
-    requires { state.line < 4294967296 }
-    ensures { result ≡ mistyped state column }
+fn wrong_field(state: &mut State, column: usize)
+    requires { state.old.line < 4294967296 }
+    ensures { state.new ≡ mistyped state.old column }
 {
     state.wrong = state.line;
     state.column = column;
     state.line += 1;
-    state
 }
 
 // An owner for which the sender is not registered.
-fn wrong_owner(mut state: State) -> State
-    requires { state.line < 4294967296 }
-    ensures { result ≡ disowned state }
+fn wrong_owner(state: &mut State)
+    requires { state.old.line < 4294967296 }
+    ensures { state.new ≡ disowned state.old }
 {
     state.owner = state.line;
     state.line += 1;
-    state
 }
 
 // One row more.
-fn one_more(mut state: State) -> State
-    requires { (state.line < 4294967296) × (state.rows < 4294967296) }
-    ensures { result ≡ one_row_more state }
+fn one_more(state: &mut State)
+    requires { (state.old.line < 4294967296) × (state.old.rows < 4294967296) }
+    ensures { state.new ≡ one_row_more state.old }
 {
     state.rows += 1;
     state.line += 1;
-    state
 }
 
-fn label_step(state: State, shape: Shape) -> State
-    requires { state.line < 4294967296 }
-    ensures { result ≡ label_step state shape }
+fn label_step(state: &mut State, shape: Shape)
+    requires { state.old.line < 4294967296 }
+    ensures { state.new ≡ label_step state.old shape }
 {
     if shape.fault {
-        return form_fault(state);
+        form_fault(state);
+        return;
     }
-    under_labels(state, shape)
+    under_labels(state, shape);
 }
 
 // The row goes behind the n rows so far, if it fits.
@@ -184,27 +175,29 @@ fn stage(table: Table, n: usize, row: &[u8], staging: &mut [u8])
 // A row that was read: its fault, its owner, its place in the staging area.
 fn row_step(
     table: Table,
-    state: State,
+    state: &mut State,
     read: Result<[u8; 80], usize>,
     register: &[u8],
     sender: u8,
     staging: &mut [u8],
-) -> State
-    requires { (state.line < 4294967296) × (state.rows < 4294967296) }
-    ensures state { result ≡ row_step table register.now sender state read }
-    ensures area { staging.new ≡ row_staged table register.now sender state read staging.old }
+)
+    requires { (state.old.line < 4294967296) × (state.old.rows < 4294967296) }
+    ensures state { state.new ≡ row_step table register.now sender state.old read }
+    ensures area { staging.new ≡ row_staged table register.now sender state.old read staging.old }
 {
     match read {
         Err(column) => wrong_field(state, column),
         Ok(row) => {
             if state.owner != 0 {
-                return moved_to(state, state.place);
+                count_line(state);
+                return;
             }
             if register::may_send(table, register, sender, &row) {
                 stage(table, state.rows, &row, staging);
-                return one_more(state);
+                one_more(state);
+                return;
             }
-            wrong_owner(state)
+            wrong_owner(state);
         }
     }
 }
@@ -212,25 +205,26 @@ fn row_step(
 // A data line: its count of fields first, and no more once a field was wrong.
 fn data_step(
     table: Table,
-    state: State,
+    state: &mut State,
     line: &[u8],
     register: &[u8],
     sender: u8,
     staging: &mut [u8],
-) -> State
-    requires { (state.line < 4294967296) × (state.rows < 4294967296) × IsShape table state.shape }
-    ensures state { result ≡ data_step table register.now sender state line.now }
-    ensures area { staging.new ≡ data_staged table register.now sender state line.now staging.old }
+)
+    requires { (state.old.line < 4294967296) × (state.old.rows < 4294967296) × IsShape table state.old.shape }
+    ensures state { state.new ≡ data_step table register.now sender state.old line.now }
+    ensures area { staging.new ≡ data_staged table register.now sender state.old line.now staging.old }
 {
-    let shape = state.shape;
-    if turbo::count_fields(line) != shape.count {
-        return form_fault(state);
+    if turbo::count_fields(line) != state.shape.count {
+        form_fault(state);
+        return;
     }
     if state.wrong != 0 {
-        return moved_to(state, state.place);
+        count_line(state);
+        return;
     }
-    let read = rows::read_row(table, shape, line);
-    row_step(table, state, read, register, sender, staging)
+    let read = rows::read_row(table, state.shape, line);
+    row_step(table, state, read, register, sender, staging);
 }
 
 // The place after a `\T` line: whether its name is the table's.
@@ -256,44 +250,61 @@ fn is_named(table: Table, name: &[u8]) -> bool
 // A line by its mark, where no line before it was at fault in its form.
 fn line_by_mark(
     table: Table,
-    state: State,
+    state: &mut State,
     line: &[u8],
     register: &[u8],
     sender: u8,
     staging: &mut [u8],
-) -> State
-    requires { (state.line < 4294967296) × (state.rows < 4294967296) × (state.place ≡ Under → IsShape table state.shape) }
-    ensures state { result ≡ step_by table register.now sender state line.now }
-    ensures area { staging.new ≡ stage_by table register.now sender state line.now staging.old }
+)
+    requires { (state.old.line < 4294967296) × (state.old.rows < 4294967296) × (state.old.place ≡ Under → IsShape table state.old.shape) }
+    ensures state { state.new ≡ step_by table register.now sender state.old line.now }
+    ensures area { staging.new ≡ stage_by table register.now sender state.old line.now staging.old }
 {
     match turbo_lines::mark_of(line) {
         Mark::Group => moved_to(state, Place::Outside),
         Mark::Table => {
             let name = turbo::first_field(turbo_lines::after_mark(line));
-            moved_to(state, named_place(table, name))
+            moved_to(state, named_place(table, name));
         }
-        // kept: (b) by a match on the place a state more is copied at each line
-        Mark::Labels => {
-            if is_awaiting(state.place) {
+        Mark::Labels => match state.place {
+            Place::Awaiting => {
                 let shape = rows::read_labels(table, turbo_lines::after_mark(line));
-                return label_step(state, shape);
+                label_step(state, shape);
             }
-            moved_to(state, Place::Outside)
-        }
-        Mark::Data => {
-            if is_under(state.place) {
-                return data_step(table, state, line, register, sender, staging);
-            }
-            moved_to(state, state.place)
-        }
+            Place::Outside | Place::Under | Place::Other(_) => moved_to(state, Place::Outside),
+        },
+        Mark::Data => match state.place {
+            Place::Under => data_step(table, state, line, register, sender, staging),
+            place => moved_to(state, place),
+        },
     }
 }
 
 // One line: what it changes in the state and in the staging area. It needs nothing of the lines before but the state. Behind a fault of form a line is
 // only counted: the first line at fault is kept, and no row is staged behind it.
+pub fn advance(
+    table: Table,
+    state: &mut State,
+    line: &[u8],
+    register: &[u8],
+    sender: u8,
+    staging: &mut [u8],
+)
+    requires { (state.old.line < 4294967296) × (state.old.rows < 4294967296) × (state.old.place ≡ Under → IsShape table state.old.shape) }
+    ensures state { state.new ≡ line_step table register.now sender state.old line.now }
+    ensures area { staging.new ≡ line_staged table register.now sender state.old line.now staging.old }
+{
+    if state.form != 0 {
+        count_line(state);
+        return;
+    }
+    line_by_mark(table, state, line, register, sender, staging);
+}
+
+// One line as `advance` takes it, where the state before it stays as it is.
 pub fn line_step(
     table: Table,
-    state: State,
+    mut state: State,
     line: &[u8],
     register: &[u8],
     sender: u8,
@@ -303,10 +314,8 @@ pub fn line_step(
     ensures state { result ≡ line_step table register.now sender state line.now }
     ensures area { staging.new ≡ line_staged table register.now sender state line.now staging.old }
 {
-    if state.form != 0 {
-        return moved_to(state, state.place);
-    }
-    line_by_mark(table, state, line, register, sender, staging)
+    advance(table, &mut state, line, register, sender, staging);
+    state
 }
 
 // Before any line.

@@ -1,4 +1,3 @@
-use Prim.Native.Nat.{◌-◌}
 use mathlib.Core.Path.{◌∙◌}
 use Rattle.columns.specs.Tables.{table_name}
 use Rattle.reader_step.proofs.is_named.Goals as goal
