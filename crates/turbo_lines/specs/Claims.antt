@@ -1,5 +1,5 @@
 -- What is certain of the walk over a dossier. `proofs/Claims.antt` proves it. Assumes nothing.
-use Rattle.std.specs.Prelude.{ℕ, ◌+◌, ◌≤◌, ◌<◌, ◌≡◌, List, [], ◌∷◌, ◌++◌, map, ◌↔◌, length}
+use Rattle.std.specs.Prelude.{ℕ, ◌+◌, ◌≤◌, ◌<◌, ◌≡◌, List, [], ◌∷◌, ◌++◌, map, ◌↔◌, length, Some}
 use Rattle.std.specs.Option.{unwrap_or}
 use Rattle.lists.specs.Each.{Each}
 use Rattle.grammar.specs.Grammar.{WellFormed}
@@ -39,9 +39,11 @@ LongFound = (ls : List (List ℕ)) (n : ℕ) → 1 ≤ n → (first_long 1 ls �
 abbrev pub NoneLong : Type 0
 NoneLong = (ls : List (List ℕ)) → (first_long 1 ls ≡ 0) ↔ Each Short ls
 
--- what the search gives, `long_line`, is this number, with none for 0: so the two claims above are claims of the search
+-- what the search gives, `long_line`, is this number, with none for 0, and never a number below that of the first line: so the two claims above are claims of the search from 1
 abbrev pub LongIsNumbered : Type 0
-LongIsNumbered = (n : ℕ) (ls : List (List ℕ)) → first_long n ls ≡ unwrap_or (long_line n ls) 0
+LongIsNumbered =
+    (n : ℕ) (ls : List (List ℕ)) →
+    (first_long n ls ≡ unwrap_or (long_line n ls) 0) × ((m : ℕ) → long_line n ls ≡ Some m → n ≤ m)
 
 -- the front of short lines is what stands before that line, and where there is none it is all lines
 abbrev pub FrontIsBefore : Type 0
